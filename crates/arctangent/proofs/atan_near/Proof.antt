@@ -1,0 +1,15 @@
+use borrow.Author.Needs.{needs}
+use borrow.Author.Tests.{lt-ltb, le-ltb, le-leb, lt-leb, eq-eqb, ne-eqb}
+use Rattle.arctangent.specs.Arc.{atanNear}
+use Rattle.arctangent.proofs.atan_near.Statement.{statement}
+use Rattle.arctangent.proofs.atan_near.Tie as tie
+
+atan-tail-requires : tie.Need-atan-tail-requires
+atan-tail-requires c κs = search needs
+
+returns : tie.Need-returns
+unfolding atanNear
+returns c = simp (c .atan-tail .ensures)
+
+pub atan-near-spec : {M : Type 1} → statement M
+atan-near-spec = tie.close (tie.spec atan-tail-requires returns)

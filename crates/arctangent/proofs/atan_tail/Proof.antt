@@ -1,0 +1,13 @@
+use mathlib.Core.Path.{refl}
+use borrow.Author.Needs.{needs}
+use borrow.Author.Tests.{lt-ltb, le-ltb, le-leb, lt-leb, eq-eqb, ne-eqb}
+use Rattle.arctangent.specs.Arc.{atanTail}
+use Rattle.arctangent.proofs.atan_tail.Statement.{statement}
+use Rattle.arctangent.proofs.atan_tail.Tie as tie
+
+returns : tie.Need-returns
+unfolding atanTail
+returns c = refl
+
+pub atan-tail-spec : {M : Type 1} → statement M
+atan-tail-spec = tie.close (tie.spec returns)

@@ -1,0 +1,35 @@
+use Rattle.complex.specs.Angle.{crossAngle, inRange}
+use borrow.Author.Needs.{needs}
+use Rattle.complex.proofs.cross_angle.Statement.{statement}
+use Rattle.complex.proofs.cross_angle.Tie as tie
+use Rattle.complex.proofs.cross_angle.Reads as reads
+use Rattle.complex.proofs.cross_angle.Lts as lts
+use Rattle.complex.proofs.Complex.argument.Reads as argument-reads
+use Rattle.float.proofs.rem_euclid.Reads as rem-euclid-reads
+
+-- src/lib.rt:89:35
+argument-requires : tie.Need-argument-requires
+argument-requires c κs = search needs
+
+-- src/lib.rt:89:9
+rem-euclid-requires : tie.Need-rem-euclid-requires
+rem-euclid-requires c κs = search needs
+
+-- src/lib.rt:92:13
+returns : tie.Need-returns
+unfolding crossAngle inRange
+returns c = simp (← c .before .before .before .argument .ensures, ← c .before .before .rem-euclid .ensures, c .before .if1 .taken, c .if2 .taken)
+
+-- src/lib.rt:94:9
+returns-2 : tie.Need-returns-2
+unfolding crossAngle inRange
+returns-2 c = simp (← c .before .before .before .argument .ensures, ← c .before .before .rem-euclid .ensures, c .before .if1 .taken, c .if2 .left)
+
+-- src/lib.rt:86:1
+returns-3 : tie.Need-returns-3
+unfolding crossAngle inRange
+returns-3 c = simp (← c .before .before .argument .ensures, ← c .before .rem-euclid .ensures, c .if1 .left)
+
+pub cross-angle-spec : {M : Type 1} → statement M
+cross-angle-spec =
+    tie.close (tie.spec argument-requires rem-euclid-requires returns returns-2 returns-3)

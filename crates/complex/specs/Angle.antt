@@ -1,0 +1,21 @@
+-- cross_angle and wrap_to_pi, step by step. Definitions only.
+use mathlib.Core.Bool.{cond, _&&_}
+use lib.Ieee.{Float, neg, lt, le}
+use Rattle.float.specs.Double.{lit, remEuclid, FRAC-PI-2, PI, TAU, _⊕_, _⊖_, _⊘_}
+use Rattle.complex.specs.declared.Complex.{Complex}
+use Rattle.complex.specs.Complex.{argumentOf}
+
+-- an angle that lies in [0, FRAC_PI_2) stays, -0 too, and any other becomes 0
+unfoldable pub inRange : Float → Float
+inRange a = cond (le (lit 0) a && lt a FRAC-PI-2) a (lit 0)
+
+-- a quarter of the argument, moved by whole quarter turns
+unfoldable pub crossAngle : Complex → Float
+crossAngle z = inRange (remEuclid (argumentOf z ⊘ lit 0x4010_0000_0000_0000) FRAC-PI-2)
+
+-- -PI itself, and what rounding leaves below it, go up by a whole turn
+unfoldable pub unwound : Float → Float
+unwound w = cond (le w (neg PI)) (w ⊕ TAU) w
+
+unfoldable pub wrapToPi : Float → Float
+wrapToPi x = unwound (remEuclid (x ⊕ PI) TAU ⊖ PI)

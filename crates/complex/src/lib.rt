@@ -1,0 +1,109 @@
+// Complex numbers by value, as in the Rust, and the two functions that turn them to angles:
+// `cross_angle`, the angle of a cross in [0, FRAC_PI_2), and `wrap_to_pi`, an angle in (-PI, PI].
+ghost use mathlib.Core.Path.{_≡_};
+ghost use Rattle.complex.specs.Complex.{cnew, fromAngle, cadd, csub, cmul, cscale, cconj, argumentOf};
+ghost use Rattle.complex.specs.Angle.{crossAngle, wrapToPi};
+
+pub struct Complex {
+    pub re: f64,
+    pub im: f64,
+}
+
+impl Complex {
+    pub const ZERO: Complex = Complex { re: 0.0, im: 0.0 };
+
+    pub const ONE: Complex = Complex { re: 1.0, im: 0.0 };
+
+    pub fn new(re: f64, im: f64) -> Self
+        ensures { λ r. ⌜ r ≡ cnew re im ⌝ }
+    {
+        Self { re, im }
+    }
+
+    // cos angle + i sin angle.
+    pub fn from_angle(angle: f64) -> Self
+        ensures { λ r. ⌜ r ≡ fromAngle angle ⌝ }
+    {
+        Self {
+            re: sine::cos(angle),
+            im: sine::sin(angle),
+        }
+    }
+
+    pub fn add(self, other: Complex) -> Self
+        ensures { λ r. ⌜ r ≡ cadd self other ⌝ }
+    {
+        Self {
+            re: self.re + other.re,
+            im: self.im + other.im,
+        }
+    }
+
+    pub fn sub(self, other: Complex) -> Self
+        ensures { λ r. ⌜ r ≡ csub self other ⌝ }
+    {
+        Self {
+            re: self.re - other.re,
+            im: self.im - other.im,
+        }
+    }
+
+    pub fn mul(self, other: Complex) -> Self
+        ensures { λ r. ⌜ r ≡ cmul self other ⌝ }
+    {
+        Self {
+            re: self.re * other.re - self.im * other.im,
+            im: self.re * other.im + self.im * other.re,
+        }
+    }
+
+    pub fn scale(self, factor: f64) -> Self
+        ensures { λ r. ⌜ r ≡ cscale self factor ⌝ }
+    {
+        Self {
+            re: self.re * factor,
+            im: self.im * factor,
+        }
+    }
+
+    pub fn conj(self) -> Self
+        ensures { λ r. ⌜ r ≡ cconj self ⌝ }
+    {
+        Self {
+            re: self.re,
+            im: -self.im,
+        }
+    }
+
+    // The angle in [-PI, PI] of the number seen from zero.
+    pub fn argument(self) -> f64
+        ensures { λ r. ⌜ r ≡ argumentOf self ⌝ }
+    {
+        arctangent::atan2(self.im, self.re)
+    }
+}
+
+// The cross angle in [0, FRAC_PI_2) of a fourth power.
+pub fn cross_angle(value: Complex) -> f64
+    ensures { λ r. ⌜ r ≡ crossAngle value ⌝ }
+{
+    let angle = float::rem_euclid(value.argument() / 4.0, float::FRAC_PI_2);
+    if 0.0 <= angle {
+        if angle < float::FRAC_PI_2 {
+            return angle;
+        }
+        return 0.0;
+    }
+    0.0
+}
+
+// The angle moved by whole turns into (-PI, PI].
+pub fn wrap_to_pi(angle: f64) -> f64
+    ensures { λ r. ⌜ r ≡ wrapToPi angle ⌝ }
+{
+    let wrapped = float::rem_euclid(angle + float::PI, float::TAU) - float::PI;
+    if wrapped <= -float::PI {
+        return wrapped + float::TAU;
+    }
+    wrapped
+}

@@ -1,0 +1,4 @@
+pub mod Facts
+pub mod Sign
+pub mod Less
+pub mod Rem

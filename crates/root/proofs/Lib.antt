@@ -1,0 +1,4 @@
+pub mod Laws
+mod Vectors
+pub mod Value
+pub mod Small

@@ -1,0 +1,3 @@
+pub mod Consts
+pub mod Kernel
+pub mod Sine
