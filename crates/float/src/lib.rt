@@ -1,6 +1,6 @@
 // Total functions on f64.
 ghost use mathlib.Core.Path.{_≡_};
-ghost use lib.Ieee.{binary64, toBits, ofBits, toUnsigned, nan};
+ghost use lib.Ieee.{binary64, toBits, ofBits, toUnsigned, toSigned, nan};
 ghost use Rattle.float.specs.Double.{isFinite, mag, maxOf, minOf, recipOf, remEuclid, high, field, sign, roundSize, roundAway};
 
 pub const FRAC_PI_4: f64 = 0.7853981633974483;
@@ -143,4 +143,20 @@ pub fn round(x: f64) -> f64
         return r;
     }
     x
+}
+
+// Rust's `x as i64`: cut to the whole part, and at the ends of the range; 0 for a NaN.
+pub fn whole_signed(x: f64) -> i64
+    ensures { λ r. ⌜ r ≡ toSigned 63 x ⌝ }
+{
+    if x >= -9223372036854775808.0 {
+        if x < 9223372036854775808.0 {
+            return std::num::truncating_f64_to_i64(x);
+        }
+        return 0x7fff_ffff_ffff_ffff;
+    }
+    if x != x {
+        return 0;
+    }
+    -0x7fff_ffff_ffff_ffff - 1
 }
