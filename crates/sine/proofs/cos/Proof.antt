@@ -1,6 +1,8 @@
+-- `sine::cos` meets its contract: the arms of `cosOf`, whose switch is sin's one quarter turn on. Assumes nothing.
 use borrow.Author.Tests.{le-leb, lt-leb}
 use Rattle.float.proofs.Facts.{zero-by-zero}
-use Rattle.sine.specs.Sine.{cosOf}
+use Rattle.sine.specs.Sine.{remPio2, cosOf}
+use Rattle.sine.proofs.Quarters.{cos-switch}
 use borrow.Author.Needs.{needs}
 use Rattle.sine.proofs.cos.Statement.{statement}
 use Rattle.sine.proofs.cos.Tie as tie
@@ -18,12 +20,18 @@ returns : tie.Need-returns
 unfolding cosOf
 returns c = simp (← c .before .before .before .before .abs .ensures, c .before .before .before .if1 .taken, ← c .before .before .high-word .ensures, le-leb _ _ (c .before .if2 .taken), c .kernel-cos .ensures)
 
-turn-by-requires : tie.Need-turn-by-requires
-turn-by-requires c κs = search needs
+rem-pio2-requires : tie.Need-rem-pio2-requires
+rem-pio2-requires c κs = search needs
+
+add-sin-switch : tie.Need-add-sin-switch
+add-sin-switch c = search needs
+
+sin-switch-requires : tie.Need-sin-switch-requires
+sin-switch-requires c κs = search needs
 
 returns-2 : tie.Need-returns-2
 unfolding cosOf
-returns-2 c = simp (← c .before .before .before .before .abs .ensures, c .before .before .before .if1 .taken, ← c .before .before .high-word .ensures, lt-leb _ _ (c .before .if2 .left), c .turn-by .ensures)
+returns-2 c = simp (← c .before .before .before .before .before .abs .ensures, c .before .before .before .before .if1 .taken, ← c .before .before .before .high-word .ensures, lt-leb _ _ (c .before .before .if2 .left), c .before .rem-pio2 .ensures, c .sin-switch .ensures, cos-switch (remPio2 (c .before .before .before .before .before .before .args .x)))
 
 returns-3 : tie.Need-returns-3
 unfolding cosOf
@@ -37,6 +45,8 @@ cos-spec =
     high-word-requires
     kernel-cos-requires
     returns
-    turn-by-requires
+    rem-pio2-requires
+    add-sin-switch
+    sin-switch-requires
     returns-2
     returns-3)
