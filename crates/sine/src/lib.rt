@@ -4,7 +4,7 @@ ghost use mathlib.Core.Path.{_≡_};
 ghost use Prim.Native.Nat.{_≤_, _<_};
 ghost use lib.IntN.{pos};
 ghost use lib.Ieee.{binary64, ofInt};
-ghost use Rattle.float.specs.Double.{lit, high};
+ghost use Rattle.float.specs.Double.{lit, mag, high};
 ghost use Rattle.sine.specs.Kernel.{kernelSin, kernelCos, quarter};
 ghost use Rattle.sine.specs.Sine.{isClear, less, plus, remNear, remDeep, remMedium, opposite, remPio2, sinSwitch, sinOf, cosOf};
 ghost use Rattle.sine.specs.Taken.{taken};
@@ -194,16 +194,15 @@ fn rem_medium(t: f64, ix: u64) -> Reduced
     split(n, r, w)
 }
 
-// __ieee754_rem_pio2. -n & 3 is 4 less n & 3, and 0 for 0.
-fn rem_pio2(x: f64) -> Reduced
-    requires { ⌜ 0x3fe9_21fb < high x ⌝ }
+// __ieee754_rem_pio2, where t is |x| and ix the upper word of x. -n & 3 is 4 less n & 3, and 0 for 0.
+fn rem_pio2(x: f64, t: f64, ix: u64) -> Reduced
+    requires { ⌜ (t ≡ mag x) × (ix ≡ high x) ⌝ ∗ ⌜ 0x3fe9_21fb < ix ⌝ }
     ensures { λ p. ⌜ p ≡ taken (remPio2 x) ⌝ }
 {
-    let ix = float::high_word(x);
     if ix < 0x4002_d97c {
         return rem_near(x, ix);
     }
-    let p = rem_medium(float::abs(x), ix);
+    let p = rem_medium(t, ix);
     if float::sign_bit(x) == 0 {
         return p;
     }
@@ -237,11 +236,13 @@ fn sin_switch(q: u64, hi: f64, lo: f64) -> f64
 pub fn sin(x: f64) -> f64
     ensures { λ r. ⌜ r ≡ sinOf x ⌝ }
 {
-    if float::abs(x) <= 524288.0 {
-        if float::high_word(x) <= 0x3fe9_21fb {
+    let t = float::abs(x);
+    if t <= 524288.0 {
+        let ix = float::high_word(x);
+        if ix <= 0x3fe9_21fb {
             return kernel_sin_alone(x);
         }
-        let p = rem_pio2(x);
+        let p = rem_pio2(x, t, ix);
         let n = p.n;
         let hi = p.hi;
         let lo = p.lo;
@@ -254,11 +255,13 @@ pub fn sin(x: f64) -> f64
 pub fn cos(x: f64) -> f64
     ensures { λ r. ⌜ r ≡ cosOf x ⌝ }
 {
-    if float::abs(x) <= 524288.0 {
-        if float::high_word(x) <= 0x3fe9_21fb {
+    let t = float::abs(x);
+    if t <= 524288.0 {
+        let ix = float::high_word(x);
+        if ix <= 0x3fe9_21fb {
             return kernel_cos(x, 0.0);
         }
-        let p = rem_pio2(x);
+        let p = rem_pio2(x, t, ix);
         let n = p.n;
         let hi = p.hi;
         let lo = p.lo;
