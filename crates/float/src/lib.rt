@@ -122,12 +122,12 @@ pub fn whole(x: f64) -> u64
     0
 }
 
-// Rust's `n as f64`. A number below 2^32 is converted by one instruction.
+// Rust's `n as f64`. A number below 2^53 is converted by one instruction, as a signed one.
 pub fn from_whole(n: u64) -> f64
     ensures { λ r. ⌜ r ≡ ofInt binary64 (pos n) ⌝ }
 {
-    if n < 0x1_0000_0000 {
-        return (n as u32) as f64;
+    if n < 0x20_0000_0000_0000 {
+        return (n as i64) as f64;
     }
     std::num::nearest_u64_to_f64(n)
 }

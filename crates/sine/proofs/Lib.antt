@@ -1,1 +1,2 @@
 mod Quarters
+mod Words

@@ -1,12 +1,10 @@
--- Where the code is shorter than fdlibm: n & 3 of -n, the table whose index is n, and cos's switch as sin's one quarter turn on. Assumes nothing.
-use mathlib.Core.Path.{_≡_, refl, ap}
+-- Where the code is shorter than fdlibm: n & 3 of -n, and cos's switch as sin's one quarter turn on. Assumes nothing.
+use mathlib.Core.Path.{_≡_, refl}
 use Prim.Native.Nat.{ℕ, zero, suc, _+_, _-_, _%_, _<_}
 use native.Mathlib.Omega.{arith}
 use lib.IntN.{ℤ, pos, negsuc, negℤ}
-use lib.ListN.{getD}
-use mathlib.Core.List.{_∷_}
 use lib.Ieee.{Float}
-use Rattle.sine.specs.Sine.{Remainder, quarters, npio2-hw, sinSwitch, cosSwitch}
+use Rattle.sine.specs.Sine.{Remainder, quarters, sinSwitch, cosSwitch}
 
 pub quarters-neg : (z : ℤ) → quarters (negℤ z) ≡ (4 - quarters z % 4) % 4
 quarters-neg (pos zero) = refl
@@ -16,10 +14,6 @@ quarters-neg (negsuc n) = omega arith
 quarters-lt : (z : ℤ) → quarters z < 4
 quarters-lt (pos n) = omega arith
 quarters-lt (negsuc n) = omega arith
-
-pub word-before : (n : ℕ) → getD (0x3ff921fb ∷ npio2-hw) n 0 ≡ getD npio2-hw (n - 1) 0
-word-before zero = refl
-word-before (suc n) = let e : n ≡ suc n - 1 = omega arith in ap (λ (k : ℕ). getD npio2-hw k 0) e
 
 switch-on : (q : ℕ) (y0 y1 : Float) → q < 4 → cosSwitch q y0 y1 ≡ sinSwitch ((q % 4 + 1) % 4) y0 y1
 unfolding sinSwitch cosSwitch

@@ -35,10 +35,10 @@ remNear x ix =
     cond (not (eqb ix 0x3ff9_21fb)) (plus (negsuc 0) z pio2-1t) (plus (negsuc 0) (z ⊕ pio2-2) pio2-2t))
 
 -- ---- |x| from 3pi/4 to 2^19 * pi/2
--- npio2_hw: the upper words of n * pi/2, for n from 1 to 32
+-- npio2_hw: the upper words of n * pi/2, for n from 1 to 32. The 0 in front makes the index n, where the C's is n - 1
 abbrev pub npio2-hw : List ℕ
 npio2-hw =
-    0x3ff921fb ∷ 0x400921fb ∷ 0x4012d97c ∷ 0x401921fb ∷ 0x401f6a7a ∷ 0x4022d97c ∷ 0x4025fdbb ∷ 0x402921fb
+    0 ∷ 0x3ff921fb ∷ 0x400921fb ∷ 0x4012d97c ∷ 0x401921fb ∷ 0x401f6a7a ∷ 0x4022d97c ∷ 0x4025fdbb ∷ 0x402921fb
     ∷ 0x402c463a ∷ 0x402f6a7a ∷ 0x4031475c ∷ 0x4032d97c ∷ 0x40346b9c ∷ 0x4035fdbb ∷ 0x40378fdb ∷ 0x403921fb
     ∷ 0x403ab41b ∷ 0x403c463a ∷ 0x403dd85a ∷ 0x403f6a7a ∷ 0x40407e4c ∷ 0x4041475c ∷ 0x4042106c ∷ 0x4042d97c
     ∷ 0x4043a28c ∷ 0x40446b9c ∷ 0x404534ac ∷ 0x4045fdbb ∷ 0x4046c6cb ∷ 0x40478fdb ∷ 0x404858eb ∷ 0x404921fb
@@ -46,7 +46,7 @@ npio2-hw =
 
 -- n < 32 && ix != npio2_hw[n-1]: r - w lost no digits
 unfoldable pub isClear : ℕ → ℕ → Bool
-isClear n ix = ltb n 32 && not (eqb ix (getD npio2-hw (n - 1) 0))
+isClear n ix = ltb n 32 && not (eqb ix (getD npio2-hw n 0))
 
 -- i > k, where i = j - ((__HI(y0) >> 20) & 0x7ff): how many digits y0 has lost against x, whose exponent's field is j
 abbrev pub lost : ℕ → Float → ℕ → Bool

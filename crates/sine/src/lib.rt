@@ -3,7 +3,8 @@
 ghost use mathlib.Core.Path.{_≡_};
 ghost use Prim.Native.Nat.{_≤_, _<_};
 ghost use lib.IntN.{pos};
-ghost use Rattle.float.specs.Double.{lit, high};
+ghost use lib.Ieee.{binary64, ofInt};
+ghost use Rattle.float.specs.Double.{lit, mag, high};
 ghost use Rattle.sine.specs.Kernel.{kernelSin, kernelCos, quarter};
 ghost use Rattle.sine.specs.Sine.{isClear, less, plus, remNear, remDeep, remMedium, opposite, remPio2, sinSwitch, sinOf, cosOf};
 ghost use Rattle.sine.specs.Taken.{taken};
@@ -109,48 +110,13 @@ struct Reduced {
     lo: f64,
 }
 
-// npio2_hw, with its first word twice, so that the index is n and not n - 1.
-const NPIO2_HW: [u64; 33] = [
-    0x3ff921fb,
-    0x3ff921fb,
-    0x400921fb,
-    0x4012d97c,
-    0x401921fb,
-    0x401f6a7a,
-    0x4022d97c,
-    0x4025fdbb,
-    0x402921fb,
-    0x402c463a,
-    0x402f6a7a,
-    0x4031475c,
-    0x4032d97c,
-    0x40346b9c,
-    0x4035fdbb,
-    0x40378fdb,
-    0x403921fb,
-    0x403ab41b,
-    0x403c463a,
-    0x403dd85a,
-    0x403f6a7a,
-    0x40407e4c,
-    0x4041475c,
-    0x4042106c,
-    0x4042d97c,
-    0x4043a28c,
-    0x40446b9c,
-    0x404534ac,
-    0x4045fdbb,
-    0x4046c6cb,
-    0x40478fdb,
-    0x404858eb,
-    0x404921fb,
-];
-
-fn is_clear(n: u64, ix: u64) -> bool
+// n < 32 && ix != npio2_hw[n-1], where f is n as a double. Each word of the table is the upper word of the product here.
+fn is_clear(n: u64, f: f64, ix: u64) -> bool
+    requires { ⌜ f ≡ ofInt binary64 (pos n) ⌝ }
     ensures { λ r. ⌜ r ≡ isClear n ix ⌝ }
 {
     if n < 32 {
-        return ix != NPIO2_HW[n as usize];
+        return ix != float::high_word(f * float::FRAC_PI_2);
     }
     false
 }
@@ -218,7 +184,7 @@ fn rem_medium(t: f64, ix: u64) -> Reduced
     let f = float::from_whole(n);
     let r = t - f * PIO2_1;
     let w = f * PIO2_1T;
-    if is_clear(n, ix) {
+    if is_clear(n, f, ix) {
         return split(n, r, w);
     }
     let j = ix / 0x10_0000;
@@ -228,16 +194,15 @@ fn rem_medium(t: f64, ix: u64) -> Reduced
     split(n, r, w)
 }
 
-// __ieee754_rem_pio2. -n & 3 is 4 less n & 3, and 0 for 0.
-fn rem_pio2(x: f64) -> Reduced
-    requires { ⌜ 0x3fe9_21fb < high x ⌝ }
+// __ieee754_rem_pio2, where t is |x| and ix the upper word of x. -n & 3 is 4 less n & 3, and 0 for 0.
+fn rem_pio2(x: f64, t: f64, ix: u64) -> Reduced
+    requires { ⌜ (t ≡ mag x) × (ix ≡ high x) ⌝ ∗ ⌜ 0x3fe9_21fb < ix ⌝ }
     ensures { λ p. ⌜ p ≡ taken (remPio2 x) ⌝ }
 {
-    let ix = float::high_word(x);
     if ix < 0x4002_d97c {
         return rem_near(x, ix);
     }
-    let p = rem_medium(float::abs(x), ix);
+    let p = rem_medium(t, ix);
     if float::sign_bit(x) == 0 {
         return p;
     }
@@ -271,11 +236,13 @@ fn sin_switch(q: u64, hi: f64, lo: f64) -> f64
 pub fn sin(x: f64) -> f64
     ensures { λ r. ⌜ r ≡ sinOf x ⌝ }
 {
-    if float::abs(x) <= 524288.0 {
-        if float::high_word(x) <= 0x3fe9_21fb {
+    let t = float::abs(x);
+    if t <= 524288.0 {
+        let ix = float::high_word(x);
+        if ix <= 0x3fe9_21fb {
             return kernel_sin_alone(x);
         }
-        let p = rem_pio2(x);
+        let p = rem_pio2(x, t, ix);
         let n = p.n;
         let hi = p.hi;
         let lo = p.lo;
@@ -288,11 +255,13 @@ pub fn sin(x: f64) -> f64
 pub fn cos(x: f64) -> f64
     ensures { λ r. ⌜ r ≡ cosOf x ⌝ }
 {
-    if float::abs(x) <= 524288.0 {
-        if float::high_word(x) <= 0x3fe9_21fb {
+    let t = float::abs(x);
+    if t <= 524288.0 {
+        let ix = float::high_word(x);
+        if ix <= 0x3fe9_21fb {
             return kernel_cos(x, 0.0);
         }
-        let p = rem_pio2(x);
+        let p = rem_pio2(x, t, ix);
         let n = p.n;
         let hi = p.hi;
         let lo = p.lo;
