@@ -1,4 +1,6 @@
 // What C and Rust call. Each function is one of a layer below under C's calling rules, and include/godf.h mirrors this file.
+pub mod field;
+
 ghost use mathlib.Core.Path.{_≡_};
 ghost use Rattle.sine.specs.Sine.{sinOf, cosOf};
 ghost use Rattle.arctangent.specs.Arc.{atan2Of};

@@ -1,6 +1,6 @@
 -- mass_integral, dirichlet_integral and dirichlet_diagonal of the Rust: each operation in the order in which it writes them.
 -- Below |ω| = 0.1 both integrals are Taylor series, from 0.1 on closed forms. Definitions only.
-use mathlib.Core.Bool.{cond}
+use mathlib.Core.Bool.{Bool, cond}
 use mathlib.Core.List.{List}
 use lib.ListN.{getD}
 use lib.Ieee.{Float, lt, neg}
@@ -10,6 +10,10 @@ use Rattle.complex.specs.Complex.{cnew, fromAngle, cadd, csub, cmul, cscale}
 use Rattle.plane.specs.declared.Pair.{Pair}
 use Rattle.plane.specs.Pair.{sub2, dot2, no-pair}
 use Rattle.integrals.specs.Consts.{one, half, quarter, tenth, n2, n3, n4, n5, n6, n7, n12, n24, n45, n60, n90, n120, n360, n504, n1008, n1120, n2520, n2688, n17280, n20160, n51840, n56700, n129600, n181440, n492800, n1108800, n1814400, n4790016, n10644480, n19958400, n239500800}
+
+-- the series serve strictly below 0.1, INTEGRAL_SERIES_THRESHOLD
+unfoldable pub bySeries : Float → Bool
+bySeries ω = lt (mag ω) tenth
 
 -- ---- mass_integral
 unfoldable pub massSeries : Float → Complex
@@ -30,7 +34,7 @@ massClosed ω =
     cscale numerator (recipOf (n3 ⊗ ω ⊗ ω ⊗ ω ⊗ ω))
 
 unfoldable pub massIntegral : Float → Complex
-massIntegral ω = cond (lt (mag ω) tenth) (massSeries ω) (massClosed ω)
+massIntegral ω = cond (bySeries ω) (massSeries ω) (massClosed ω)
 
 -- ---- dirichlet_integral
 unfoldable pub dirichletSeries : Float → Float → Float → Float → Complex
@@ -63,7 +67,7 @@ dirichletClosed ω g11 g12 g22 =
     cscale bracket (recipOf o4)
 
 unfoldable pub dirichletIntegral : Float → Float → Float → Float → Complex
-dirichletIntegral ω g11 g12 g22 = cond (lt (mag ω) tenth) (dirichletSeries ω g11 g12 g22) (dirichletClosed ω g11 g12 g22)
+dirichletIntegral ω g11 g12 g22 = cond (bySeries ω) (dirichletSeries ω g11 g12 g22) (dirichletClosed ω g11 g12 g22)
 
 -- ---- dirichlet_diagonal: of the first of three positions in counter-clockwise order
 unfoldable pub diagonalAt : Float → Float → Pair → Pair → Pair → Float

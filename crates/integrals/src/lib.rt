@@ -2,9 +2,16 @@
 // Knöppel et al. (2013), appendix D, and the diagonal of the Dirichlet matrix. By series strictly below |ω| = 0.1,
 // where the closed forms cancel, and by the closed forms from 0.1 on.
 ghost use mathlib.Core.Path.{_≡_};
-ghost use Rattle.integrals.specs.Integrals.{massSeries, massClosed, massIntegral, dirichletSeries, dirichletClosed, dirichletIntegral, dirichletDiagonal};
+ghost use Rattle.integrals.specs.Integrals.{bySeries, massSeries, massClosed, massIntegral, dirichletSeries, dirichletClosed, dirichletIntegral, dirichletDiagonal};
 use complex::Complex;
 use plane::Pair;
+
+// Whether the series serve: strictly below 0.1.
+fn by_series(omega: f64) -> bool
+    ensures { λ r. ⌜ r ≡ bySeries omega ⌝ }
+{
+    float::abs(omega) < 0.1
+}
 
 fn mass_series(omega: f64) -> Complex
     ensures { λ r. ⌜ r ≡ massSeries omega ⌝ }
@@ -42,7 +49,7 @@ fn mass_closed(omega: f64) -> Complex
 pub fn mass_integral(omega: f64) -> Complex
     ensures { λ r. ⌜ r ≡ massIntegral omega ⌝ }
 {
-    if float::abs(omega) < 0.1 {
+    if by_series(omega) {
         return mass_series(omega);
     }
     mass_closed(omega)
@@ -92,7 +99,7 @@ fn dirichlet_closed(omega: f64, g11: f64, g12: f64, g22: f64) -> Complex
 pub fn dirichlet_integral(omega: f64, g11: f64, g12: f64, g22: f64) -> Complex
     ensures { λ r. ⌜ r ≡ dirichletIntegral omega g11 g12 g22 ⌝ }
 {
-    if float::abs(omega) < 0.1 {
+    if by_series(omega) {
         return dirichlet_series(omega, g11, g12, g22);
     }
     dirichlet_closed(omega, g11, g12, g22)

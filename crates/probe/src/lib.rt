@@ -106,7 +106,7 @@ fn answer(z: Complex) -> Visit
 
 // The position of point v.
 fn position(points: &[f64], v: usize) -> Pair
-    requires { ⌜ 3 * v + 1 < length (now points) ⌝ }
+    requires { ⌜ 3 * v + 2 < length (now points) ⌝ }
     ensures { λ r. ⌜ r ≡ cornerAt (now (points .entry)) v ⌝ }
 {
     Pair {
