@@ -251,12 +251,12 @@ fn turn_by(k: u64, x: f64, t: f64, b: u64) -> f64
 pub fn sin(x: f64) -> f64
     ensures { λ r. ⌜ r ≡ sinOf x ⌝ }
 {
+    let b = float::bits(x);
+    if b % 0x8000_0000_0000_0000 / 0x1_0000_0000 <= 0x3fe9_21fb {
+        return kernel_sin_alone(x);
+    }
     let t = float::abs(x);
     if t <= 524288.0 {
-        let b = float::bits(x);
-        if b % 0x8000_0000_0000_0000 / 0x1_0000_0000 <= 0x3fe9_21fb {
-            return kernel_sin_alone(x);
-        }
         return turn_by(0, x, t, b);
     }
     0.0 / 0.0
@@ -266,12 +266,12 @@ pub fn sin(x: f64) -> f64
 pub fn cos(x: f64) -> f64
     ensures { λ r. ⌜ r ≡ cosOf x ⌝ }
 {
+    let b = float::bits(x);
+    if b % 0x8000_0000_0000_0000 / 0x1_0000_0000 <= 0x3fe9_21fb {
+        return kernel_cos(x, 0.0);
+    }
     let t = float::abs(x);
     if t <= 524288.0 {
-        let b = float::bits(x);
-        if b % 0x8000_0000_0000_0000 / 0x1_0000_0000 <= 0x3fe9_21fb {
-            return kernel_cos(x, 0.0);
-        }
         return turn_by(1, x, t, b);
     }
     0.0 / 0.0

@@ -7,9 +7,6 @@ use borrow.Author.Needs.{needs}
 use Rattle.sine.proofs.sin.Statement.{statement}
 use Rattle.sine.proofs.sin.Tie as tie
 
-abs-requires : tie.Need-abs-requires
-abs-requires c κs = search needs
-
 bits-requires : tie.Need-bits-requires
 bits-requires c κs = search needs
 
@@ -18,27 +15,30 @@ kernel-sin-alone-requires c κs = search needs
 
 returns : tie.Need-returns
 unfolding sinOf
-returns c = simp (← c .before .before .before .before .abs .ensures, c .before .before .before .if1 .taken, ← c .before .before .bits .ensures, le-leb _ _ (c .before .if2 .taken), c .kernel-sin-alone .ensures)
+returns c = simp (← c .before .before .bits .ensures, le-leb _ _ (c .before .if1 .taken), c .kernel-sin-alone .ensures)
+
+abs-requires : tie.Need-abs-requires
+abs-requires c κs = search needs
 
 turn-by-requires : tie.Need-turn-by-requires
 turn-by-requires c κs = search needs
 
 returns-2 : tie.Need-returns-2
 unfolding sinOf
-returns-2 c = simp (← c .before .before .before .before .abs .ensures, c .before .before .before .if1 .taken, ← c .before .before .bits .ensures, lt-leb _ _ (c .before .if2 .left), c .turn-by .ensures, sin-switch (remPio2 (c .before .before .before .before .before .args .x)))
+returns-2 c = simp (← c .before .before .before .before .bits .ensures, lt-leb _ _ (c .before .before .before .if1 .left), ← c .before .before .abs .ensures, c .before .if2 .taken, c .turn-by .ensures, sin-switch (remPio2 (c .before .before .before .before .before .args .x)))
 
 returns-3 : tie.Need-returns-3
 unfolding sinOf
-returns-3 c = simp (← c .before .abs .ensures, c .if1 .left, zero-by-zero)
+returns-3 c = simp (← c .before .before .before .bits .ensures, lt-leb _ _ (c .before .before .if1 .left), ← c .before .abs .ensures, c .if2 .left, zero-by-zero)
 
 pub sin-spec : {M : Type 1} → statement M
 sin-spec =
     tie.close
     (tie.spec
-    abs-requires
     bits-requires
     kernel-sin-alone-requires
     returns
+    abs-requires
     turn-by-requires
     returns-2
     returns-3)
