@@ -1,4 +1,4 @@
-// The square root of an f64, by whole-number arithmetic.
+// The IEEE square root of a double, by whole-number arithmetic: total, and equal to `rootOf` of specs/Root.antt, which is the nearest double (specs/Nearest.antt).
 ghost use mathlib.Core.Path.{_≡_};
 ghost use Prim.Native.Nat.{_+_, _*_, _/_, _%_, _^_, _<_};
 ghost use lib.Dec.{leb};

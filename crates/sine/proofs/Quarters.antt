@@ -1,9 +1,10 @@
 -- Where the code is shorter than fdlibm: n & 3 of -n, and cos's switch as sin's one quarter turn on. Assumes nothing.
-use mathlib.Core.Path.{_≡_, refl}
+use mathlib.Core.Path.{_≡_, refl, ap}
 use Prim.Native.Nat.{ℕ, zero, suc, _+_, _-_, _%_, _<_}
 use native.Mathlib.Omega.{arith}
 use lib.IntN.{ℤ, pos, negsuc, negℤ}
 use lib.Ieee.{Float}
+use Rattle.sine.specs.Taken.{turned}
 use Rattle.sine.specs.Sine.{Remainder, quarters, sinSwitch, cosSwitch}
 
 pub quarters-neg : (z : ℤ) → quarters (negℤ z) ≡ (4 - quarters z % 4) % 4
@@ -23,5 +24,10 @@ switch-on (suc (suc zero)) y0 y1 h = refl
 switch-on (suc (suc (suc zero))) y0 y1 h = refl
 switch-on (suc (suc (suc (suc q)))) y0 y1 h = absurd (omega arith)
 
-pub cos-switch : (p : Remainder) → cosSwitch (quarters (p .n)) (p .y0) (p .y1) ≡ sinSwitch ((quarters (p .n) % 4 + 1) % 4) (p .y0) (p .y1)
+pub cos-switch : (p : Remainder) → cosSwitch (quarters (p .n)) (p .y0) (p .y1) ≡ turned 1 p
 cos-switch p = switch-on (quarters (p .n)) (p .y0) (p .y1) (quarters-lt (p .n))
+
+pub sin-switch : (p : Remainder) → sinSwitch (quarters (p .n)) (p .y0) (p .y1) ≡ turned 0 p
+sin-switch p =
+    let e : quarters (p .n) ≡ (quarters (p .n) % 4 + 0) % 4 = omega (arith, quarters-lt (p .n)) in
+    ap (λ (q : ℕ). sinSwitch q (p .y0) (p .y1)) e

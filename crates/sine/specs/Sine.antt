@@ -106,17 +106,15 @@ cosSwitch q y0 y1 =
     (cond (eqb q 1) (neg (kernelSin y0 y1 1))
     (cond (eqb q 2) (neg (kernelCos y0 y1)) (kernelSin y0 y1 1)))
 
--- sin(x) and cos(x): NaN for infinities, NaN and |x| above 524,288
+-- sin(x) and cos(x): above pi/4, NaN for infinities, NaN and |x| above 524,288
 unfoldable pub sinOf : Float → Float
 sinOf x =
     let p = remPio2 x in
-    cond (le (mag x) limit)
-    (cond (leb (high x) 0x3fe9_21fb) (kernelSin x zero 0) (sinSwitch (quarters (p .n)) (p .y0) (p .y1)))
-    nan
+    cond (leb (high x) 0x3fe9_21fb) (kernelSin x zero 0)
+    (cond (le (mag x) limit) (sinSwitch (quarters (p .n)) (p .y0) (p .y1)) nan)
 
 unfoldable pub cosOf : Float → Float
 cosOf x =
     let p = remPio2 x in
-    cond (le (mag x) limit)
-    (cond (leb (high x) 0x3fe9_21fb) (kernelCos x zero) (cosSwitch (quarters (p .n)) (p .y0) (p .y1)))
-    nan
+    cond (leb (high x) 0x3fe9_21fb) (kernelCos x zero)
+    (cond (le (mag x) limit) (cosSwitch (quarters (p .n)) (p .y0) (p .y1)) nan)

@@ -3,11 +3,11 @@
 ghost use mathlib.Core.Path.{_≡_};
 ghost use Prim.Native.Nat.{_≤_, _<_};
 ghost use lib.IntN.{pos};
-ghost use lib.Ieee.{binary64, ofInt};
-ghost use Rattle.float.specs.Double.{lit, mag, high};
+ghost use lib.Ieee.{binary64, ofInt, toBits};
+ghost use Rattle.float.specs.Double.{lit, mag, high, sign};
 ghost use Rattle.sine.specs.Kernel.{kernelSin, kernelCos, quarter};
 ghost use Rattle.sine.specs.Sine.{isClear, less, plus, remNear, remDeep, remMedium, opposite, remPio2, sinSwitch, sinOf, cosOf};
-ghost use Rattle.sine.specs.Taken.{taken};
+ghost use Rattle.sine.specs.Taken.{taken, turned};
 
 const S1: f64 = -1.66666666666666324348e-01;
 
@@ -133,11 +133,12 @@ fn split(n: u64, r: f64, w: f64) -> Reduced
     }
 }
 
-// |x| < 3pi/4. -1 & 3 is 3.
-fn rem_near(x: f64, ix: u64) -> Reduced
+// |x| < 3pi/4, where s is the sign's bit of x. -1 & 3 is 3.
+fn rem_near(x: f64, s: u64, ix: u64) -> Reduced
+    requires { ⌜ s ≡ sign x ⌝ }
     ensures { λ p. ⌜ p ≡ taken (remNear x ix) ⌝ }
 {
-    if float::sign_bit(x) == 0 {
+    if s == 0 {
         if ix != 0x3ff9_21fb {
             return split(1, x - PIO2_1, PIO2_1T);
         }
@@ -194,16 +195,18 @@ fn rem_medium(t: f64, ix: u64) -> Reduced
     split(n, r, w)
 }
 
-// __ieee754_rem_pio2, where t is |x| and ix the upper word of x. -n & 3 is 4 less n & 3, and 0 for 0.
-fn rem_pio2(x: f64, t: f64, ix: u64) -> Reduced
-    requires { ⌜ (t ≡ mag x) × (ix ≡ high x) ⌝ ∗ ⌜ 0x3fe9_21fb < ix ⌝ }
+// __ieee754_rem_pio2, where t is |x| and b the pattern of x. -n & 3 is 4 less n & 3, and 0 for 0.
+fn rem_pio2(x: f64, t: f64, b: u64) -> Reduced
+    requires { ⌜ (t ≡ mag x) × (b ≡ toBits binary64 x) ⌝ ∗ ⌜ 0x3fe9_21fb < high x ⌝ }
     ensures { λ p. ⌜ p ≡ taken (remPio2 x) ⌝ }
 {
+    let ix = b % 0x8000_0000_0000_0000 / 0x1_0000_0000;
+    let s = b / 0x8000_0000_0000_0000;
     if ix < 0x4002_d97c {
-        return rem_near(x, ix);
+        return rem_near(x, s, ix);
     }
     let p = rem_medium(t, ix);
-    if float::sign_bit(x) == 0 {
+    if s == 0 {
         return p;
     }
     let n = p.n;
@@ -232,21 +235,29 @@ fn sin_switch(q: u64, hi: f64, lo: f64) -> f64
     -kernel_cos(hi, lo)
 }
 
+// sin's switch, k quarter turns on: one function for sin and cos, so that the reduction is compiled into it.
+fn turn_by(k: u64, x: f64, t: f64, b: u64) -> f64
+    requires { ⌜ (t ≡ mag x) × (b ≡ toBits binary64 x) ⌝ ∗ ⌜ (0x3fe9_21fb < high x) × (k < 2) ⌝ }
+    ensures { λ r. ⌜ r ≡ turned k (remPio2 x) ⌝ }
+{
+    let p = rem_pio2(x, t, b);
+    let n = p.n;
+    let hi = p.hi;
+    let lo = p.lo;
+    sin_switch((n % 4 + k) % 4, hi, lo)
+}
+
 // The sine, and NaN for infinities, NaN and |x| above 524,288.
 pub fn sin(x: f64) -> f64
     ensures { λ r. ⌜ r ≡ sinOf x ⌝ }
 {
+    let b = float::bits(x);
+    if b % 0x8000_0000_0000_0000 / 0x1_0000_0000 <= 0x3fe9_21fb {
+        return kernel_sin_alone(x);
+    }
     let t = float::abs(x);
     if t <= 524288.0 {
-        let ix = float::high_word(x);
-        if ix <= 0x3fe9_21fb {
-            return kernel_sin_alone(x);
-        }
-        let p = rem_pio2(x, t, ix);
-        let n = p.n;
-        let hi = p.hi;
-        let lo = p.lo;
-        return sin_switch(n, hi, lo);
+        return turn_by(0, x, t, b);
     }
     0.0 / 0.0
 }
@@ -255,17 +266,13 @@ pub fn sin(x: f64) -> f64
 pub fn cos(x: f64) -> f64
     ensures { λ r. ⌜ r ≡ cosOf x ⌝ }
 {
+    let b = float::bits(x);
+    if b % 0x8000_0000_0000_0000 / 0x1_0000_0000 <= 0x3fe9_21fb {
+        return kernel_cos(x, 0.0);
+    }
     let t = float::abs(x);
     if t <= 524288.0 {
-        let ix = float::high_word(x);
-        if ix <= 0x3fe9_21fb {
-            return kernel_cos(x, 0.0);
-        }
-        let p = rem_pio2(x, t, ix);
-        let n = p.n;
-        let hi = p.hi;
-        let lo = p.lo;
-        return sin_switch((n % 4 + 1) % 4, hi, lo);
+        return turn_by(1, x, t, b);
     }
     0.0 / 0.0
 }

@@ -17,7 +17,7 @@ add-if1 c = search needs
 
 returns : tie.Need-returns
 unfolding atanRatio
-returns c = simp (← c .before .before .high-word .ensures, ← c .before .high-word2 .ensures, is-above _ _ (c .if1 .taken))
+returns c = simp (← c .before .before .high-word .ensures, ← c .before .high-word2 .ensures, is-above (c .before .high-word2 .result) (c .before .before .high-word .result) (c .if1 .taken))
 
 add-if2 : tie.Need-add-if2
 add-if2 c = search needs
@@ -33,11 +33,11 @@ atan-requires c κs = search needs
 
 returns-2 : tie.Need-returns-2
 unfolding atanRatio
-returns-2 c = simp (← c .before .before .before .before .before .before .before .high-word .ensures, ← c .before .before .before .before .before .before .high-word2 .ensures, ← c .before .before .before .sign-bit .ensures, eq-eqb _ _ (c .before .before .if3 .taken), ← c .before .abs .ensures, c .atan .ensures, not-above _ _ (c .before .before .before .before .before .if1 .left), is-below _ _ (c .before .before .before .before .if2 .taken))
+returns-2 c = simp (← c .before .before .before .before .before .before .before .high-word .ensures, ← c .before .before .before .before .before .before .high-word2 .ensures, ← c .before .before .before .sign-bit .ensures, eq-eqb _ _ (c .before .before .if3 .taken), ← c .before .abs .ensures, c .atan .ensures, not-above (c .before .before .before .before .before .before .high-word2 .result) (c .before .before .before .before .before .before .before .high-word .result) (c .before .before .before .before .before .if1 .left), is-below (c .before .before .before .before .before .before .high-word2 .result) (c .before .before .before .before .before .before .before .high-word .result) (c .before .before .before .before .if2 .taken))
 
 returns-3 : tie.Need-returns-3
 unfolding atanRatio
-returns-3 c = simp (← c .before .before .before .before .before .high-word .ensures, ← c .before .before .before .before .high-word2 .ensures, ← c .before .sign-bit .ensures, ne-eqb _ _ (c .if3 .left), not-above _ _ (c .before .before .before .if1 .left), is-below _ _ (c .before .before .if2 .taken))
+returns-3 c = simp (← c .before .before .before .before .before .high-word .ensures, ← c .before .before .before .before .high-word2 .ensures, ← c .before .sign-bit .ensures, ne-eqb _ _ (c .if3 .left), not-above (c .before .before .before .before .high-word2 .result) (c .before .before .before .before .before .high-word .result) (c .before .before .before .if1 .left), is-below (c .before .before .before .before .high-word2 .result) (c .before .before .before .before .before .high-word .result) (c .before .before .if2 .taken))
 
 abs-requires-2 : tie.Need-abs-requires-2
 abs-requires-2 c κs = search needs
@@ -47,7 +47,7 @@ atan-requires-2 c κs = search needs
 
 returns-4 : tie.Need-returns-4
 unfolding atanRatio
-returns-4 c = simp (← c .before .before .before .before .before .high-word .ensures, ← c .before .before .before .before .high-word2 .ensures, ← c .before .abs2 .ensures, c .atan2 .ensures, not-above _ _ (c .before .before .before .if1 .left), not-below _ _ (c .before .before .if2 .left), and-false)
+returns-4 c = simp (← c .before .before .before .before .before .high-word .ensures, ← c .before .before .before .before .high-word2 .ensures, ← c .before .abs2 .ensures, c .atan2 .ensures, not-above (c .before .before .before .before .high-word2 .result) (c .before .before .before .before .before .high-word .result) (c .before .before .before .if1 .left), not-below (c .before .before .before .before .high-word2 .result) (c .before .before .before .before .before .high-word .result) (c .before .before .if2 .left), and-false)
 
 pub atan-ratio-spec : {M : Type 1} → statement M
 atan-ratio-spec =

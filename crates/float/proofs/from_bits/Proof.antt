@@ -1,3 +1,4 @@
+-- `float::from_bits` meets its contract: a pattern above the infinity's is a NaN. Assumes nothing.
 use borrow.Author.Needs.{needs}
 use Rattle.float.proofs.Facts.{from-nan, from-no-nan}
 use Rattle.float.proofs.from_bits.Statement.{statement}

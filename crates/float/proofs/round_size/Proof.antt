@@ -1,3 +1,4 @@
+-- `float::round_size` meets its contract: the arms of `roundSize`. Assumes nothing.
 use Rattle.float.specs.Double.{roundSize}
 use borrow.Author.Needs.{needs}
 use Rattle.float.proofs.round_size.Statement.{statement}

@@ -1,3 +1,4 @@
+-- `root::sqrt` meets its contract: the arms of `rootOf`. Assumes nothing.
 use borrow.Author.Tests.{le-leb, le-ltb, lt-leb, lt-ltb}
 use Rattle.root.specs.Root.{rootOf}
 use Rattle.float.proofs.Facts.{zero-by-zero}

@@ -1,5 +1,7 @@
 -- `sine::rem_pio2` meets its contract: the arms of `remPio2` above pi/4. Assumes nothing.
 use borrow.Author.Tests.{eq-eqb, le-ltb, lt-leb, lt-ltb, ne-eqb}
+use Prim.Native.Nat.{_<_, _/_, _%_}
+use native.Mathlib.Omega.{arith}
 use Rattle.sine.specs.Sine.{remPio2}
 use Rattle.sine.proofs.Quarters.{quarters-neg}
 use borrow.Author.Needs.{needs}
@@ -11,33 +13,22 @@ rem-near-requires c κs = search needs
 
 returns : tie.Need-returns
 unfolding remPio2
-returns c = simp (lt-ltb _ _ (c .before .if1 .taken), c .rem-near .ensures, ← c .before .before .pre .0 .1, lt-leb _ _ (c .before .before .pre .1))
+returns c = let h : 0x3fe9_21fb < c .before .before .args .b % 0x8000_0000_0000_0000 / 0x1_0000_0000 = omega arith in simp (← c .before .before .pre .0 .1, lt-leb _ _ h, lt-ltb _ _ (c .before .if1 .taken), c .rem-near .ensures)
 
 rem-medium-requires : tie.Need-rem-medium-requires
 rem-medium-requires c κs = search needs
 
-sign-bit-requires : tie.Need-sign-bit-requires
-sign-bit-requires c κs = search needs
-
 returns-2 : tie.Need-returns-2
 unfolding remPio2
-returns-2 c = simp (le-ltb _ _ (c .before .before .before .if1 .left), c .before .before .rem-medium .ensures, ← c .before .sign-bit .ensures, eq-eqb _ _ (c .if2 .taken), ← c .before .before .before .before .pre .0 .0, ← c .before .before .before .before .pre .0 .1, lt-leb _ _ (c .before .before .before .before .pre .1))
+returns-2 c = let h : 0x3fe9_21fb < c .before .before .before .args .b % 0x8000_0000_0000_0000 / 0x1_0000_0000 = omega arith in simp (← c .before .before .before .pre .0 .0, ← c .before .before .before .pre .0 .1, lt-leb _ _ h, le-ltb _ _ (c .before .before .if1 .left), eq-eqb _ _ (c .if2 .taken), c .before .rem-medium .ensures)
 
-sub-t10 : tie.Need-sub-t10
-sub-t10 c = search needs
+sub-t12 : tie.Need-sub-t12
+sub-t12 c = search needs
 
 returns-3 : tie.Need-returns-3
 unfolding remPio2
-returns-3 c = simp (le-ltb _ _ (c .before .before .before .if1 .left), c .before .before .rem-medium .ensures, ← c .before .sign-bit .ensures, ne-eqb _ _ (c .if2 .left), ← c .before .before .before .before .pre .0 .0, ← c .before .before .before .before .pre .0 .1, lt-leb _ _ (c .before .before .before .before .pre .1), quarters-neg)
+returns-3 c = let h : 0x3fe9_21fb < c .before .before .before .args .b % 0x8000_0000_0000_0000 / 0x1_0000_0000 = omega arith in simp (← c .before .before .before .pre .0 .0, ← c .before .before .before .pre .0 .1, lt-leb _ _ h, le-ltb _ _ (c .before .before .if1 .left), ne-eqb _ _ (c .if2 .left), c .before .rem-medium .ensures, quarters-neg)
 
 pub rem-pio2-spec : {M : Type 1} → statement M
 rem-pio2-spec =
-    tie.close
-    (tie.spec
-    rem-near-requires
-    returns
-    rem-medium-requires
-    sign-bit-requires
-    returns-2
-    sub-t10
-    returns-3)
+    tie.close (tie.spec rem-near-requires returns rem-medium-requires returns-2 sub-t12 returns-3)
