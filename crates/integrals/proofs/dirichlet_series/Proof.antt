@@ -1,12 +1,10 @@
+-- `integrals::dirichlet_series` meets its contract: each return opens the definition and rewrites it by the tests and the calls on its way.
 use Rattle.integrals.specs.Integrals.{dirichletSeries}
 use mathlib.Core.Path.{refl}
 use borrow.Author.Needs.{needs}
 use Rattle.integrals.proofs.dirichlet_series.Statement.{statement}
 use Rattle.integrals.proofs.dirichlet_series.Tie as tie
-use Rattle.integrals.proofs.dirichlet_series.Reads as reads
-use Rattle.integrals.proofs.dirichlet_series.Lts as lts
 
--- src/lib.rt:40:1
 returns : tie.Need-returns
 unfolding dirichletSeries
 returns c = refl

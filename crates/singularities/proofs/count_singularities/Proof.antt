@@ -1,22 +1,17 @@
+-- `singularities::count_singularities` meets its contract: each return opens the definition and rewrites it by the tests and the calls on its way.
 use borrow.Author.Tests.{eq-eqb, ne-eqb}
 use Rattle.singularities.specs.Count.{singularities}
 use borrow.Author.Needs.{needs}
 use Rattle.singularities.proofs.count_singularities.Statement.{statement}
 use Rattle.singularities.proofs.count_singularities.Tie as tie
-use Rattle.singularities.proofs.count_singularities.Reads as reads
-use Rattle.singularities.proofs.count_singularities.Lts as lts
-use Rattle.singularities.proofs.count_triangles.Reads as count-triangles-reads
 
--- src/lib.rt:121:9
 returns : tie.Need-returns
 unfolding singularities
 returns c = simp (ne-eqb _ _ (c .if1 .taken))
 
--- src/lib.rt:123:28
 count-triangles-requires : tie.Need-count-triangles-requires
 count-triangles-requires c κs = search needs
 
--- src/lib.rt:117:1
 returns-2 : tie.Need-returns-2
 unfolding singularities
 returns-2 c = simp (eq-eqb _ _ (c .before .if1 .left), c .count-triangles .ensures)

@@ -1,12 +1,10 @@
+-- `complex::Complex::add` meets its contract: each return opens the definition and rewrites it by the tests and the calls on its way.
 use mathlib.Core.Path.{refl}
 use Rattle.complex.specs.Complex.{cadd}
 use borrow.Author.Needs.{needs}
 use Rattle.complex.proofs.Complex.add.Statement.{statement}
 use Rattle.complex.proofs.Complex.add.Tie as tie
-use Rattle.complex.proofs.Complex.add.Reads as reads
-use Rattle.complex.proofs.Complex.add.Lts as lts
 
--- src/lib.rt:32:5
 returns : tie.Need-returns
 unfolding cadd
 returns c = refl

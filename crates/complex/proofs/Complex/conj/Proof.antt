@@ -1,12 +1,10 @@
+-- `complex::Complex::conj` meets its contract: each return opens the definition and rewrites it by the tests and the calls on its way.
 use mathlib.Core.Path.{refl}
 use Rattle.complex.specs.Complex.{cconj}
 use borrow.Author.Needs.{needs}
 use Rattle.complex.proofs.Complex.conj.Statement.{statement}
 use Rattle.complex.proofs.Complex.conj.Tie as tie
-use Rattle.complex.proofs.Complex.conj.Reads as reads
-use Rattle.complex.proofs.Complex.conj.Lts as lts
 
--- src/lib.rt:68:5
 returns : tie.Need-returns
 unfolding cconj
 returns c = refl

@@ -1,12 +1,10 @@
+-- `complex::Complex::mul` meets its contract: each return opens the definition and rewrites it by the tests and the calls on its way.
 use mathlib.Core.Path.{refl}
 use Rattle.complex.specs.Complex.{cmul}
 use borrow.Author.Needs.{needs}
 use Rattle.complex.proofs.Complex.mul.Statement.{statement}
 use Rattle.complex.proofs.Complex.mul.Tie as tie
-use Rattle.complex.proofs.Complex.mul.Reads as reads
-use Rattle.complex.proofs.Complex.mul.Lts as lts
 
--- src/lib.rt:50:5
 returns : tie.Need-returns
 unfolding cmul
 returns c = refl

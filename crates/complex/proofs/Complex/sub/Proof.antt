@@ -1,12 +1,10 @@
+-- `complex::Complex::sub` meets its contract: each return opens the definition and rewrites it by the tests and the calls on its way.
 use mathlib.Core.Path.{refl}
 use Rattle.complex.specs.Complex.{csub}
 use borrow.Author.Needs.{needs}
 use Rattle.complex.proofs.Complex.sub.Statement.{statement}
 use Rattle.complex.proofs.Complex.sub.Tie as tie
-use Rattle.complex.proofs.Complex.sub.Reads as reads
-use Rattle.complex.proofs.Complex.sub.Lts as lts
 
--- src/lib.rt:41:5
 returns : tie.Need-returns
 unfolding csub
 returns c = refl
