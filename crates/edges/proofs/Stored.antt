@@ -174,6 +174,7 @@ met-three {o} {N} {w₁ = w₁} {w₂} {w₃} {m₁ = m₁} {m₂} {m₃} {p} {q
         z .number,
       );
       more = omega (arith, x .more, y .more, z .more);
+      most = omega (arith, met-most x, met-most y, met-most z);
       outside = outside-more (met-most z) (outside-more (met-most y) (x .outside) (y .outside)) (z .outside);
     }
 

@@ -82,6 +82,7 @@ pub record MetTri (o N : ℕ) (w : List ℕ) (m : ℕ) (w′ : List ℕ) (m′ p
   pub now-met : sidesIn o N w′ m′ ≡ metAll (sidesIn o N w m) (sides t)
   pub numbers : NumbersOf t (sidesIn o N w′ m′) p q r
   pub more : m′ ≤ m + 3
+  pub most : m ≤ m′
   pub outside : Outside o N w m′ w′
 
 -- an answer that may be none, as a number: 0, or one more

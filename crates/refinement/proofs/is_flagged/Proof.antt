@@ -1,0 +1,21 @@
+use borrow.Author.Needs.{needs}
+use mathlib.Core.Path.{_≡_, refl, sym, ap, _∙_}
+use native.Mathlib.Omega.{arith}
+use Rattle.refinement.specs.Flag.{turnAlong, variation, flagged, flaggedTri}
+use Rattle.refinement.proofs.is_flagged.Statement.{statement}
+use Rattle.refinement.proofs.is_flagged.Tie as tie
+use Rattle.refinement.proofs.is_flagged.Reads as reads
+use Rattle.refinement.proofs.is_flagged.Lts as lts
+use Rattle.refinement.proofs.triangle_field_variation.Reads as triangle-field-variation-reads
+
+-- src/lib.rt:45:9
+triangle-field-variation-requires : tie.Need-triangle-field-variation-requires
+triangle-field-variation-requires c κs = search needs
+
+-- src/lib.rt:42:1
+returns : tie.Need-returns
+unfolding flaggedTri flagged
+returns c = rw (c .triangle-field-variation .ensures)
+
+pub is-flagged-spec : {M : Type 1} → statement M
+is-flagged-spec = tie.close (tie.spec triangle-field-variation-requires returns)
