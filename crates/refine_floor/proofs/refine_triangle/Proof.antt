@@ -1,0 +1,54 @@
+use borrow.Author.Needs.{needs}
+use Prim.Native.Nat.{_+_, _-_, _*_, _≤_}
+use mathlib.Core.Path.{_≡_, refl, sym, ap, _∙_}
+use native.Mathlib.Omega.{arith}
+use native.Mathlib.Numerals.{add-one}
+use lib.ListN.{length, take, length-set}
+use lib.Seq.{sets, length-sets, take-length}
+use Rattle.refine_floor.proofs.Parts.{pieces-put, refined-none, refined-again, ends-none, ends-again, mids-none, mids-again, points-done, sizes-none, sizes-again, sizes-done}
+use Rattle.refine_floor.proofs.refine_triangle.Statement.{statement}
+use Rattle.refine_floor.proofs.refine_triangle.Tie as tie
+use Rattle.refine_floor.proofs.refine_triangle.Reads as reads
+use Rattle.refine_floor.proofs.refine_triangle.Lts as lts
+use Rattle.refinement.proofs.pieces_of.Reads as pieces-of-reads
+use Rattle.refinement.proofs.put_rows.Reads as put-rows-reads
+
+-- src/lib.rt:32:9
+pieces-of-requires : tie.Need-pieces-of-requires
+pieces-of-requires c κs = search needs
+
+-- src/lib.rt:34:31
+mul-put-rows : tie.Need-mul-put-rows
+mul-put-rows c = search needs
+
+-- src/lib.rt:34:44
+mul-put-rows-2 : tie.Need-mul-put-rows-2
+mul-put-rows-2 c = search needs
+
+-- src/lib.rt:34:5
+put-rows-requires : tie.Need-put-rows-requires
+put-rows-requires c κs = search needs
+
+-- src/lib.rt:35:5
+add-result : tie.Need-add-result
+add-result c = search needs
+
+-- src/lib.rt:17:1
+same-length : tie.Need-same-length
+same-length c = search needs
+
+-- src/lib.rt:17:1
+returns : tie.Need-returns
+returns c = pieces-put (c .before .before .before .before .before .before .before .before .before .before .before .args .out .now) (c .before .before .before .before .before .before .before .before .before .before .before .args .k) (c .before .before .before .before .before .before .before .pieces-of .ensures) (c .before .before .before .put-rows .ensures)
+
+pub refine-triangle-spec : {M : Type 1} → statement M
+refine-triangle-spec =
+    tie.close
+    (tie.spec
+    pieces-of-requires
+    mul-put-rows
+    mul-put-rows-2
+    put-rows-requires
+    add-result
+    same-length
+    returns)
