@@ -1,2 +1,5 @@
 pub mod Runs
 pub mod Parts
+pub mod Flags
+pub mod Claim
+pub mod Cases
