@@ -111,7 +111,8 @@ pub fn first_bad_corner(triangles: &[u32], t: usize, n: usize) -> usize
     i
 }
 
-fn refused(number: u64, place: usize) -> Check
+// A refusal by its row and place.
+pub fn refused(number: u64, place: usize) -> Check
     ensures { λ r. ⌜ r ≡ Check.Refused (rowAt number place) ⌝ }
 {
     Check::Refused(Refusal {
