@@ -1,0 +1,43 @@
+use borrow.Author.Needs.{needs}
+use mathlib.Core.Path.{_≡_, refl, sym, ap, _∙_}
+use lib.Ieee.{mul}
+use Rattle.guidance.specs.Guidance.{fourfold, normOf, meanOr, midAngle}
+use Rattle.guidance.proofs.mean_or.Statement.{statement}
+use Rattle.guidance.proofs.mean_or.Tie as tie
+use Rattle.guidance.proofs.mean_or.Reads as reads
+use Rattle.guidance.proofs.mean_or.Lts as lts
+use Rattle.complex.proofs.cross_angle.Reads as cross-angle-reads
+use Rattle.float.proofs.is_finite.Reads as is-finite-reads
+use Rattle.guidance.proofs.norm.Reads as norm-reads
+
+-- src/lib.rt:20:9
+norm-requires : tie.Need-norm-requires
+norm-requires c κs = search needs
+
+-- src/lib.rt:21:8
+is-finite-requires : tie.Need-is-finite-requires
+is-finite-requires c κs = search needs
+
+-- src/lib.rt:23:13
+cross-angle-requires : tie.Need-cross-angle-requires
+cross-angle-requires c κs = search needs
+
+-- src/lib.rt:23:13
+returns : tie.Need-returns
+unfolding meanOr
+returns c = c .cross-angle .ensures ∙ rw (← c .before .before .before .before .norm .ensures, ← c .before .before .before .is-finite .ensures, c .before .before .if1 .taken, c .before .if2 .taken)
+
+-- src/lib.rt:25:9
+returns-2 : tie.Need-returns-2
+unfolding meanOr
+returns-2 c = rw (← c .before .before .before .norm .ensures, ← c .before .before .is-finite .ensures, c .before .if1 .taken, c .if2 .left)
+
+-- src/lib.rt:17:1
+returns-3 : tie.Need-returns-3
+unfolding meanOr
+returns-3 c = rw (← c .before .before .norm .ensures, ← c .before .is-finite .ensures, c .if1 .left)
+
+pub mean-or-spec : {M : Type 1} → statement M
+mean-or-spec =
+    tie.close
+    (tie.spec norm-requires is-finite-requires cross-angle-requires returns returns-2 returns-3)
