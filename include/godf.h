@@ -26,6 +26,28 @@ double godf_atan2(double y, double x);
  * NaN for negative numbers, -infinity and NaN. */
 double godf_sqrt(double x);
 
+/* ---- refinement
+ * Splits each triangle on one of whose sides the field turns by more than the threshold (radians), and its neighbours along the
+ * cut sides, so that no side is cracked. The floor has points (x, y, z each), triangles (three corner numbers each), a size and
+ * an angle for each point. Counts are of array elements.
+ *
+ * With n points and T triangles, the four result arrays must have room for 3 (n + 3 T) numbers of points, n + 3 T sizes, 12 T
+ * corner numbers and 8 T ends of cut sides (two a side). Accepted, the front of each is filled and the rest stays; refused,
+ * nothing is written to them. `report` gets as many of its four numbers as it has room for:
+ *   0  accepted: report = counts of points, triangles, flagged triangles, cut sides
+ *   otherwise the number of a refusal, report = its place, 0, 0, 0 (place 0 where there is none):
+ *   1  points or triangles are not of whole triples, or over 16,384 points or 32,768 triangles
+ *   3  no points      4  no triangles      5  as many sizes, or angles, as points are not given
+ *   6  a point's x or y is not finite (place: point)    7  a size is not finite and positive (place: point)
+ *   8  a corner number is not below n (place: triangle)
+ *   12 the threshold is not finite, or below 0          18 a result array is too short
+ * The call uses about 1.4 MB of stack, and no other memory. */
+uint64_t godf_refine(const double *points, size_t point_numbers, const uint32_t *triangles, size_t corners,
+                     const double *sizes, size_t size_count, const double *angles, size_t angle_count, double threshold,
+                     double *new_points, size_t new_point_numbers, double *new_sizes, size_t new_size_count,
+                     uint32_t *new_triangles, size_t new_corners, uint32_t *cut_ends, size_t cut_end_count,
+                     uint64_t *report, size_t report_count);
+
 /* ---- calls that read a field
  * A floor's points are numbers x, y, z in one array, its triangles three corner numbers each in one array; z is never read.
  * Counts are of array elements, not of points or triangles. Arrays are only read. A lent place keeps what it holds where the

@@ -1,15 +1,60 @@
 -- Document 01's thirteen proved cases ("Leaves"), one table: each is an equation about the definitions that the contracts cite, and antt computes both sides. Assumes nothing.
 -- A double is written by its pattern: `lit 0x3ff0_0000_0000_0000` is 1.
 use mathlib.Core.Path.{_≡_, refl}
+use Prim.Native.Nat.{ℕ}
+use mathlib.Core.List.{List, [], _∷_}
+use mathlib.Core.Option.{none, some}
 use lib.IntN.{pos, negsuc}
-use lib.Ieee.{nan, add, sub, mul, div, rem, neg, eq, lt, le, ne, ofBits, toBits, ofInt, toUnsigned, toSigned}
-use Rattle.float.specs.Double.{lit, mag, roundSize, roundAway, FRAC-PI-4, PI}
+use lib.Ieee.{Float, nan, binary64, add, sub, mul, div, rem, neg, eq, lt, le, ne, ofBits, toBits, ofInt, toUnsigned, toSigned}
+use Rattle.float.specs.Double.{lit, mag, roundSize, roundAway, FRAC-PI-4, PI, _⊘_}
 use Rattle.arctangent.specs.Arc.{atanTail, atanNear, atanSize, atanOf, atanRatio, placed, atInfinity, atan2Of}
 use Rattle.complex.specs.Complex.{cnew, argumentOf}
 use Rattle.complex.specs.Angle.{inRange, crossAngle, unwound, wrapToPi}
 use Rattle.geometry.specs.Edge.{alignmentWeight}
+use Rattle.mesh.specs.Mesh.{Tri, tri, side, key, place, met, metAll, sidesAfter, marked, cuts, mid, refine, split}
+use Rattle.refinement.specs.Flag.{turnAlong, variation, flagged, flaggedTri}
+use Rattle.refinement.specs.Floor.{Refined, refinementOf}
 use Rattle.singularities.specs.Charge.{winding, turns, charge}
 use Rattle.root.specs.Root.{rootIn, rootBits, rootOf}
+
+-- n / 1024 radian
+abbrev part : ℕ → Float
+part n = ofInt binary64 (pos n) ⊘ ofInt binary64 (pos 1024)
+
+abbrev whole : ℕ → Float
+whole n = ofInt binary64 (pos n)
+
+-- the square of the listing: its points, angles, sizes and triangles
+square : List Float
+square = whole 0 ∷ whole 0 ∷ lit 0 ∷ whole 2 ∷ whole 0 ∷ lit 0 ∷ whole 2 ∷ whole 2 ∷ lit 0 ∷ whole 0 ∷ whole 2 ∷ lit 0 ∷ []
+
+angles : List Float
+angles = part 0 ∷ part 384 ∷ part 0 ∷ part 0 ∷ []
+
+ones : List Float
+ones = whole 1 ∷ whole 1 ∷ whole 1 ∷ whole 1 ∷ []
+
+two : List Tri
+two = tri 0 1 2 ∷ tri 0 2 3 ∷ []
+
+-- ---- (1) the listing
+pub case-1 : (refinementOf (part 256) angles square ones two .triangles ≡ tri 0 4 6 ∷ tri 4 1 5 ∷ tri 6 5 2 ∷ tri 4 5 6 ∷ tri 0 6 3 ∷ tri 6 2 3 ∷ [])
+    × (refinementOf (part 256) angles square ones two .cut ≡ side 0 1 ∷ side 1 2 ∷ side 0 2 ∷ []) × (refinementOf (part 256) angles square ones two .flagged ≡ 1)
+unfolding square angles ones two refinementOf flaggedTri flagged variation turnAlong marked cuts sidesAfter metAll met place key refine mid ofInt div sub rem le lt ne mag ofBits
+case-1 = (refl, refl, refl)
+
+-- ---- (2) threshold 384 flags none there
+pub case-2 : (refinementOf (part 384) angles square ones two .triangles ≡ two) × (refinementOf (part 384) angles square ones two .flagged ≡ 0)
+unfolding square angles ones two refinementOf flaggedTri flagged variation turnAlong marked cuts sidesAfter metAll met place key refine mid ofInt div sub rem le lt ne mag ofBits
+case-2 = (refl, refl)
+
+-- ---- (3) 0 1 2 cut on 01, 12 gives 1 3 4, 3 0 2, 3 2 4
+pub case-3 : split 0 1 2 (some 3) (some 4) none ≡ tri 1 3 4 ∷ tri 3 0 2 ∷ tri 3 2 4 ∷ []
+case-3 = refl
+
+-- ---- (4) cut on 12, 20: 2 3 4, 3 1 0, 3 0 4
+pub case-4 : split 0 1 2 none (some 3) (some 4) ≡ tri 2 3 4 ∷ tri 3 1 0 ∷ tri 3 0 4 ∷ []
+case-4 = refl
 
 -- ---- (5) the cross angle of (1, -1e-300) is 0
 pub case-5 : crossAngle (cnew (lit 0x3ff0_0000_0000_0000) (lit 0x81a5_6e1f_c2f8_f359)) ≡ lit 0

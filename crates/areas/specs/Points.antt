@@ -1,0 +1,50 @@
+-- The points and the sizes of a refined floor: the old ones, then each cut side's midpoint, in refine_once's operation order. Definitions only.
+use Prim.Native.Nat.{ℕ, _+_, _*_, _<_}
+use mathlib.Core.List.{List, [], _∷_, _++_}
+use lib.ListN.{getD}
+use lib.Dec.{T}
+use lib.Ieee.{Float, nan}
+use Rattle.float.specs.Double.{lit}
+use Rattle.mesh.specs.Mesh.{Side, side}
+use Rattle.areas.specs.Area.{halfway, evenWhole}
+
+-- a floor's points are its numbers x, y, z, in one list
+abbrev pub xOf : List Float → ℕ → Float
+xOf pts v = getD pts (3 * v) nan
+
+abbrev pub yOf : List Float → ℕ → Float
+yOf pts v = getD pts (3 * v + 1) nan
+
+-- a midpoint's x and y; its z is 0, whatever its ends' are
+abbrev pub midX : List Float → Side → Float
+midX pts (side u v) = halfway (xOf pts u) (xOf pts v)
+
+abbrev pub midY : List Float → Side → Float
+midY pts (side u v) = halfway (yOf pts u) (yOf pts v)
+
+abbrev pub midpoint : List Float → Side → List Float
+midpoint pts s = midX pts s ∷ midY pts s ∷ lit 0 ∷ []
+
+unfoldable pub midpoints : List Float → List Side → List Float
+midpoints pts [] = []
+midpoints pts (s ∷ l) = midpoint pts s ++ midpoints pts l
+
+-- the points of the floor refined at the cut sides l
+unfoldable pub morePoints : List Float → List Side → List Float
+morePoints pts l = pts ++ midpoints pts l
+
+-- a midpoint's size: half the sum
+abbrev pub midSize : List Float → Side → Float
+midSize sizes (side u v) = halfway (getD sizes u nan) (getD sizes v nan)
+
+unfoldable pub midSizes : List Float → List Side → List Float
+midSizes sizes [] = []
+midSizes sizes (s ∷ l) = midSize sizes s ∷ midSizes sizes l
+
+unfoldable pub moreSizes : List Float → List Side → List Float
+moreSizes sizes l = sizes ++ midSizes sizes l
+
+-- "even whole coordinates up to 1,048,576 in size", of n points
+pub record EvenPoints (n : ℕ) (pts : List Float) : Type 0 where
+  pub even-x : (v : ℕ) → v < n → T (evenWhole (xOf pts v))
+  pub even-y : (v : ℕ) → v < n → T (evenWhole (yOf pts v))

@@ -1,0 +1,117 @@
+-- `edges::find` meets its contract: the loop keeps what `Inv-loop` says, and what is left to do falls at each turn; the laws are in proofs/Chain.
+use borrow.Author.Needs.{needs}
+use mathlib.Core.Path.{_≡_, sym, _∙_}
+use native.Mathlib.Omega.{arith}
+use Rattle.edges.specs.Table.{Held, loOf, hiOf}
+use Rattle.edges.proofs.Chain.{Chase, chase-start, chase-step, chase-found, chase-none}
+use Rattle.edges.proofs.find.Statement.{statement}
+use Rattle.edges.proofs.find.Tie as tie
+
+abbrev Inv-loop : tie.InvT-loop
+Inv-loop w base n m a b h at₀ at = Held base n w m × Chase n (loOf base n w) (hiOf base n w) m a b at
+
+abbrev μ-loop : tie.MeasureT-loop
+μ-loop w base n m a b h at₀ at = at
+
+slot-requires : tie.Need-slot-requires Inv-loop μ-loop
+slot-requires c κs = search needs
+
+add-h : tie.Need-add-h Inv-loop μ-loop
+add-h c = search needs
+
+mul-wide : tie.Need-mul-wide Inv-loop μ-loop
+mul-wide c = search needs
+
+shared-slice-read-wide : tie.Need-shared-slice-read-wide Inv-loop μ-loop
+shared-slice-read-wide c = search needs
+
+wide-requires : tie.Need-wide-requires Inv-loop μ-loop
+wide-requires c κs = search needs
+
+loop-holds : tie.Need-loop-holds Inv-loop μ-loop
+loop-holds c = (c .before .before .before .before .pre, chase-start (c .before .before .before .before .pre .table) (c .before .before .slot .ensures) (c .wide .ensures))
+
+add-k : tie.Need-add-k Inv-loop μ-loop
+add-k c = search needs
+
+sub-k : tie.Need-sub-k Inv-loop μ-loop
+sub-k c = search needs
+
+mul-k : tie.Need-mul-k Inv-loop μ-loop
+mul-k c = search needs
+
+add-k-2 : tie.Need-add-k-2 Inv-loop μ-loop
+add-k-2 c = search needs
+
+mul-same-side : tie.Need-mul-same-side Inv-loop μ-loop
+mul-same-side c = search needs
+
+shared-slice-read-same-side : tie.Need-shared-slice-read-same-side Inv-loop μ-loop
+shared-slice-read-same-side c = search needs
+
+add-same-side : tie.Need-add-same-side Inv-loop μ-loop
+add-same-side c = search needs
+
+mul-same-side-2 : tie.Need-mul-same-side-2 Inv-loop μ-loop
+mul-same-side-2 c = search needs
+
+shared-slice-read-same-side-2 : tie.Need-shared-slice-read-same-side-2 Inv-loop μ-loop
+shared-slice-read-same-side-2 c = search needs
+
+same-side-requires : tie.Need-same-side-requires Inv-loop μ-loop
+same-side-requires c κs = search needs
+
+returns : tie.Need-returns Inv-loop μ-loop
+returns c = chase-found (c .before .before .before .before .before .loop .inv .1) (c .before .before .before .before .loop-test .taken) (sym (c .before .same-side .ensures) ∙ c .if1 .taken)
+
+add-wide : tie.Need-add-wide Inv-loop μ-loop
+add-wide c = search needs
+
+mul-wide-2 : tie.Need-mul-wide-2 Inv-loop μ-loop
+mul-wide-2 c = search needs
+
+shared-slice-read-wide-2 : tie.Need-shared-slice-read-wide-2 Inv-loop μ-loop
+shared-slice-read-wide-2 c = search needs
+
+wide-requires-2 : tie.Need-wide-requires-2 Inv-loop μ-loop
+wide-requires-2 c κs = search needs
+
+loop-less : tie.Need-loop-less Inv-loop μ-loop
+loop-less c = let i = c .before .before .before .before .before .before .before .loop .inv in chase-step (i .1) (c .before .before .before .before .before .before .loop-test .taken) (i .0 .table) (sym (c .before .before .before .same-side .ensures) ∙ c .before .before .if1 .left) (c .wide2 .ensures) .1
+
+loop-again : tie.Need-loop-again Inv-loop μ-loop
+loop-again c = let i = c .before .before .before .before .before .before .before .loop .inv in (i .0, chase-step (i .1) (c .before .before .before .before .before .before .loop-test .taken) (i .0 .table) (sym (c .before .before .before .same-side .ensures) ∙ c .before .before .if1 .left) (c .wide2 .ensures) .0)
+
+returns-2 : tie.Need-returns-2 Inv-loop μ-loop
+returns-2 c = chase-none (c .before .loop .inv .1) (c .loop-test .left)
+
+pub find-spec : {M : Type 1} → statement M
+find-spec =
+    tie.close
+    (tie.spec
+    Inv-loop
+    μ-loop
+    slot-requires
+    add-h
+    mul-wide
+    shared-slice-read-wide
+    wide-requires
+    loop-holds
+    add-k
+    sub-k
+    mul-k
+    add-k-2
+    mul-same-side
+    shared-slice-read-same-side
+    add-same-side
+    mul-same-side-2
+    shared-slice-read-same-side-2
+    same-side-requires
+    returns
+    add-wide
+    mul-wide-2
+    shared-slice-read-wide-2
+    wide-requires-2
+    loop-less
+    loop-again
+    returns-2)

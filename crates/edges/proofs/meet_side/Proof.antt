@@ -1,0 +1,30 @@
+-- `edges::meet_side` meets its contract: each return opens the definition and rewrites it by the tests and the calls on its way; the laws are in proofs/Stored.
+use borrow.Author.Needs.{needs}
+use mathlib.Core.Path.{_≡_, refl, sym, _∙_}
+use native.Mathlib.Omega.{arith}
+use lib.ListN.{length-set}
+use Rattle.edges.proofs.Stored.{met-found, met-added, met-key, met-key′, met-three, found-key, found-key′}
+use Rattle.edges.proofs.meet_side.Statement.{statement}
+use Rattle.edges.proofs.meet_side.Tie as tie
+
+meet-requires : tie.Need-meet-requires
+meet-requires c κs = search needs
+
+same-length : tie.Need-same-length
+same-length c = search needs
+
+returns : tie.Need-returns
+returns c = met-key _ _ (c .before .before .before .before .if1 .taken) (c .before .before .meet .ensures)
+
+meet-requires-2 : tie.Need-meet-requires-2
+meet-requires-2 c κs = search needs
+
+same-length-2 : tie.Need-same-length-2
+same-length-2 c = search needs
+
+returns-2 : tie.Need-returns-2
+returns-2 c = met-key′ _ _ (c .before .before .before .before .if1 .left) (c .before .before .meet2 .ensures)
+
+pub meet-side-spec : {M : Type 1} → statement M
+meet-side-spec =
+    tie.close (tie.spec meet-requires same-length returns meet-requires-2 same-length-2 returns-2)

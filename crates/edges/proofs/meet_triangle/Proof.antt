@@ -1,0 +1,28 @@
+-- `edges::meet_triangle` meets its contract: each return opens the definition and rewrites it by the tests and the calls on its way; the laws are in proofs/Stored.
+use borrow.Author.Needs.{needs}
+use mathlib.Core.Path.{_≡_, refl, sym, _∙_}
+use native.Mathlib.Omega.{arith}
+use lib.ListN.{length-set}
+use Rattle.edges.proofs.Stored.{met-found, met-added, met-key, met-key′, met-three, found-key, found-key′}
+use Rattle.edges.proofs.meet_triangle.Statement.{statement}
+use Rattle.edges.proofs.meet_triangle.Tie as tie
+
+meet-side-requires : tie.Need-meet-side-requires
+meet-side-requires c κs = search needs
+
+meet-side-requires-2 : tie.Need-meet-side-requires-2
+meet-side-requires-2 c κs = search needs
+
+meet-side-requires-3 : tie.Need-meet-side-requires-3
+meet-side-requires-3 c κs = search needs
+
+same-length : tie.Need-same-length
+same-length c = search needs
+
+returns : tie.Need-returns
+returns c = met-three _ _ _ (c .before .before .before .before .before .before .before .before .before .before .meet-side .ensures) (c .before .before .before .before .before .before .meet-side2 .ensures) (c .before .before .meet-side3 .ensures)
+
+pub meet-triangle-spec : {M : Type 1} → statement M
+meet-triangle-spec =
+    tie.close
+    (tie.spec meet-side-requires meet-side-requires-2 meet-side-requires-3 same-length returns)

@@ -1,0 +1,151 @@
+// Sides of triangles, numbered in the order first met, lower end first: the Rust's HashMap of sides, and its list of them, in lent numbers.
+// The table stands in one slice w from `base` on: n buckets, then three numbers for each of its m sides (specs/Table.antt).
+// A search looks at the sides of one bucket only, a constant number in the mean if there are as many buckets as sides; that it finds the right
+// place is proved for any function that puts sides into buckets.
+ghost use mathlib.Core.Path.{_≡_};
+ghost use mathlib.Core.Bool.{_&&_};
+ghost use mathlib.Core.List.{List};
+ghost use Prim.Native.Nat.{ℕ, _+_, _*_, _<_, _≤_, _^_};
+ghost use lib.ListN.{length, getD, replicate};
+ghost use lib.Seq.{sets};
+ghost use lib.Dec.{eqb};
+ghost use Rattle.mesh.specs.Mesh.{Side, side, key, Tri, tri, place};
+ghost use Rattle.edges.specs.Table.{slotOf, seek, loOf, hiOf, sidesIn, Held, Met, MetTri, plus};
+
+pub struct Meeting {
+    // How many sides there are now.
+    pub sides: usize,
+    // The number of the side that was met.
+    pub number: usize,
+}
+
+pub struct Meetings {
+    pub sides: usize,
+    // The numbers of the sides a b, b c and c a.
+    pub ab: usize,
+    pub bc: usize,
+    pub ca: usize,
+}
+
+fn wide(x: u32) -> usize
+    ensures { λ r. ⌜ r ≡ x ⌝ }
+{
+    x as usize
+}
+
+// The bucket of a side.
+fn slot(n: usize, a: u32, b: u32) -> usize
+    requires { ⌜ (0 < n) × (n ≤ 2 ^ 32) ⌝ }
+    ensures { λ r. ⌜ (r ≡ slotOf n a b) × (r < n) ⌝ }
+{
+    (wide(a) * 1640531527 + wide(b) * 1172981867) % 0x1_0000_0000 * n / 0x1_0000_0000
+}
+
+fn same_side(a: u32, b: u32, c: u32, d: u32) -> bool
+    ensures { λ r. ⌜ r ≡ (eqb a c && eqb b d) ⌝ }
+{
+    a == c && b == d
+}
+
+// A table of n buckets with no sides.
+pub fn clear(w: &mut [u32], base: usize, n: usize)
+    requires { ⌜ ((0 < n) × (n ≤ 2 ^ 32)) × (base + n ≤ length (now w)) ⌝ }
+    ensures { λ _. ⌜ (now (w .exit) ≡ sets (now (w .entry)) base (replicate n 0)) × Held base n (now (w .exit)) 0 ⌝ }
+{
+    let mut i = 0;
+    while i < n {
+        w[base + i] = 0;
+        i += 1;
+    }
+}
+
+// One more than the number of the side a b among the first m, or 0.
+fn find(w: &[u32], base: usize, n: usize, m: usize, a: u32, b: u32) -> usize
+    requires { ⌜ Held base n (now w) m ⌝ }
+    ensures { λ r. ⌜ r ≡ seek (loOf base n (now (w .entry))) (hiOf base n (now (w .entry))) a b m ⌝ }
+{
+    let h = base + slot(n, a, b);
+    let mut at = wide(w[h]);
+    while at != 0 {
+        let k = base + n + 3 * (at - 1);
+        if same_side(w[k], w[k + 1], a, b) {
+            return at;
+        }
+        at = wide(w[k + 2]);
+    }
+    0
+}
+
+// One more than the number of the side of u and v among the first m, or 0.
+pub fn find_side(w: &[u32], base: usize, n: usize, m: usize, u: u32, v: u32) -> usize
+    requires { ⌜ Held base n (now w) m ⌝ }
+    ensures { λ r. ⌜ (r ≡ plus (place (key u v) (sidesIn base n (now (w .entry)) m))) × (r ≤ m) ⌝ }
+{
+    if u < v {
+        return find(w, base, n, m, u, v);
+    }
+    find(w, base, n, m, v, u)
+}
+
+// The side a b is met, lower end first.
+fn meet(w: &mut [u32], base: usize, n: usize, m: usize, a: u32, b: u32) -> Meeting
+    requires { ⌜ Held base n (now w) m ⌝ }
+    requires { ⌜ (base + n + 3 * (m + 1) ≤ length (now w)) × (m + 1 < 2 ^ 32) ⌝ }
+    ensures { λ r. ⌜ Met base n (now (w .entry)) m (now (w .exit)) (r .sides) (r .number) (side a b) ⌝ }
+{
+    let at = find(w, base, n, m, a, b);
+    if at != 0 {
+        return Meeting {
+            sides: m,
+            number: at - 1,
+        };
+    }
+    let h = base + slot(n, a, b);
+    let old = w[h];
+    let k = base + n + 3 * m;
+    w[k] = a;
+    w[k + 1] = b;
+    w[k + 2] = old;
+    w[h] = (m + 1) as u32;
+    Meeting {
+        sides: m + 1,
+        number: m,
+    }
+}
+
+// The side of u and v is met.
+pub fn meet_side(w: &mut [u32], base: usize, n: usize, m: usize, u: u32, v: u32) -> Meeting
+    requires { ⌜ Held base n (now w) m ⌝ }
+    requires { ⌜ (base + n + 3 * (m + 1) ≤ length (now w)) × (m + 1 < 2 ^ 32) ⌝ }
+    ensures { λ r. ⌜ Met base n (now (w .entry)) m (now (w .exit)) (r .sides) (r .number) (key u v) ⌝ }
+{
+    if u < v {
+        return meet(w, base, n, m, u, v);
+    }
+    meet(w, base, n, m, v, u)
+}
+
+// The sides a b, b c and c a of a triangle are met.
+pub fn meet_triangle(
+    w: &mut [u32],
+    base: usize,
+    n: usize,
+    m: usize,
+    a: u32,
+    b: u32,
+    c: u32,
+) -> Meetings
+    requires { ⌜ Held base n (now w) m ⌝ }
+    requires { ⌜ (base + n + 3 * (m + 3) ≤ length (now w)) × (m + 3 < 2 ^ 32) ⌝ }
+    ensures { λ r. ⌜ MetTri base n (now (w .entry)) m (now (w .exit)) (r .sides) (r .ab) (r .bc) (r .ca) (tri a b c) ⌝ }
+{
+    let p = meet_side(w, base, n, m, a, b);
+    let q = meet_side(w, base, n, p.sides, b, c);
+    let r = meet_side(w, base, n, q.sides, c, a);
+    Meetings {
+        sides: r.sides,
+        ab: p.number,
+        bc: q.number,
+        ca: r.number,
+    }
+}

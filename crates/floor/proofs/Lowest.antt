@@ -1,0 +1,43 @@
+-- The lowest index: a loop that has found none so far, one that finds it, and one that finds none. Assumes nothing.
+use Prim.Native.Nat.{ℕ, zero, suc, _+_, _-_, _≤_, _<_}
+use native.Mathlib.Omega.{arith}
+use native.Mathlib.Numerals.{add-one}
+use native.Mathlib.Decide.{ℕ-discrete}
+use mathlib.Core.Path.{_≡_, refl, sym, ap, _∙_, subst}
+use mathlib.Core.Bool.{Bool, true, false, cond}
+use borrow.Author.Tests.{lt-ltb, le-ltb}
+use lib.Dec.{ltb}
+use Rattle.floor.specs.Checks.{lowest}
+
+pub lowest-none : (p : ℕ → Bool) → 0 ≡ lowest p 0
+unfolding lowest
+lowest-none p = refl
+
+pub lowest-again : (p : ℕ → Bool) (i : ℕ) → i ≡ lowest p i → p i ≡ false → i + 1 ≡ lowest p (i + 1)
+unfolding lowest
+lowest-again p i e h = rw (add-one, ← e, le-ltb i i (omega arith), h)
+
+here : (p : ℕ → Bool) (i : ℕ) → i ≡ lowest p i → p i ≡ true → lowest p (suc i) ≡ i
+unfolding lowest
+here p i e h = rw (← e, le-ltb i i (omega arith), h)
+
+past : (p : ℕ → Bool) (i n : ℕ) → lowest p n ≡ i → i < n → lowest p (suc n) ≡ i
+unfolding lowest
+past p i n q l = rw (q, lt-ltb i n l)
+
+stays : (p : ℕ → Bool) (i k : ℕ) → i ≡ lowest p i → p i ≡ true → lowest p (suc (k + i)) ≡ i
+stays p i zero e h = let z : suc (0 + i) ≡ suc i = omega arith in ap (lowest p) z ∙ here p i e h
+stays p i (suc k) e h = let z : suc (suc k + i) ≡ suc (suc (k + i)) = omega arith in ap (lowest p) z ∙ past p i (suc (k + i)) (stays p i k e h) (omega arith)
+
+pub lowest-found : (p : ℕ → Bool) (i n : ℕ) → i ≡ lowest p i → p i ≡ true → i < n → i ≡ lowest p n
+lowest-found p i n e h l = let z : n ≡ suc ((n - suc i) + i) = omega arith in sym (ap (lowest p) z ∙ stays p i (n - suc i) e h)
+
+pub lowest-most : (p : ℕ → Bool) (n : ℕ) → lowest p n ≤ n
+unfolding lowest
+lowest-most p zero = omega arith
+lowest-most p (suc i) = go (ltb (lowest p i) i) (p i) (lowest-most p i)
+  where
+    go : (b c : Bool) → lowest p i ≤ i → cond b (lowest p i) (cond c i (suc i)) ≤ suc i
+    go true c h = omega arith
+    go false true h = omega arith
+    go false false h = omega arith

@@ -1,0 +1,51 @@
+-- `floor::first_bad_size` meets its contract: the loop keeps what `Inv-loop` says, and what is left to do falls at each turn; the laws are in proofs/Lowest.
+use borrow.Author.Needs.{needs}
+use Prim.Native.Nat.{_-_, _≤_}
+use mathlib.Core.Path.{_≡_, sym, ap, _∙_}
+use native.Mathlib.Omega.{arith}
+use lib.ListN.{length}
+use Rattle.floor.specs.Checks.{lowest, badPoint, badSize, badCorner}
+use Rattle.floor.proofs.Lowest.{lowest-none, lowest-again, lowest-found}
+use Rattle.floor.proofs.first_bad_size.Statement.{statement}
+use Rattle.floor.proofs.first_bad_size.Tie as tie
+
+abbrev Inv-loop : tie.InvT-loop
+Inv-loop sizes i₀ i = (i ≤ length sizes) × (i ≡ lowest (badSize sizes) i)
+
+abbrev μ-loop : tie.MeasureT-loop
+μ-loop sizes i₀ i = length sizes - i
+
+loop-holds : tie.Need-loop-holds Inv-loop μ-loop
+loop-holds c = (omega arith, lowest-none _)
+
+bad-size-requires : tie.Need-bad-size-requires Inv-loop μ-loop
+bad-size-requires c κs = search needs
+
+returns : tie.Need-returns Inv-loop μ-loop
+returns c = lowest-found _ _ _ (c .before .before .before .loop .inv .1) (sym (c .before .bad-size .ensures) ∙ c .if1 .taken) (c .before .before .loop-test .taken)
+
+add-i : tie.Need-add-i Inv-loop μ-loop
+add-i c = search needs
+
+loop-less : tie.Need-loop-less Inv-loop μ-loop
+loop-less c = search needs
+
+loop-again : tie.Need-loop-again Inv-loop μ-loop
+loop-again c = (omega arith, lowest-again _ _ (c .before .before .before .loop .inv .1) (sym (c .before .bad-size .ensures) ∙ c .if1 .left))
+
+returns-2 : tie.Need-returns-2 Inv-loop μ-loop
+returns-2 c = let e : c .before .loop .i ≡ length (c .before .before .before .args .sizes .now) = omega arith in c .before .loop .inv .1 ∙ ap (lowest (badSize (c .before .before .before .args .sizes .now))) e
+
+pub first-bad-size-spec : {M : Type 1} → statement M
+first-bad-size-spec =
+    tie.close
+    (tie.spec
+    Inv-loop
+    μ-loop
+    loop-holds
+    bad-size-requires
+    returns
+    add-i
+    loop-less
+    loop-again
+    returns-2)

@@ -1,0 +1,54 @@
+-- Rows 1 and 3 to 8 of document 01's table, as they are tested: what is wrong with a floor, and where first. Definitions only.
+use Prim.Native.Nat.{ℕ, zero, suc, _+_, _*_, _/_, _%_}
+use mathlib.Core.Bool.{Bool, true, false, not, cond, _&&_, _||_}
+use mathlib.Core.List.{List}
+use lib.Dec.{eqb, ltb, leb}
+use lib.ListN.{length, getD}
+use lib.Ieee.{Float, nan, le}
+use Rattle.float.specs.Double.{lit, isFinite}
+use Rattle.areas.specs.Points.{xOf, yOf}
+use Rattle.floor.specs.declared.Refusal.{Refusal}
+use Rattle.floor.specs.declared.Check.{Check}
+use Rattle.floor.specs.declared.Check.the-variants.{Sound, Refused}
+
+-- a refusal by its number in the table; its place is 0 where the table says "none"
+abbrev pub row : ℕ → Refusal
+row k = record { number = k; place = 0 }
+
+abbrev pub rowAt : ℕ → ℕ → Refusal
+rowAt k i = record { number = k; place = i }
+
+-- "within a row the lowest index is reported": the lowest index below n at which p holds, or n
+unfoldable pub lowest : (ℕ → Bool) → ℕ → ℕ
+lowest p zero = zero
+lowest p (suc i) = cond (ltb (lowest p i) i) (lowest p i) (cond (p i) i (suc i))
+
+-- row 1, of the lengths of the two slices: whole triples, at most 16,384 points and 32,768 triangles
+unfoldable pub wellFormed : ℕ → ℕ → Bool
+wellFormed numbers corners = eqb (numbers % 3) 0 && (eqb (corners % 3) 0 && (leb (numbers / 3) 16384 && leb (corners / 3) 32768))
+
+-- row 6
+unfoldable pub badPoint : List Float → ℕ → Bool
+badPoint points i = not (isFinite (xOf points i)) || not (isFinite (yOf points i))
+
+-- row 7
+unfoldable pub badSize : List Float → ℕ → Bool
+badSize sizes i = not (isFinite (getD sizes i nan)) || le (getD sizes i nan) (lit 0)
+
+-- row 8, with n points
+unfoldable pub badCorner : List ℕ → ℕ → ℕ → Bool
+badCorner triangles n i = leb n (getD triangles (3 * i) 0) || (leb n (getD triangles (3 * i + 1) 0) || leb n (getD triangles (3 * i + 2) 0))
+
+-- a row whose place is the lowest of n at which p holds, and the rows after it
+abbrev pub rowBy : ℕ → (ℕ → Bool) → ℕ → Check → Check
+rowBy k p n rest = cond (ltb (lowest p n) n) (Refused (rowAt k (lowest p n))) rest
+
+-- rows 3 to 8, in table order
+unfoldable pub checkFloor : List Float → List ℕ → List Float → Check
+checkFloor points triangles sizes =
+    cond (eqb (length points / 3) 0) (Refused (row 3))
+    (cond (eqb (length triangles / 3) 0) (Refused (row 4))
+    (cond (not (eqb (length sizes) (length points / 3))) (Refused (row 5))
+    (rowBy 6 (badPoint points) (length points / 3)
+    (rowBy 7 (badSize sizes) (length sizes)
+    (rowBy 8 (badCorner triangles (length points / 3)) (length triangles / 3) Sound)))))

@@ -1,0 +1,152 @@
+// What is wrong with a floor, by document 01's table: rows 1 and 3 to 8, tested in table order, the lowest index first.
+ghost use mathlib.Core.Path.{_≡_};
+ghost use mathlib.Core.Bool.{Bool, not};
+ghost use Prim.Native.Nat.{_+_, _*_, _/_, _≤_};
+ghost use lib.ListN.{length, getD};
+ghost use lib.Ieee.{nan};
+ghost use Rattle.floor.specs.Checks.{lowest, wellFormed, badPoint, badSize, badCorner, rowAt, checkFloor};
+
+// A row of the table, and the place that it reports: 0 where the table says "none".
+pub struct Refusal {
+    pub number: u64,
+    pub place: u64,
+}
+
+pub enum Check {
+    Sound,
+    Refused(Refusal),
+}
+
+// The number at i, and a NaN past the end.
+pub fn read(s: &[f64], i: usize) -> f64
+    ensures { λ r. ⌜ r ≡ getD (now (s .entry)) i nan ⌝ }
+{
+    if i < s.len() {
+        return s[i];
+    }
+    0.0 / 0.0
+}
+
+// Row 1, of the lengths of the point and the triangle slice.
+pub fn well_formed(numbers: usize, corners: usize) -> bool
+    ensures { λ r. ⌜ r ≡ wellFormed numbers corners ⌝ }
+{
+    if numbers % 3 != 0 {
+        return false;
+    }
+    if corners % 3 != 0 {
+        return false;
+    }
+    numbers / 3 <= 16384 && corners / 3 <= 32768
+}
+
+fn bad_point(points: &[f64], i: usize) -> bool
+    requires { ⌜ 3 * i + 1 ≤ length (now points) ⌝ }
+    ensures { λ r. ⌜ r ≡ badPoint (now (points .entry)) i ⌝ }
+{
+    !float::is_finite(read(points, 3 * i)) || !float::is_finite(read(points, 3 * i + 1))
+}
+
+fn bad_size(sizes: &[f64], i: usize) -> bool
+    ensures { λ r. ⌜ r ≡ badSize (now (sizes .entry)) i ⌝ }
+{
+    let size = read(sizes, i);
+    !float::is_finite(size) || size <= 0.0
+}
+
+fn bad_corner(triangles: &[u32], n: usize, i: usize) -> bool
+    requires { ⌜ 3 * i + 3 ≤ length (now triangles) ⌝ }
+    ensures { λ r. ⌜ r ≡ badCorner (now (triangles .entry)) n i ⌝ }
+{
+    let a = mesh::index(triangles[3 * i]);
+    let b = mesh::index(triangles[3 * i + 1]);
+    let c = mesh::index(triangles[3 * i + 2]);
+    if n <= a {
+        return true;
+    }
+    n <= b || n <= c
+}
+
+// Row 6: the lowest point that is not finite, or n.
+pub fn first_bad_point(points: &[f64], n: usize) -> usize
+    requires { ⌜ 3 * n ≤ length (now points) ⌝ }
+    ensures { λ r. ⌜ r ≡ lowest (badPoint (now (points .entry))) n ⌝ }
+{
+    let mut i = 0;
+    while i < n {
+        if bad_point(points, i) {
+            return i;
+        }
+        i += 1;
+    }
+    i
+}
+
+// Row 7: the lowest size that is not finite and positive, or how many there are.
+pub fn first_bad_size(sizes: &[f64]) -> usize
+    ensures { λ r. ⌜ r ≡ lowest (badSize (now (sizes .entry))) (length (now (sizes .entry))) ⌝ }
+{
+    let mut i = 0;
+    while i < sizes.len() {
+        if bad_size(sizes, i) {
+            return i;
+        }
+        i += 1;
+    }
+    i
+}
+
+// Row 8: the lowest triangle with a corner at or above n, or t.
+pub fn first_bad_corner(triangles: &[u32], t: usize, n: usize) -> usize
+    requires { ⌜ 3 * t ≤ length (now triangles) ⌝ }
+    ensures { λ r. ⌜ r ≡ lowest (badCorner (now (triangles .entry)) n) t ⌝ }
+{
+    let mut i = 0;
+    while i < t {
+        if bad_corner(triangles, n, i) {
+            return i;
+        }
+        i += 1;
+    }
+    i
+}
+
+// A refusal by its row and place.
+pub fn refused(number: u64, place: usize) -> Check
+    ensures { λ r. ⌜ r ≡ Check.Refused (rowAt number place) ⌝ }
+{
+    Check::Refused(Refusal {
+        number,
+        place: place as u64,
+    })
+}
+
+// Rows 3 to 8.
+pub fn check_floor(points: &[f64], triangles: &[u32], sizes: &[f64]) -> Check
+    ensures { λ r. ⌜ r ≡ checkFloor (now (points .entry)) (now (triangles .entry)) (now (sizes .entry)) ⌝ }
+{
+    let n = points.len() / 3;
+    let t = triangles.len() / 3;
+    if n == 0 {
+        return refused(3, 0);
+    }
+    if t == 0 {
+        return refused(4, 0);
+    }
+    if sizes.len() != n {
+        return refused(5, 0);
+    }
+    let p = first_bad_point(points, n);
+    if p < n {
+        return refused(6, p);
+    }
+    let s = first_bad_size(sizes);
+    if s < sizes.len() {
+        return refused(7, s);
+    }
+    let c = first_bad_corner(triangles, t, n);
+    if c < t {
+        return refused(8, c);
+    }
+    Check::Sound
+}

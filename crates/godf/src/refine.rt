@@ -1,0 +1,69 @@
+// The refinement call, with the angles given. A slice is a pointer and a length.
+ghost use mathlib.Core.Path.{_≡_};
+ghost use mathlib.Core.List.{List, [], _∷_};
+ghost use lib.ListN.{length, set};
+ghost use lib.Seq.{sets};
+ghost use Rattle.refinement.specs.Floor.{refinementOf, trisOf};
+ghost use Rattle.refine_call.specs.Call.{checkCall, answerOf, Called};
+ghost use Rattle.godf.specs.Report.{codeOf, numbersOf};
+
+// x at i, if the slice goes so far.
+fn put(report: &mut [u64], i: usize, x: u64)
+    ensures { λ _. ⌜ now (report .exit) ≡ set (now (report .entry)) i x ⌝ }
+{
+    if i < report.len() {
+        report[i] = x;
+    }
+}
+
+fn put_four(report: &mut [u64], a: u64, b: u64, c: u64, d: u64)
+    ensures { λ _. ⌜ now (report .exit) ≡ sets (now (report .entry)) 0 (a ∷ b ∷ c ∷ d ∷ []) ⌝ }
+{
+    put(report, 0, a);
+    put(report, 1, b);
+    put(report, 2, c);
+    put(report, 3, d);
+}
+
+// Tells an answer: its code, and as many of its four numbers as the slice has room for.
+fn tell(answer: refine_call::Answer, report: &mut [u64]) -> u64
+    ensures { λ r. ⌜ (r ≡ codeOf answer) × (now (report .exit) ≡ sets (now (report .entry)) 0 (numbersOf answer)) ⌝ }
+{
+    match answer {
+        refine_call::Answer::Refinement(c) => {
+            put_four(
+                report,
+                c.points as u64,
+                c.triangles as u64,
+                c.flagged as u64,
+                c.cut as u64,
+            );
+            0
+        }
+        refine_call::Answer::Refusal { number, place } => {
+            put_four(report, place, 0, 0, 0);
+            number
+        }
+    }
+}
+
+// Refinement with the angles given: refine_call::refine. 0 and the counts of points, triangles, flagged triangles and cut sides in `report`, or the number of a refusal and its place.
+#[no_mangle]
+pub extern "C" fn godf_refine(
+    points: &[f64],
+    triangles: &[u32],
+    sizes: &[f64],
+    angles: &[f64],
+    threshold: f64,
+    op: &mut [f64],
+    os: &mut [f64],
+    ot: &mut [u32],
+    oe: &mut [u32],
+    report: &mut [u64],
+) -> u64
+    ensures called { λ r. ⌜ Called (checkCall (now (points .entry)) (now (triangles .entry)) (now (sizes .entry)) (length (now (angles .entry))) threshold (length (now (op .entry))) (length (now (os .entry))) (length (now (ot .entry))) (length (now (oe .entry)))) (refinementOf threshold (now (angles .entry)) (now (points .entry)) (now (sizes .entry)) (trisOf (now (triangles .entry)))) (now (op .entry)) (now (os .entry)) (now (ot .entry)) (now (oe .entry)) (answerOf (checkCall (now (points .entry)) (now (triangles .entry)) (now (sizes .entry)) (length (now (angles .entry))) threshold (length (now (op .entry))) (length (now (os .entry))) (length (now (ot .entry))) (length (now (oe .entry)))) (refinementOf threshold (now (angles .entry)) (now (points .entry)) (now (sizes .entry)) (trisOf (now (triangles .entry))))) (now (op .exit)) (now (os .exit)) (now (ot .exit)) (now (oe .exit)) ⌝ }
+    ensures told { λ r. ⌜ (r ≡ codeOf (answerOf (checkCall (now (points .entry)) (now (triangles .entry)) (now (sizes .entry)) (length (now (angles .entry))) threshold (length (now (op .entry))) (length (now (os .entry))) (length (now (ot .entry))) (length (now (oe .entry)))) (refinementOf threshold (now (angles .entry)) (now (points .entry)) (now (sizes .entry)) (trisOf (now (triangles .entry)))))) × (now (report .exit) ≡ sets (now (report .entry)) 0 (numbersOf (answerOf (checkCall (now (points .entry)) (now (triangles .entry)) (now (sizes .entry)) (length (now (angles .entry))) threshold (length (now (op .entry))) (length (now (os .entry))) (length (now (ot .entry))) (length (now (oe .entry)))) (refinementOf threshold (now (angles .entry)) (now (points .entry)) (now (sizes .entry)) (trisOf (now (triangles .entry))))))) ⌝ }
+{
+    let answer = refine_call::refine(points, triangles, sizes, angles, threshold, op, os, ot, oe);
+    tell(answer, report)
+}

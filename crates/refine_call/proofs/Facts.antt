@@ -1,0 +1,222 @@
+-- What an accepted call knows of its slices, and what they hold when it is done. Assumes nothing.
+use Prim.Native.Nat.{ℕ, zero, suc, _+_, _*_, _/_, _%_, _≤_, _<_}
+use native.Mathlib.Nat.{div-add-mod'}
+use native.Mathlib.Omega.{arith}
+use mathlib.Core.Path.{_≡_, refl, sym, ap, _∙_, subst}
+use mathlib.Core.Bool.{Bool, true, false, not, cond, _&&_, _||_}
+use mathlib.Core.List.{List, [], _∷_, _++_}
+use mathlib.Core.Option.{Option}
+use borrow.Author.Tests.{eqb-true, ltb-false, leb-true}
+use lib.Dec.{T, eqb, ltb, leb}
+use lib.ListN.{length, length-append, replicate, length-replicate, getD-replicate}
+use lib.Seq.{sets}
+use lib.Ieee.{Float}
+use Rattle.mesh.specs.Mesh.{Tri, Side, mid, cuts, marked, refine, refined, pieces}
+use Rattle.areas.specs.Points.{midpoints, midSizes, morePoints, moreSizes}
+use Rattle.edges.specs.Table.{Held, sidesIn, loOf, hiOf, last, pairs}
+use Rattle.edges.proofs.Chain.{length-pairs}
+use Rattle.floor.specs.declared.Refusal.{Refusal}
+use Rattle.floor.specs.declared.Check.{Check}
+use Rattle.floor.specs.declared.Check.the-variants.{Sound, Refused}
+use Rattle.floor.specs.Checks.{row, wellFormed, checkFloor}
+use Rattle.refinement.specs.Flag.{flaggedTri}
+use Rattle.refinement.specs.Floor.{tris, trisOf, cornersOf, endsOf, over, Refined, refinementOf}
+use Rattle.refinement.specs.Steps.{CutTo}
+use Rattle.refinement.proofs.Runs.{front}
+use Rattle.refine_floor.proofs.Parts.{four, corners-length, ends-length, mids-length, sizes-length}
+use Rattle.refine_call.specs.declared.Counts.{Counts}
+use Rattle.refine_call.specs.declared.Answer.{Answer}
+use Rattle.refine_call.specs.declared.Answer.the-variants.{Refinement}
+use Rattle.refine_call.specs.Call.{passedUp, Called, badThreshold, short, andThen, checkRest, checkCall, countsOf, Filled, Roomy}
+
+-- ---- tests
+
+no : {A : Type 0} (x : Refusal) → Refused x ≡ Sound → A
+no x e = let z : _≡_ {A = ℕ} 0 1 = cc in absurd (omega arith)
+
+passed : (b : Bool) (x : Refusal) (rest : Check) → cond b (Refused x) rest ≡ Sound → (b ≡ false) × (rest ≡ Sound)
+passed true x rest e = no x e
+passed false x rest e = (refl, e)
+
+passed-last : (b : Bool) (x : Refusal) (rest : Check) → cond b rest (Refused x) ≡ Sound → (b ≡ true) × (rest ≡ Sound)
+passed-last true x rest e = (refl, e)
+passed-last false x rest e = no x e
+
+passed-both : (c rest : Check) → andThen c rest ≡ Sound → (c ≡ Sound) × (rest ≡ Sound)
+passed-both Sound rest e = (refl, e)
+passed-both (Refused x) rest e = no x e
+
+and-both : (a b : Bool) → (a && b) ≡ true → (a ≡ true) × (b ≡ true)
+and-both true b e = (refl, e)
+and-both false b e = let z : _≡_ {A = ℕ} 0 1 = cc in absurd (omega arith)
+
+or-none : (a b : Bool) → (a || b) ≡ false → (a ≡ false) × (b ≡ false)
+or-none false b e = (refl, e)
+or-none true b e = let z : _≡_ {A = ℕ} 0 1 = cc in absurd (omega arith)
+
+pub not-true : (a : Bool) → not a ≡ true → a ≡ false
+not-true false e = refl
+not-true true e = let z : _≡_ {A = ℕ} 0 1 = cc in absurd (omega arith)
+
+pub not-false : (a : Bool) → not a ≡ false → a ≡ true
+not-false true e = refl
+not-false false e = let z : _≡_ {A = ℕ} 0 1 = cc in absurd (omega arith)
+
+pub formed : (p q : ℕ) → wellFormed p q ≡ true → (p / 3 ≤ 16384) × (q / 3 ≤ 32768)
+unfolding wellFormed
+formed p q e =
+    let a = and-both (eqb (p % 3) 0) _ e in
+    let b = and-both (eqb (q % 3) 0) _ (a .1) in
+    let c = and-both (leb (p / 3) 16384) _ (b .1) in
+    (leb-true (p / 3) 16384 (c .0), leb-true (q / 3) 32768 (c .1))
+
+whole-points : (p q : ℕ) → wellFormed p q ≡ true → p ≡ 3 * (p / 3)
+unfolding wellFormed
+whole-points p q e =
+    let a = eqb-true (p % 3) 0 (and-both (eqb (p % 3) 0) _ e .0) in
+    omega (arith, div-add-mod' p 3, a)
+
+sizes-are : (points : List Float) (triangles : List ℕ) (sizes : List Float) → checkFloor points triangles sizes ≡ Sound → length sizes ≡ length points / 3
+unfolding checkFloor
+sizes-are points triangles sizes e =
+    let a = passed (eqb (length points / 3) 0) (row 3) _ e in
+    let b = passed (eqb (length triangles / 3) 0) (row 4) _ (a .1) in
+    let c = passed (not (eqb (length sizes) (length points / 3))) (row 5) _ (b .1) in
+    eqb-true (length sizes) (length points / 3) (not-false _ (c .0))
+
+record Long (n t op os ot oe : ℕ) : Type 0 where
+  in-points : 3 * (n + 3 * t) ≤ op
+  in-sizes : n + 3 * t ≤ os
+  in-triangles : 12 * t ≤ ot
+  in-ends : 8 * t ≤ oe
+
+long : (n t op os ot oe : ℕ) → short n t op os ot oe ≡ false → Long n t op os ot oe
+unfolding short
+long n t op os ot oe e =
+    let a = or-none (ltb op (3 * (n + 3 * t))) _ e in
+    let b = or-none (ltb os (n + 3 * t)) _ (a .1) in
+    let c = or-none (ltb ot (12 * t)) _ (b .1) in
+    record {
+      in-points = ltb-false op (3 * (n + 3 * t)) (a .0);
+      in-sizes = ltb-false os (n + 3 * t) (b .0);
+      in-triangles = ltb-false ot (12 * t) (c .0);
+      in-ends = ltb-false oe (8 * t) (c .1);
+    }
+
+rest-long : (n t angles : ℕ) (threshold : Float) (op os ot oe : ℕ) → checkRest n t angles threshold op os ot oe ≡ Sound → Long n t op os ot oe
+unfolding checkRest
+rest-long n t angles threshold op os ot oe e =
+    let a = passed (not (eqb angles n)) (row 5) _ e in
+    let b = passed (badThreshold threshold) (row 12) _ (a .1) in
+    long n t op os ot oe (passed (short n t op os ot oe) (row 18) Sound (b .1) .0)
+
+pub roomy : (points : List Float) (triangles : List ℕ) (sizes : List Float) (angles : ℕ) (threshold : Float) (op os ot oe : ℕ)
+    → checkCall points triangles sizes angles threshold op os ot oe ≡ Sound → Roomy (length points) (length triangles) (length sizes) op os ot oe
+unfolding checkCall
+roomy points triangles sizes angles threshold op os ot oe e =
+    let a = passed-last (wellFormed (length points) (length triangles)) _ _ e in
+    let b = passed-both (checkFloor points triangles sizes) _ (a .1) in
+    let f = formed (length points) (length triangles) (a .0) in
+    let l = rest-long (length points / 3) (length triangles / 3) angles threshold op os ot oe (b .1) in
+    record {
+      whole = whole-points (length points) (length triangles) (a .0);
+      few-points = f .0;
+      few-triangles = f .1;
+      sized = sizes-are points triangles sizes (b .0);
+      in-points = l .in-points;
+      in-sizes = l .in-sizes;
+      in-triangles = l .in-triangles;
+      in-ends = l .in-ends;
+    }
+
+-- ---- lengths
+
+tris-length : (l : List ℕ) (i : ℕ) → length (tris l i) ≡ i
+unfolding tris
+tris-length l zero = refl
+tris-length l (suc i) = length-append (tris l i) _ ∙ omega (arith, tris-length l i)
+
+refined-most : (m : ℕ → ℕ → Option ℕ) (ts : List Tri) → length (refined m ts) ≤ 4 * length ts
+refined-most m [] = omega arith
+refined-most m (t ∷ ts) = omega (arith, length-append (pieces m t) (refined m ts), four m t, refined-most m ts)
+
+points-length : (pts : List Float) (l : List Side) → length (morePoints pts l) ≡ length pts + 3 * length l
+unfolding morePoints
+points-length pts l = length-append pts (midpoints pts l) ∙ omega (arith, mids-length pts l)
+
+all-sizes : (zs : List Float) (l : List Side) → length (moreSizes zs l) ≡ length zs + length l
+unfolding moreSizes
+all-sizes zs l = length-append zs (midSizes zs l) ∙ omega (arith, sizes-length zs l)
+
+counts-same : {p p′ k k′ c c′ m m′ : ℕ} → p ≡ p′ → k ≡ k′ → c ≡ c′ → m ≡ m′
+    → _≡_ {A = Counts} (record { points = p; triangles = k; flagged = c; cut = m }) (record { points = p′; triangles = k′; flagged = c′; cut = m′ })
+counts-same e₁ e₂ e₃ e₄ = rw (e₁, e₂, e₃, e₄)
+
+third : (a b : ℕ) → a ≡ 3 * b → b ≡ a / 3
+third a b e = omega arith
+
+-- ---- from a check to an answer
+
+pub rest-sound : (c rest r : Check) → c ≡ Sound → r ≡ rest → r ≡ andThen c rest
+rest-sound c rest r e h = rw e h
+
+pub rest-refused : (c rest : Check) (x : Refusal) → c ≡ Refused x → c ≡ andThen c rest
+rest-refused c rest x e = rw e
+
+pub called-refused : {r : Refined} {op os : List Float} {ot oe : List ℕ} {a : Answer} (c c′ : Check) (x : Refusal) → c ≡ c′ → c ≡ Refused x → a ≡ passedUp c → Called c′ r op os ot oe a op os ot oe
+called-refused c c′ x e h g = let z : c′ ≡ Refused x = sym e ∙ h in rw z (record { answer = g ∙ ap passedUp h; points = refl; sizes = refl; triangles = refl; ends = refl })
+
+pub called-done : {r : Refined} {op os op′ os′ : List Float} {ot oe ot′ oe′ : List ℕ} {a : Counts} (c c′ : Check) → c ≡ c′ → c ≡ Sound → Filled r op os ot oe a op′ os′ ot′ oe′ → Called c′ r op os ot oe (Refinement a) op′ os′ ot′ oe′
+called-done c c′ e h g =
+    let z : c′ ≡ Sound = sym e ∙ h in
+    rw z (record { answer = ap Refinement (g .counts); points = g .points; sizes = g .sizes; triangles = g .triangles; ends = g .ends })
+
+-- ---- an empty table
+
+pub zeros-held : Held 0 65536 (replicate {A = ℕ} 360448 0) 0 × (length (replicate {A = ℕ} 360448 0) ≡ 360448)
+unfolding last pairs
+zeros-held = (
+  record {
+    buckets = omega arith;
+    narrow = omega arith;
+    room = omega (arith, length-replicate {A = ℕ} 360448 0);
+    table = record { heads = λ h l. getD-replicate {A = ℕ} 360448 (0 + h) 0 0 (omega arith); links = λ k l. absurd (omega arith) };
+    numbered = λ k l. absurd (omega arith);
+  },
+  length-replicate {A = ℕ} 360448 0,
+)
+
+-- ---- what is written
+
+module _ (threshold : Float) (angles points sizes : List Float) (l : List ℕ) where
+  f : Tri → Bool
+  f = flaggedTri threshold angles
+
+  n : ℕ
+  n = length points / 3
+
+  t : ℕ
+  t = length l / 3
+
+  pub filled : {w w′ : List ℕ} {m k c : ℕ} {op os op′ os′ : List Float} {ot oe ot′ oe′ : List ℕ}
+      → Roomy (length points) (length l) (length sizes) (length op) (length os) (length ot) (length oe)
+      → CutTo 0 65536 (flaggedTri threshold angles) l (length l / 3) w w′ m c
+      → (ot′ ≡ sets ot 0 (cornersOf (refined (mid (length points / 3) (sidesIn 0 65536 w′ m)) (tris l (length l / 3))))) × (k ≡ length (refined (mid (length points / 3) (sidesIn 0 65536 w′ m)) (tris l (length l / 3))))
+      → (op′ ≡ sets op 0 (morePoints points (sidesIn 0 65536 w′ m))) × ((os′ ≡ sets os 0 (moreSizes sizes (sidesIn 0 65536 w′ m))) × (oe′ ≡ sets oe 0 (endsOf (sidesIn 0 65536 w′ m))))
+      → Filled (refinementOf threshold angles points sizes (trisOf l)) op os ot oe (record { points = length points / 3 + m; triangles = k; flagged = c; cut = m }) op′ os′ ot′ oe′
+  unfolding f n t refinementOf refine
+  filled {w} {w′} {m} {k} {c} {op} {os} {ot = ot} {oe} room cut tri put =
+      let L = cuts f (trisOf l) in
+      let s : sidesIn 0 65536 w′ m ≡ cuts f (trisOf l) = cut .all-cut in
+      let len : m ≡ length (cuts f (trisOf l)) = sym (length-pairs (loOf 0 65536 w′) (hiOf 0 65536 w′) m) ∙ ap length s in
+      let new = refined (mid n L) (trisOf l) in
+      let many : length new ≤ 4 * t = subst (λ (z : ℕ). length new ≤ 4 * z) (tris-length l t) (refined-most (mid n L) (trisOf l)) in
+      let p = points-length points L in
+      let z = all-sizes sizes L in
+      record {
+        counts = counts-same (third (length (morePoints points L)) (n + m) (omega (arith, p, room .whole, len))) (rw s at (tri .1)) (cut .counted) len;
+        points = rw s at (put .0) ∙ front op (morePoints points L) (omega (arith, p, room .whole, len, room .in-points, cut .few));
+        sizes = rw s at (put .1 .0) ∙ front os (moreSizes sizes L) (omega (arith, z, room .sized, len, room .in-sizes, cut .few));
+        triangles = rw s at (tri .0) ∙ front ot (cornersOf new) (omega (arith, corners-length new, many, room .in-triangles));
+        ends = rw s at (put .1 .1) ∙ front oe (endsOf L) (omega (arith, ends-length L, len, cut .few, room .in-ends));
+      }

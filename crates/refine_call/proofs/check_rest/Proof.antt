@@ -1,0 +1,54 @@
+-- `refine_call::check_rest` meets its contract: each return opens the definition and rewrites it by the tests and the calls on its way; the laws are in proofs/Facts.
+use borrow.Author.Needs.{needs}
+use mathlib.Core.Path.{_≡_, refl, sym, ap, _∙_, subst}
+use native.Mathlib.Omega.{arith}
+use borrow.Author.Tests.{eq-eqb, ne-eqb, le-ltb, lt-ltb}
+use Rattle.refine_call.specs.Call.{badThreshold, short, andThen, checkRest, checkCall, passedUp, Roomy}
+use Rattle.refine_call.proofs.Facts.{formed, roomy, zeros-held, filled, called-refused, called-done, rest-sound, rest-refused}
+use Rattle.refine_call.proofs.check_rest.Statement.{statement}
+use Rattle.refine_call.proofs.check_rest.Tie as tie
+
+refused-requires : tie.Need-refused-requires
+refused-requires c κs = search needs
+
+returns : tie.Need-returns
+unfolding checkRest
+returns c = simp (ne-eqb _ _ (c .before .if1 .taken)) (c .refused .ensures)
+
+bad-threshold-requires : tie.Need-bad-threshold-requires
+bad-threshold-requires c κs = search needs
+
+refused-requires-2 : tie.Need-refused-requires-2
+refused-requires-2 c κs = search needs
+
+returns-2 : tie.Need-returns-2
+unfolding checkRest
+returns-2 c = simp (eq-eqb _ _ (c .before .before .before .if1 .left), ← c .before .before .bad-threshold .ensures, c .before .if2 .taken) (c .refused2 .ensures)
+
+is-short-requires : tie.Need-is-short-requires
+is-short-requires c κs = search needs
+
+refused-requires-3 : tie.Need-refused-requires-3
+refused-requires-3 c κs = search needs
+
+returns-3 : tie.Need-returns-3
+unfolding checkRest
+returns-3 c = simp (eq-eqb _ _ (c .before .before .before .before .before .if1 .left), ← c .before .before .before .before .bad-threshold .ensures, c .before .before .before .if2 .left, ← c .before .before .is-short .ensures, c .before .if3 .taken) (c .refused3 .ensures)
+
+returns-4 : tie.Need-returns-4
+unfolding checkRest
+returns-4 c = simp (eq-eqb _ _ (c .before .before .before .before .if1 .left), ← c .before .before .before .bad-threshold .ensures, c .before .before .if2 .left, ← c .before .is-short .ensures, c .if3 .left)
+
+pub check-rest-spec : {M : Type 1} → statement M
+check-rest-spec =
+    tie.close
+    (tie.spec
+    refused-requires
+    returns
+    bad-threshold-requires
+    refused-requires-2
+    returns-2
+    is-short-requires
+    refused-requires-3
+    returns-3
+    returns-4)

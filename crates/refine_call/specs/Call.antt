@@ -1,0 +1,88 @@
+-- The refinement call, with the angles given: what it answers, and what it leaves in its four result slices. Document 01, "Refinement is also a call
+-- of its own". Definitions only.
+use Prim.Native.Nat.{ℕ, _+_, _*_, _/_, _≤_}
+use mathlib.Core.Path.{_≡_}
+use mathlib.Core.Bool.{Bool, not, cond, _||_}
+use mathlib.Core.List.{List}
+use lib.Dec.{eqb, ltb}
+use lib.ListN.{length}
+use lib.Seq.{sets}
+use lib.Ieee.{Float, lt}
+use Rattle.float.specs.Double.{lit, isFinite}
+use Rattle.floor.specs.declared.Check.{Check}
+use Rattle.floor.specs.declared.Check.the-variants.{Sound, Refused}
+use Rattle.floor.specs.Checks.{row, wellFormed, checkFloor}
+use Rattle.refinement.specs.Floor.{Refined, refinementOf, trisOf, cornersOf, endsOf, over}
+use Rattle.refine_call.specs.declared.Counts.{Counts}
+use Rattle.refine_call.specs.declared.Answer.{Answer}
+use Rattle.refine_call.specs.declared.Answer.the-variants.{Refinement, Refusal}
+
+-- row 12
+unfoldable pub badThreshold : Float → Bool
+badThreshold threshold = not (isFinite threshold) || lt threshold (lit 0)
+
+-- row 18, of n points, t triangles and the lengths of the four result slices: n' = n + 3 t points and sizes, t' = 4 t triangles, 4 t cut sides of two ends
+unfoldable pub short : ℕ → ℕ → ℕ → ℕ → ℕ → ℕ → Bool
+short n t points sizes triangles ends = ltb points (3 * (n + 3 * t)) || (ltb sizes (n + 3 * t) || (ltb triangles (12 * t) || ltb ends (8 * t)))
+
+-- the rows after those that a check has passed
+abbrev pub andThen : Check → Check → Check
+andThen Sound rest = rest
+andThen (Refused r) rest = Refused r
+
+-- what follows the rows of the floor: 5 by the count of angles, 12 and 18
+unfoldable pub checkRest : ℕ → ℕ → ℕ → Float → ℕ → ℕ → ℕ → ℕ → Check
+checkRest n t angles threshold op os ot oe =
+    cond (not (eqb angles n)) (Refused (row 5))
+    (cond (badThreshold threshold) (Refused (row 12))
+    (cond (short n t op os ot oe) (Refused (row 18)) Sound))
+
+-- rows 1 and 3 to 8, then 5, 12 and 18
+unfoldable pub checkCall : List Float → List ℕ → List Float → ℕ → Float → ℕ → ℕ → ℕ → ℕ → Check
+checkCall points triangles sizes angles threshold op os ot oe =
+    cond (wellFormed (length points) (length triangles)) (andThen (checkFloor points triangles sizes) (checkRest (length points / 3) (length triangles / 3) angles threshold op os ot oe)) (Refused (row 1))
+
+-- document 01's number and place of a refusal, and the counts of an accepted call
+abbrev pub countsOf : Refined → Counts
+countsOf r = record { points = length (r .points) / 3; triangles = length (r .triangles); flagged = r .flagged; cut = length (r .cut) }
+
+-- a refusal found below is passed up with its number and place
+abbrev pub passedUp : Check → Answer
+passedUp Sound = Refusal 0 0
+passedUp (Refused x) = Refusal (x .number) (x .place)
+
+abbrev pub answerOf : Check → Refined → Answer
+answerOf Sound r = Refinement (countsOf r)
+answerOf (Refused x) r = passedUp (Refused x)
+
+-- refused, a slice is as it was; accepted, its front is filled and the rest stays
+abbrev pub left : {A : Type 0} → Check → List A → List A → List A
+left Sound new old = over new old
+left (Refused x) new old = old
+
+-- what is found, c, and the floor that is made, r, decide the answer a and the four result slices
+pub record Called (c : Check) (r : Refined) (op os : List Float) (ot oe : List ℕ) (a : Answer) (op′ os′ : List Float) (ot′ oe′ : List ℕ) : Type 0 where
+  pub answer : a ≡ answerOf c r
+  pub points : op′ ≡ left c (r .points) op
+  pub sizes : os′ ≡ left c (r .sizes) os
+  pub triangles : ot′ ≡ left c (cornersOf (r .triangles)) ot
+  pub ends : oe′ ≡ left c (endsOf (r .cut)) oe
+
+-- the four slices of an accepted call, as runs of stores
+pub record Filled (r : Refined) (op os : List Float) (ot oe : List ℕ) (a : Counts) (op′ os′ : List Float) (ot′ oe′ : List ℕ) : Type 0 where
+  pub counts : a ≡ countsOf r
+  pub points : op′ ≡ over (r .points) op
+  pub sizes : os′ ≡ over (r .sizes) os
+  pub triangles : ot′ ≡ over (cornersOf (r .triangles)) ot
+  pub ends : oe′ ≡ over (endsOf (r .cut)) oe
+
+-- there is room: what rows 1, 5 and 18 leave
+pub record Roomy (points corners sizes op os ot oe : ℕ) : Type 0 where
+  pub whole : points ≡ 3 * (points / 3)
+  pub few-points : points / 3 ≤ 16384
+  pub few-triangles : corners / 3 ≤ 32768
+  pub sized : sizes ≡ points / 3
+  pub in-points : 3 * (points / 3 + 3 * (corners / 3)) ≤ op
+  pub in-sizes : points / 3 + 3 * (corners / 3) ≤ os
+  pub in-triangles : 12 * (corners / 3) ≤ ot
+  pub in-ends : 8 * (corners / 3) ≤ oe

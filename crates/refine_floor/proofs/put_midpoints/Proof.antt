@@ -1,0 +1,64 @@
+-- `refine_floor::put_midpoints` meets its contract: the loop keeps what `Inv-loop` says, and what is left to do falls at each turn; the laws are in proofs/Parts.
+use borrow.Author.Needs.{needs}
+use Prim.Native.Nat.{_+_, _-_, _*_, _≤_}
+use mathlib.Core.Path.{_≡_, refl, sym, ap, _∙_}
+use native.Mathlib.Omega.{arith}
+use native.Mathlib.Numerals.{add-one}
+use lib.ListN.{length, take, length-set}
+use lib.Seq.{sets, length-sets, take-length}
+use Rattle.refine_floor.proofs.Parts.{pieces-put, refined-none, refined-again, ends-none, ends-again, mids-none, mids-again, points-done, sizes-none, sizes-again, sizes-done}
+use Rattle.edges.specs.Table.{sidesIn}
+use Rattle.mesh.specs.Mesh.{mid, refined}
+use Rattle.areas.specs.Points.{midpoints, midSizes}
+use Rattle.refinement.specs.Floor.{tris, cornersOf, endsOf}
+use Rattle.refine_floor.proofs.put_midpoints.Statement.{statement}
+use Rattle.refine_floor.proofs.put_midpoints.Tie as tie
+
+abbrev Inv-loop : tie.InvT-loop
+Inv-loop points w base nb m out₀ at k₀ out k = (k ≤ m) × ((length out ≡ length out₀) × (out ≡ sets out₀ at (midpoints points (sidesIn base nb w k))))
+
+abbrev μ-loop : tie.MeasureT-loop
+μ-loop points w base nb m out₀ at k₀ out k = m - k
+
+loop-holds : tie.Need-loop-holds Inv-loop μ-loop
+loop-holds c = (omega arith, (refl, mids-none (c .before .before .before .args .points .now) (c .before .before .before .args .base) (c .before .before .before .args .nb) (c .before .before .before .args .w .now) (c .before .before .before .args .out .now) (c .before .before .before .args .at)))
+
+mul-put-midpoint : tie.Need-mul-put-midpoint Inv-loop μ-loop
+mul-put-midpoint c = search needs
+
+add-put-midpoint : tie.Need-add-put-midpoint Inv-loop μ-loop
+add-put-midpoint c = search needs
+
+put-midpoint-requires : tie.Need-put-midpoint-requires Inv-loop μ-loop
+put-midpoint-requires c κs = search needs
+
+add-k : tie.Need-add-k Inv-loop μ-loop
+add-k c = search needs
+
+loop-less : tie.Need-loop-less Inv-loop μ-loop
+loop-less c = search needs
+
+loop-again : tie.Need-loop-again Inv-loop μ-loop
+loop-again c = let e = mids-again (c .before .before .before .before .before .before .before .before .before .args .points .now) (c .before .before .before .before .before .before .before .before .before .args .base) (c .before .before .before .before .before .before .before .before .before .args .nb) (c .before .before .before .before .before .before .before .before .before .args .w .now) (c .before .before .before .before .before .before .before .before .before .args .out .now) (c .before .before .before .before .before .before .before .before .before .args .at) (c .before .before .before .before .before .loop .k) (c .before .before .before .before .before .loop .inv .1 .1) (c .before .before .put-midpoint .ensures) in (omega arith, (ap length (c .before .before .put-midpoint .ensures) ∙ simp length-set (c .before .before .before .before .before .loop .inv .1 .0), e))
+
+same-length : tie.Need-same-length Inv-loop μ-loop
+same-length c = c .before .loop .inv .1 .0
+
+returns : tie.Need-returns Inv-loop μ-loop
+returns c = let e : c .before .loop .k ≡ c .before .before .before .before .before .args .m = omega arith in rw e at (c .before .loop .inv .1 .1)
+
+pub put-midpoints-spec : {M : Type 1} → statement M
+put-midpoints-spec =
+    tie.close
+    (tie.spec
+    Inv-loop
+    μ-loop
+    loop-holds
+    mul-put-midpoint
+    add-put-midpoint
+    put-midpoint-requires
+    add-k
+    loop-less
+    loop-again
+    same-length
+    returns)

@@ -1,0 +1,44 @@
+-- `refine_floor::refine_triangle` meets its contract: each return opens the definition and rewrites it by the tests and the calls on its way; the laws are in proofs/Parts.
+use borrow.Author.Needs.{needs}
+use Prim.Native.Nat.{_+_, _-_, _*_, _≤_}
+use mathlib.Core.Path.{_≡_, refl, sym, ap, _∙_}
+use native.Mathlib.Omega.{arith}
+use native.Mathlib.Numerals.{add-one}
+use lib.ListN.{length, take, length-set}
+use lib.Seq.{sets, length-sets, take-length}
+use Rattle.refine_floor.proofs.Parts.{pieces-put, refined-none, refined-again, ends-none, ends-again, mids-none, mids-again, points-done, sizes-none, sizes-again, sizes-done}
+use Rattle.refine_floor.proofs.refine_triangle.Statement.{statement}
+use Rattle.refine_floor.proofs.refine_triangle.Tie as tie
+
+pieces-of-requires : tie.Need-pieces-of-requires
+pieces-of-requires c κs = search needs
+
+mul-put-rows : tie.Need-mul-put-rows
+mul-put-rows c = search needs
+
+mul-put-rows-2 : tie.Need-mul-put-rows-2
+mul-put-rows-2 c = search needs
+
+put-rows-requires : tie.Need-put-rows-requires
+put-rows-requires c κs = search needs
+
+add-result : tie.Need-add-result
+add-result c = search needs
+
+same-length : tie.Need-same-length
+same-length c = search needs
+
+returns : tie.Need-returns
+returns c = pieces-put (c .before .before .before .before .before .before .before .before .before .before .before .args .out .now) (c .before .before .before .before .before .before .before .before .before .before .before .args .k) (c .before .before .before .before .before .before .before .pieces-of .ensures) (c .before .before .before .put-rows .ensures)
+
+pub refine-triangle-spec : {M : Type 1} → statement M
+refine-triangle-spec =
+    tie.close
+    (tie.spec
+    pieces-of-requires
+    mul-put-rows
+    mul-put-rows-2
+    put-rows-requires
+    add-result
+    same-length
+    returns)

@@ -1,0 +1,207 @@
+// Refinement as a call of its own, with the angles given: document 01's refusals, and refine_once's floor in four lent slices.
+// specs/Call.antt says what it answers and writes; specs/Claim.antt is what holds of every floor that it refines.
+ghost use mathlib.Core.Path.{_≡_};
+ghost use mathlib.Core.Bool.{Bool, not};
+ghost use mathlib.Core.List.{List, [], _∷_};
+ghost use Prim.Native.Nat.{ℕ, _+_, _*_, _<_, _≤_, _^_};
+ghost use lib.ListN.{length};
+ghost use lib.Seq.{sets};
+ghost use Rattle.mesh.specs.Mesh.{side, mid, pieces, refined};
+ghost use Rattle.areas.specs.Points.{xOf, yOf, midpoint, midpoints, midSize, midSizes, morePoints, moreSizes};
+ghost use Rattle.edges.specs.Table.{Held, sidesIn, loOf, hiOf};
+ghost use Rattle.refinement.specs.Floor.{tris, triAt, cornersOf, endsOf};
+
+// ---- triangles
+
+// The pieces of triangle i behind the first k triangles of `out`. How many there are then.
+fn refine_triangle(
+    l: &[u32],
+    i: usize,
+    n: usize,
+    w: &[u32],
+    base: usize,
+    nb: usize,
+    m: usize,
+    out: &mut [u32],
+    k: usize,
+) -> usize
+    requires { ⌜ Held base nb (now w) m ⌝ }
+    requires { ⌜ (3 * i + 3 ≤ length (now l)) × ((n + m < 2 ^ 32) × (3 * k + 12 ≤ length (now out))) ⌝ }
+    ensures { λ r. ⌜ (now (out .exit) ≡ sets (now (out .entry)) (3 * k) (cornersOf (pieces (mid n (sidesIn base nb (now (w .entry)) m)) (triAt (now (l .entry)) i)))) × (r ≡ k + length (pieces (mid n (sidesIn base nb (now (w .entry)) m)) (triAt (now (l .entry)) i))) ⌝ }
+{
+    let p = refinement::pieces_of(l, i, n, w, base, nb, m);
+    let rows = p.rows;
+    refinement::put_rows(out, 3 * k, rows, 3 * p.count);
+    k + p.count
+}
+
+// The pieces of the first t triangles of l, of n points, whose m cut sides are in the table. How many there are.
+pub fn refine_triangles(
+    l: &[u32],
+    t: usize,
+    n: usize,
+    w: &[u32],
+    base: usize,
+    nb: usize,
+    m: usize,
+    out: &mut [u32],
+) -> usize
+    requires { ⌜ Held base nb (now w) m ⌝ }
+    requires { ⌜ (3 * t ≤ length (now l)) × ((n + m < 2 ^ 32) × (12 * t ≤ length (now out))) ⌝ }
+    ensures { λ r. ⌜ (now (out .exit) ≡ sets (now (out .entry)) 0 (cornersOf (refined (mid n (sidesIn base nb (now (w .entry)) m)) (tris (now (l .entry)) t)))) × (r ≡ length (refined (mid n (sidesIn base nb (now (w .entry)) m)) (tris (now (l .entry)) t))) ⌝ }
+{
+    let mut k = 0;
+    let mut i = 0;
+    while i < t {
+        k = refine_triangle(l, i, n, w, base, nb, m, out, k);
+        i += 1;
+    }
+    k
+}
+
+// ---- ends of cut sides
+
+fn put_end(w: &[u32], base: usize, nb: usize, m: usize, k: usize, out: &mut [u32])
+    requires { ⌜ (base + nb + 3 * m ≤ length (now w)) × ((k < m) × (2 * k + 2 ≤ length (now out))) ⌝ }
+    ensures { λ _. ⌜ now (out .exit) ≡ sets (now (out .entry)) (2 * k) (loOf base nb (now (w .entry)) k ∷ hiOf base nb (now (w .entry)) k ∷ []) ⌝ }
+{
+    let at = base + nb + 3 * k;
+    out[2 * k] = w[at];
+    out[2 * k + 1] = w[at + 1];
+}
+
+// The ends of the m sides of a table, in order.
+pub fn put_ends(w: &[u32], base: usize, nb: usize, m: usize, out: &mut [u32])
+    requires { ⌜ (base + nb + 3 * m ≤ length (now w)) × (2 * m ≤ length (now out)) ⌝ }
+    ensures { λ _. ⌜ now (out .exit) ≡ sets (now (out .entry)) 0 (endsOf (sidesIn base nb (now (w .entry)) m)) ⌝ }
+{
+    let mut k = 0;
+    while k < m {
+        put_end(w, base, nb, m, k, out);
+        k += 1;
+    }
+}
+
+// ---- points and sizes
+
+pub fn copy(from: &[f64], out: &mut [f64])
+    requires { ⌜ length (now from) ≤ length (now out) ⌝ }
+    ensures { λ _. ⌜ now (out .exit) ≡ sets (now (out .entry)) 0 (now (from .entry)) ⌝ }
+{
+    let mut i = 0;
+    while i < from.len() {
+        out[i] = from[i];
+        i += 1;
+    }
+}
+
+fn x_of(points: &[f64], v: u32) -> f64
+    ensures { λ r. ⌜ r ≡ xOf (now (points .entry)) v ⌝ }
+{
+    floor::read(points, 3 * mesh::index(v))
+}
+
+fn y_of(points: &[f64], v: u32) -> f64
+    ensures { λ r. ⌜ r ≡ yOf (now (points .entry)) v ⌝ }
+{
+    floor::read(points, 3 * mesh::index(v) + 1)
+}
+
+// The midpoint of side k, from `at` on.
+fn put_midpoint(
+    points: &[f64],
+    w: &[u32],
+    base: usize,
+    nb: usize,
+    m: usize,
+    k: usize,
+    out: &mut [f64],
+    at: usize,
+)
+    requires { ⌜ (base + nb + 3 * m ≤ length (now w)) × ((k < m) × (at + 3 ≤ length (now out))) ⌝ }
+    ensures { λ _. ⌜ now (out .exit) ≡ sets (now (out .entry)) at (midpoint (now (points .entry)) (side (loOf base nb (now (w .entry)) k) (hiOf base nb (now (w .entry)) k))) ⌝ }
+{
+    let e = base + nb + 3 * k;
+    let x = areas::half_sum(x_of(points, w[e]), x_of(points, w[e + 1]));
+    let y = areas::half_sum(y_of(points, w[e]), y_of(points, w[e + 1]));
+    out[at] = x;
+    out[at + 1] = y;
+    out[at + 2] = 0.0;
+}
+
+// The midpoints of the m sides of a table, from `at` on.
+fn put_midpoints(
+    points: &[f64],
+    w: &[u32],
+    base: usize,
+    nb: usize,
+    m: usize,
+    out: &mut [f64],
+    at: usize,
+)
+    requires { ⌜ (base + nb + 3 * m ≤ length (now w)) × (at + 3 * m ≤ length (now out)) ⌝ }
+    ensures { λ _. ⌜ now (out .exit) ≡ sets (now (out .entry)) at (midpoints (now (points .entry)) (sidesIn base nb (now (w .entry)) m)) ⌝ }
+{
+    let mut k = 0;
+    while k < m {
+        put_midpoint(points, w, base, nb, m, k, out, at + 3 * k);
+        k += 1;
+    }
+}
+
+// The points of the refined floor.
+pub fn put_points(points: &[f64], w: &[u32], base: usize, nb: usize, m: usize, out: &mut [f64])
+    requires { ⌜ (base + nb + 3 * m ≤ length (now w)) × (length (now points) + 3 * m ≤ length (now out)) ⌝ }
+    ensures { λ _. ⌜ now (out .exit) ≡ sets (now (out .entry)) 0 (morePoints (now (points .entry)) (sidesIn base nb (now (w .entry)) m)) ⌝ }
+{
+    copy(points, out);
+    put_midpoints(points, w, base, nb, m, out, points.len());
+}
+
+// The size at the midpoint of side k.
+fn put_mid_size(
+    sizes: &[f64],
+    w: &[u32],
+    base: usize,
+    nb: usize,
+    m: usize,
+    k: usize,
+    out: &mut [f64],
+    at: usize,
+)
+    requires { ⌜ (base + nb + 3 * m ≤ length (now w)) × ((k < m) × (at < length (now out))) ⌝ }
+    ensures { λ _. ⌜ now (out .exit) ≡ sets (now (out .entry)) at (midSize (now (sizes .entry)) (side (loOf base nb (now (w .entry)) k) (hiOf base nb (now (w .entry)) k)) ∷ []) ⌝ }
+{
+    let e = base + nb + 3 * k;
+    let u = floor::read(sizes, mesh::index(w[e]));
+    let v = floor::read(sizes, mesh::index(w[e + 1]));
+    out[at] = areas::half_sum(u, v);
+}
+
+fn put_mid_sizes(
+    sizes: &[f64],
+    w: &[u32],
+    base: usize,
+    nb: usize,
+    m: usize,
+    out: &mut [f64],
+    at: usize,
+)
+    requires { ⌜ (base + nb + 3 * m ≤ length (now w)) × (at + m ≤ length (now out)) ⌝ }
+    ensures { λ _. ⌜ now (out .exit) ≡ sets (now (out .entry)) at (midSizes (now (sizes .entry)) (sidesIn base nb (now (w .entry)) m)) ⌝ }
+{
+    let mut k = 0;
+    while k < m {
+        put_mid_size(sizes, w, base, nb, m, k, out, at + k);
+        k += 1;
+    }
+}
+
+// The sizes of the refined floor.
+pub fn put_sizes(sizes: &[f64], w: &[u32], base: usize, nb: usize, m: usize, out: &mut [f64])
+    requires { ⌜ (base + nb + 3 * m ≤ length (now w)) × (length (now sizes) + m ≤ length (now out)) ⌝ }
+    ensures { λ _. ⌜ now (out .exit) ≡ sets (now (out .entry)) 0 (moreSizes (now (sizes .entry)) (sidesIn base nb (now (w .entry)) m)) ⌝ }
+{
+    copy(sizes, out);
+    put_mid_sizes(sizes, w, base, nb, m, out, sizes.len());
+}

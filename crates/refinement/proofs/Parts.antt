@@ -1,0 +1,133 @@
+-- Triangles and sides in lists of numbers, one more at a time: the cut sides, the pieces and the midpoints of a list with one more triangle or side.
+-- Assumes nothing.
+use Prim.Native.Nat.{ℕ, zero, suc, _+_, _-_, _*_, _^_, _≤_, _<_}
+use native.Mathlib.Omega.{arith}
+use native.Mathlib.Numerals.{add-one}
+use mathlib.Core.Path.{_≡_, refl, sym, ap, ap₂, _∙_, subst}
+use mathlib.Core.Logic.{_≢_}
+use mathlib.Core.Bool.{Bool, true, false, cond}
+use mathlib.Core.List.{List, [], _∷_, _++_, append-assoc, append-nil}
+use mathlib.Core.Option.{Option, none, some}
+use lib.ListN.{length, getD, take, length-append}
+use lib.Ieee.{Float, nan}
+use Rattle.mesh.specs.Mesh.{Tri, tri, Side, side, key, sides, met, metAll, place, above, mid, sidesAfter, cuts, marked, one, split, pieces, refined}
+use Rattle.mesh.proofs.Theorem.{refined-append}
+use Rattle.areas.specs.Points.{midpoint, midpoints, midSize, midSizes}
+use Rattle.edges.specs.Table.{Held, Outside, sidesIn, MetTri, pairs, plus, unplus}
+use Rattle.refinement.specs.Flag.{flaggedTri}
+use Rattle.refinement.specs.Floor.{tris, triAt, cornersOf, endsOf}
+use Rattle.refinement.specs.Steps.{CutStep, CutTo, Rows}
+
+-- ---- one more triangle
+
+pub marked-more : (f : Tri → Bool) (ts : List Tri) (t : Tri) → marked f (ts ++ (t ∷ [])) ≡ marked f ts ++ cond (f t) (t ∷ []) []
+unfolding marked
+marked-more f [] t = refl
+marked-more f (s ∷ ts) t = go (f s) (marked-more f ts t)
+  where
+    go : (b : Bool) → marked f (ts ++ (t ∷ [])) ≡ marked f ts ++ cond (f t) (t ∷ []) []
+        → cond b (s ∷ marked f (ts ++ (t ∷ []))) (marked f (ts ++ (t ∷ []))) ≡ cond b (s ∷ marked f ts) (marked f ts) ++ cond (f t) (t ∷ []) []
+    go true e = ap (λ (l : List Tri). s ∷ l) e
+    go false e = e
+
+after-more : (l : List Side) (ts : List Tri) (t : Tri) → sidesAfter l (ts ++ (t ∷ [])) ≡ metAll (sidesAfter l ts) (sides t)
+unfolding sidesAfter
+after-more l [] t = refl
+after-more l (s ∷ ts) t = after-more (metAll l (sides s)) ts t
+
+pub cuts-more : (f : Tri → Bool) (ts : List Tri) (t : Tri) → cuts f (ts ++ (t ∷ [])) ≡ cond (f t) (metAll (cuts f ts) (sides t)) (cuts f ts)
+unfolding cuts
+cuts-more f ts t = rw (marked-more f ts t) (go (f t))
+  where
+    go : (b : Bool) → sidesAfter [] (marked f ts ++ cond b (t ∷ []) []) ≡ cond b (metAll (sidesAfter [] (marked f ts)) (sides t)) (sidesAfter [] (marked f ts))
+    go true = after-more [] (marked f ts) t
+    go false = ap (sidesAfter []) (append-nil (marked f ts))
+
+count-more : (f : Tri → Bool) (ts : List Tri) (t : Tri) → length (marked f (ts ++ (t ∷ []))) ≡ one (f t) + length (marked f ts)
+count-more f ts t = ap length (marked-more f ts t) ∙ length-append (marked f ts) (cond (f t) (t ∷ []) []) ∙ go (f t)
+  where
+    go : (b : Bool) → length (marked f ts) + length (cond b (t ∷ []) []) ≡ one b + length (marked f ts)
+    go true = omega arith
+    go false = omega arith
+
+one-most : (b : Bool) → one b ≤ 1
+one-most true = omega arith
+one-most false = omega arith
+
+-- ---- the cut sides: a step, and the loop
+
+pub step-flagged : {o N : ℕ} {b : Bool} {w w′ : List ℕ} {m m′ p q r c : ℕ} {t : Tri} → b ≡ true → MetTri o N w m w′ m′ p q r t → CutStep o N b t w m c w′ m′ (c + 1)
+step-flagged e s = record {
+  held = s .held;
+  now-cut = rw e (s .now-met);
+  counted = rw e (omega arith);
+  more = s .more;
+  most = s .most;
+  outside = s .outside;
+}
+
+pub step-passed : {o N : ℕ} {b : Bool} {w : List ℕ} {m c : ℕ} {t : Tri} → b ≡ false → Held o N w m → CutStep o N b t w m c w m c
+step-passed e h = record {
+  held = h;
+  now-cut = rw e refl;
+  counted = rw e (omega arith);
+  more = omega arith;
+  most = omega arith;
+  outside = record { same = refl; before = λ j l. refl; behind = λ j l. refl };
+}
+
+pub cut-none : {o N : ℕ} {w : List ℕ} (f : Tri → Bool) (l : List ℕ) → Held o N w 0 → CutTo o N f l 0 w w 0 0
+unfolding tris pairs cuts sidesAfter marked
+cut-none f l h = record {
+  held = h;
+  all-cut = refl;
+  counted = refl;
+  few = omega arith;
+  seldom = omega arith;
+  outside = record { same = refl; before = λ j q. refl; behind = λ j q. refl };
+}
+
+pub cut-again : {o N : ℕ} {f : Tri → Bool} {l : List ℕ} {i : ℕ} {w w₁ w₂ : List ℕ} {m₁ c₁ m₂ c₂ : ℕ} → CutTo o N f l i w w₁ m₁ c₁
+    → CutStep o N (f (triAt l i)) (triAt l i) w₁ m₁ c₁ w₂ m₂ c₂ → CutTo o N f l (i + 1) w w₂ m₂ c₂
+unfolding tris
+cut-again {f = f} {l} {i} h s =
+    rw (add-one i) (record {
+      held = s .held;
+      all-cut = s .now-cut ∙ rw (h .all-cut) (sym (cuts-more f (tris l i) (triAt l i)));
+      counted = s .counted ∙ rw (h .counted) (sym (count-more f (tris l i) (triAt l i)));
+      few = omega (arith, s .more, h .few);
+      seldom = omega (arith, s .counted, one-most (f (triAt l i)), h .seldom);
+      outside = record {
+        same = s .outside .same ∙ h .outside .same;
+        before = λ j q. s .outside .before j q ∙ h .outside .before j q;
+        behind = λ j q. s .outside .behind j q ∙ h .outside .behind j (omega (arith, s .most));
+      };
+    })
+
+-- ---- numbers that may be none
+
+pub unplus-none : (p : ℕ) → p ≡ 0 → unplus p ≡ none
+unplus-none p e = rw e
+
+pub unplus-some : (p : ℕ) → p ≢ 0 → unplus p ≡ some (p - 1)
+unplus-some zero h = absurd (h refl)
+unplus-some (suc p) h = let e : suc p - 1 ≡ p = omega arith in rw e
+
+unplus-plus : (o : Option ℕ) → unplus (plus o) ≡ o
+unplus-plus none = refl
+unplus-plus (some k) = refl
+
+pub above-plus : (n : ℕ) (o : Option ℕ) (r : ℕ) → r ≡ plus o → r ≢ 0 → n + r ≡ plus (above n o)
+above-plus n none r e h = absurd (h e)
+above-plus n (some k) r e h = omega arith
+
+pub above-zero : (n : ℕ) (o : Option ℕ) (r : ℕ) → r ≡ plus o → r ≡ 0 → 0 ≡ plus (above n o)
+above-zero n none r e h = refl
+above-zero n (some k) r e h = absurd (omega arith)
+
+pub rows-of : (m : ℕ → ℕ → Option ℕ) {p q r count : ℕ} {rows : List ℕ} (a b c : ℕ) → p ≡ plus (m a b) → q ≡ plus (m b c) → r ≡ plus (m c a)
+    → Rows (split a b c (unplus p) (unplus q) (unplus r)) count rows → Rows (pieces m (tri a b c)) count rows
+rows-of m {p} {q} {r} {count} {rows} a b c e₁ e₂ e₃ h =
+    subst (λ (o : Option ℕ). Rows (split a b c (m a b) (m b c) o) count rows) (ap unplus e₃ ∙ unplus-plus (m c a))
+    (subst (λ (o : Option ℕ). Rows (split a b c (m a b) o (unplus r)) count rows) (ap unplus e₂ ∙ unplus-plus (m b c))
+    (subst (λ (o : Option ℕ). Rows (split a b c o (unplus q) (unplus r)) count rows) (ap unplus e₁ ∙ unplus-plus (m a b)) h))

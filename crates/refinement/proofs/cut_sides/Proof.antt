@@ -1,0 +1,51 @@
+-- `refinement::cut_sides` meets its contract: the loop keeps what `Inv-loop` says, and what is left to do falls at each turn; the laws are in proofs/Parts.
+use borrow.Author.Needs.{needs}
+use mathlib.Core.Path.{_≡_, refl, sym, ap, _∙_}
+use native.Mathlib.Omega.{arith}
+use Rattle.refinement.proofs.Parts.{step-flagged, step-passed, cut-none, cut-again, unplus-none, unplus-some, above-plus, above-zero, rows-of}
+use Prim.Native.Nat.{_-_, _≤_}
+use Rattle.refinement.specs.Flag.{flaggedTri}
+use Rattle.refinement.specs.Steps.{CutTo}
+use Rattle.refinement.proofs.cut_sides.Statement.{statement}
+use Rattle.refinement.proofs.cut_sides.Tie as tie
+
+abbrev Inv-loop : tie.InvT-loop
+Inv-loop l t alpha threshold w₀ base nb cut₀ i₀ w cut i = (i ≤ t) × CutTo base nb (flaggedTri threshold alpha) l i w₀ w (cut .sides) (cut .flagged)
+
+abbrev μ-loop : tie.MeasureT-loop
+μ-loop l t alpha threshold w₀ base nb cut₀ i₀ w cut i = t - i
+
+loop-holds : tie.Need-loop-holds Inv-loop μ-loop
+loop-holds c = (omega arith, cut-none _ _ (c .before .before .before .pre .0))
+
+cut-triangle-requires : tie.Need-cut-triangle-requires Inv-loop μ-loop
+cut-triangle-requires c κs = search needs
+
+add-i : tie.Need-add-i Inv-loop μ-loop
+add-i c = search needs
+
+loop-less : tie.Need-loop-less Inv-loop μ-loop
+loop-less c = search needs
+
+loop-again : tie.Need-loop-again Inv-loop μ-loop
+loop-again c = (omega arith, cut-again (c .before .before .before .before .before .loop .inv .1) (c .before .before .cut-triangle .ensures))
+
+same-length : tie.Need-same-length Inv-loop μ-loop
+same-length c = c .before .loop .inv .1 .outside .same
+
+returns : tie.Need-returns Inv-loop μ-loop
+returns c = let e : c .before .loop .i ≡ c .before .before .before .before .before .args .t = omega arith in rw e at (c .before .loop .inv .1)
+
+pub cut-sides-spec : {M : Type 1} → statement M
+cut-sides-spec =
+    tie.close
+    (tie.spec
+    Inv-loop
+    μ-loop
+    loop-holds
+    cut-triangle-requires
+    add-i
+    loop-less
+    loop-again
+    same-length
+    returns)

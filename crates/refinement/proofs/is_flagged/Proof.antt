@@ -1,0 +1,17 @@
+-- `refinement::is_flagged` meets its contract: each return opens the definition and rewrites it by the tests and the calls on its way.
+use borrow.Author.Needs.{needs}
+use mathlib.Core.Path.{_≡_, refl, sym, ap, _∙_}
+use native.Mathlib.Omega.{arith}
+use Rattle.refinement.specs.Flag.{turnAlong, variation, flagged, flaggedTri}
+use Rattle.refinement.proofs.is_flagged.Statement.{statement}
+use Rattle.refinement.proofs.is_flagged.Tie as tie
+
+triangle-field-variation-requires : tie.Need-triangle-field-variation-requires
+triangle-field-variation-requires c κs = search needs
+
+returns : tie.Need-returns
+unfolding flaggedTri flagged
+returns c = rw (c .triangle-field-variation .ensures)
+
+pub is-flagged-spec : {M : Type 1} → statement M
+is-flagged-spec = tie.close (tie.spec triangle-field-variation-requires returns)

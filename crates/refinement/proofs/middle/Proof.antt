@@ -1,0 +1,29 @@
+-- `refinement::middle` meets its contract: each return opens the definition and rewrites it by the tests and the calls on its way; the laws are in proofs/Parts.
+use borrow.Author.Needs.{needs}
+use mathlib.Core.Path.{_≡_, refl, sym, ap, _∙_}
+use native.Mathlib.Omega.{arith}
+use Rattle.refinement.proofs.Parts.{step-flagged, step-passed, cut-none, cut-again, unplus-none, unplus-some, above-plus, above-zero, rows-of}
+use Rattle.mesh.specs.Mesh.{mid, place, key}
+use Rattle.edges.specs.Table.{sidesIn}
+use Rattle.refinement.proofs.middle.Statement.{statement}
+use Rattle.refinement.proofs.middle.Tie as tie
+
+find-side-requires : tie.Need-find-side-requires
+find-side-requires c κs = search needs
+
+returns : tie.Need-returns
+unfolding mid
+returns c = above-zero (c .before .before .before .args .n) (place (key (c .before .before .before .args .u) (c .before .before .before .args .v)) (sidesIn (c .before .before .before .args .base) (c .before .before .before .args .nb) (c .before .before .before .args .w .now) (c .before .before .before .args .m))) _ (c .before .find-side .ensures .0) (c .if1 .taken)
+
+add-result : tie.Need-add-result
+add-result c = search needs
+
+cast-result : tie.Need-cast-result
+cast-result c = search needs
+
+returns-2 : tie.Need-returns-2
+unfolding mid
+returns-2 c = above-plus (c .before .before .before .args .n) (place (key (c .before .before .before .args .u) (c .before .before .before .args .v)) (sidesIn (c .before .before .before .args .base) (c .before .before .before .args .nb) (c .before .before .before .args .w .now) (c .before .before .before .args .m))) _ (c .before .find-side .ensures .0) (c .if1 .left)
+
+pub middle-spec : {M : Type 1} → statement M
+middle-spec = tie.close (tie.spec find-side-requires returns add-result cast-result returns-2)

@@ -1,0 +1,20 @@
+-- `refinement::turn_along` meets its contract: each return opens the definition and rewrites it by the tests and the calls on its way.
+use borrow.Author.Needs.{needs}
+use mathlib.Core.Path.{_≡_, refl, sym, ap, _∙_}
+use native.Mathlib.Omega.{arith}
+use Rattle.refinement.specs.Flag.{turnAlong, variation, flagged, flaggedTri}
+use Rattle.refinement.proofs.turn_along.Statement.{statement}
+use Rattle.refinement.proofs.turn_along.Tie as tie
+
+rem-euclid-requires : tie.Need-rem-euclid-requires
+rem-euclid-requires c κs = search needs
+
+min-requires : tie.Need-min-requires
+min-requires c κs = search needs
+
+returns : tie.Need-returns
+unfolding turnAlong
+returns c = c .min .ensures ∙ rw (c .before .rem-euclid .ensures)
+
+pub turn-along-spec : {M : Type 1} → statement M
+turn-along-spec = tie.close (tie.spec rem-euclid-requires min-requires returns)

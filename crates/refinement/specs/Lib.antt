@@ -1,0 +1,4 @@
+pub mod Flag
+pub mod Floor
+pub mod Steps
+pub mod Claim
