@@ -1,34 +1,106 @@
--- The root of a subnormal x: the steps times 2 ^ 54 and times 2 ^ -27 are exact, so the result is the nearest value there too. Assumes nothing.
+-- The digits and the place of a subnormal, at which the loop of `root_small` ends, and those of a normal pattern: so `Value.antt` says of the root of every finite double above 0 between which squares it lies. Assumes nothing.
 use mathlib.Core.Path.{_≡_, refl, sym, ap, _∙_, subst}
 use Prim.Native.Nat.{ℕ, zero, suc, _+_, _-_, _*_, _/_, _%_, _^_, _≤_, _<_}
-use native.Mathlib.Nat.{mul-one, one-mul, mul-assoc, mul-comm, mul-left-comm, mul-right-comm, mul-pos, mod-eq-of-lt, eq-of-mul-eq-mul-right, le-trans, le-of-eq, lt-of-lt-of-le, lt-of-le-of-lt, mul-lt-mul-of-pos-right, mul-le-mul-right, le-of-mul-le-mul-right, lt-of-mul-lt-mul-right, zero-mul, zero-lt-suc}
+use native.Mathlib.Nat.{mul-one, mul-assoc, mul-comm, mul-pos, le-trans, le-of-eq, lt-of-lt-of-le, mul-lt-mul-of-pos-right, mul-le-mul-right, zero-mul, pow-suc}
 use native.Mathlib.Omega.{arith}
-use mathlib.Core.Bool.{Bool, true, false, not, cond, _&&_, _||_}
-use lib.Dec.{T, leb, ltb, eqb, lit≤, lit<}
-use lib.Pow.{pow-pos, pow-add, pow-mono}
-use lib.IntN.{ℤ, pos, negsuc}
-use borrow.Author.Tests.{eqb-true, eqb-false, leb-true, leb-false, ltb-true, ltb-false, le-ltb, lt-ltb, lt-leb, le-leb, eq-eqb, ne-eqb}
-use lib.Ieee.{Float, nan, inf, fin, binary64, up, down, odd, round, mul, eq, ne, lt, ofFields, ofBits, toBits, fits, isNan}
-use lib.Ieee.Fits.{down-pos, up-pos, mul-fits}
-use lib.Ieee.Bits.{ofBits-toBits, toBits-lt, toBits-ofBits}
-use lib.Ieee.Exact.{HasValue, odd-sign, round-exact}
-use lib.Ieee.Scale.{round-same}
+use mathlib.Core.Bool.{Bool, true, false, not, _&&_, _||_}
+use lib.Dec.{T, leb, ltb, eqb}
+use lib.Pow.{pow-pos, pow-add}
+use borrow.Author.Tests.{ltb-true, ltb-false, le-ltb, lt-ltb, lt-leb, eq-eqb, ne-eqb}
+use lib.Ieee.{Float, nan, inf, fin, binary64, up, down, eq, ne, lt, ofFields, ofBits, toBits, isNan, fits, size}
+use lib.Ieee.Digits.{size-lt, size-reaches, size-le}
+use lib.Ieee.Fits.{down-pos}
+use lib.Ieee.Bits.{toBits-ofBits, ofBits-toBits}
+use lib.Ieee.Exact.{HasValue, odd-sign}
 use Rattle.float.specs.Double.{lit}
-use Rattle.root.specs.Root.{rootBits, rootOf}
-use Rattle.root.proofs.Value.{Bracket, root-is-nearest, k-bounds, val, bits-is}
+use Rattle.root.specs.Root.{rootAt, rootBits, rootOf}
+use Rattle.root.proofs.Value.{Bracket, root-is-nearest, val, bits-is}
 
--- ---- one value, one sign and size
-same-sign : (x : Float) (s t : Bool) (a b c d : ℕ) → HasValue x s a c → HasValue x t b d → s ≡ t
-same-sign nan s t a b c d p q = absurd p
-same-sign (inf u) s t a b c d p q = absurd p
-same-sign (fin u m e) s t a b c d p q = sym (p .0) ∙ q .0
+-- ---- a subnormal's digits
+abbrev pub filled : ℕ → ℕ
+filled b = b * 2 ^ (53 - size b)
 
-same-size : (x : Float) (s t : Bool) (a b c : ℕ) → HasValue x s a c → HasValue x t b c → a ≡ b
-same-size nan s t a b c p q = absurd p
-same-size (inf u) s t a b c p q = absurd p
-same-size (fin u m e) s t a b c p q = eq-of-mul-eq-mul-right (down e) (down-pos e) a b (sym (p .1) ∙ q .1)
+size-pos : (b : ℕ) → 0 < b → 0 < size b
+size-pos b B = go (size b) (size-lt b)
+  where
+    go : (n : ℕ) → b < 2 ^ n → 0 < n
+    go zero h = absurd (omega arith)
+    go (suc n) h = omega arith
 
--- ---- patterns below 2 ^ 52
+pub filled-ge : (b : ℕ) → 0 < b → b < 2 ^ 52 → 2 ^ 52 ≤ filled b
+filled-ge b B h = least (size b) (size-pos b B) (size-le b 52 h) (size-reaches b (size b - 1) (below (size b) (size-pos b B)))
+  where
+    below : (n : ℕ) → 0 < n → n - 1 < n
+    below n p = omega arith
+
+    least : (n : ℕ) → 0 < n → n ≤ 52 → 2 ^ (n - 1) ≤ b → 2 ^ 52 ≤ b * 2 ^ (53 - n)
+    least n p l g =
+        let e : 52 ≡ n - 1 + (53 - n) = omega arith in
+        le-trans (le-of-eq (ap (λ (k : ℕ). 2 ^ k) e ∙ pow-add 2 (n - 1) (53 - n))) (mul-le-mul-right (2 ^ (53 - n)) g)
+
+pub filled-lt : (b : ℕ) → b < 2 ^ 52 → filled b < 2 ^ 53
+filled-lt b h = most (size b) (size-le b 52 h) (size-lt b)
+  where
+    most : (n : ℕ) → n ≤ 52 → b < 2 ^ n → b * 2 ^ (53 - n) < 2 ^ 53
+    most n l g =
+        let e : n + (53 - n) ≡ 53 = omega arith in
+        lt-of-lt-of-le (mul-lt-mul-of-pos-right g (pow-pos (53 - n))) (le-of-eq (sym (pow-add 2 n (53 - n)) ∙ ap (λ (k : ℕ). 2 ^ k) e))
+
+-- ---- the loop: d doublings are to come
+pub record Doubling (s p c x : ℕ) : Type 0 where
+  pub d : ℕ
+  pub is : c * 2 ^ d ≡ s
+  pub at : x ≡ p + d
+
+pub doubling-start : (b : ℕ) → b < 2 ^ 52 → Doubling (filled b) (size b + 1023) b 1076
+doubling-start b h = record { d = 53 - size b; is = refl; at = count (size b) (size-le b 52 h) }
+  where
+    count : (n : ℕ) → n ≤ 52 → 1076 ≡ n + 1023 + (53 - n)
+    count n l = omega arith
+
+pub doubling-turn : (s p c x : ℕ) → 2 ^ 52 ≤ s → Doubling s p c x → c < 2 ^ 52 → Doubling s p (c * 2) (x - 1)
+doubling-turn s p c x g w l = go (w .d) (w .is) (w .at)
+  where
+    go : (d : ℕ) → c * 2 ^ d ≡ s → x ≡ p + d → Doubling s p (c * 2) (x - 1)
+    go zero e f = absurd (omega (arith, mul-one c))
+    go (suc d) e f = record { d = d; is = mul-assoc c 2 (2 ^ d) ∙ ap (λ (n : ℕ). c * n) (mul-comm 2 (2 ^ d) ∙ sym (pow-suc 2 d)) ∙ e; at = omega arith }
+
+pub doubling-end : (s p c x : ℕ) → s < 2 ^ 53 → Doubling s p c x → 2 ^ 52 ≤ c → (c ≡ s) × (x ≡ p)
+doubling-end s p c x g w l = go (w .d) (w .is) (w .at)
+  where
+    twice : (a u : ℕ) → 2 ^ 52 ≤ a → 0 < u → a * u < 2 ^ 52 → ⊥
+    twice a u h k m = omega (arith, mul-le-mul-right u h)
+
+    go : (d : ℕ) → c * 2 ^ d ≡ s → x ≡ p + d → (c ≡ s) × (x ≡ p)
+    go zero e f = (sym (mul-one c) ∙ e, omega arith)
+    go (suc d) e f = absurd (twice c (2 ^ d) l (pow-pos d) (halved (c * 2 ^ d) (mul-assoc c (2 ^ d) 2 ∙ ap (λ (n : ℕ). c * n) (sym (pow-suc 2 d)) ∙ e)))
+      where
+        halved : (m : ℕ) → m * 2 ≡ s → m < 2 ^ 52
+        halved m q = omega arith
+
+-- ---- what the definition says of a pattern below 2 ^ 52, and of the others
+pub small-bits : (b : ℕ) → b < 2 ^ 52 → rootBits b ≡ rootAt (filled b) (size b + 1023)
+unfolding rootBits
+small-bits b h = rw (lt-ltb b 0x10_0000_0000_0000 h)
+
+pub normal-bits : (b : ℕ) → 2 ^ 52 ≤ b → rootBits b ≡ rootAt (b % 2 ^ 52 + 2 ^ 52) (b / 2 ^ 52 + 1075)
+unfolding rootBits
+normal-bits b h = rw (le-ltb b 0x10_0000_0000_0000 h)
+
+-- ---- where the loop ends
+module _ (b c x : ℕ) (h : b < 2 ^ 52) (w : Doubling (filled b) (size b + 1023) c x) (l : 2 ^ 52 ≤ c) where
+  there : (c ≡ filled b) × (x ≡ size b + 1023)
+  there = doubling-end (filled b) (size b + 1023) c x (filled-lt b h) w l
+
+  pub doubled-root : rootAt c x ≡ rootBits b
+  doubled-root = ap (λ (n : ℕ). rootAt n x) (there .0) ∙ ap (λ (n : ℕ). rootAt (filled b) n) (there .1) ∙ sym (small-bits b h)
+
+  pub doubled-fits : (c < 2 ^ 53) × (54 ≤ x) × (x < 6000)
+  doubled-fits =
+      let e : x ≡ size b + 1023 = there .1 in
+      (subst (λ (n : ℕ). n < 2 ^ 53) (sym (there .0)) (filled-lt b h), omega arith, omega (arith, size-le b 52 h))
+
+-- ---- the number that a subnormal pattern stands for
 fields : (b : ℕ) (s : Bool) (x t : ℕ) → leb 0x8000_0000_0000_0000 b ≡ s → b % 0x8000_0000_0000_0000 / 0x10_0000_0000_0000 ≡ x → b % 0x10_0000_0000_0000 ≡ t → ofBits binary64 b ≡ ofFields binary64 s x t
 unfolding ofBits
 fields b s x t p q r = rw (p, q, r)
@@ -41,97 +113,35 @@ small-is b h =
     at : (b : ℕ) → HasValue (ofFields binary64 false 0 b) false (b * 1) (2 ^ 1074)
     at b = unfold ofFields in odd-sign 53 false b 0 1074
 
--- ---- a finite value that is not negative has a pattern below the infinity's
-odd-not : (s : Bool) (d q k l v c : ℕ) → HasValue (odd d s q k l) false v c → s ≡ false
-odd-not s d q k l v c h = same-sign (odd d s q k l) s false (q * 2 ^ k) v (2 ^ l) c (odd-sign d s q k l) h
-
-fields-ok : (s : Bool) (x t v c : ℕ) → HasValue (ofFields binary64 s x t) false v c → (s ≡ false) × (eqb x 2047 ≡ false)
-unfolding ofFields
-fields-ok s zero t v c h = (odd-not s 53 t 0 1074 v c h, refl)
-fields-ok s (suc x) t v c h = go (eqb (suc x) 2047) (eqb t 0) h
+-- ---- the root's bracket
+small-root : (b : ℕ) → 0 < b → b < 0x10_0000_0000_0000 → Bracket (ofBits binary64 b) (ofBits binary64 (rootBits b))
+small-root b B h =
+    rw (small-bits b h)
+    (root-is-nearest (filled b) (size b + 1023) (filled-ge b B h) (filled-lt b h) (room (size b)) (end (size b) (size-le b 52 h)) (ofBits binary64 b) b (small-is b h) (scale (size b) (size-le b 52 h)))
   where
-    go : (i j : Bool) → HasValue (cond i (cond j (inf s) nan) (odd 53 s (0x10_0000_0000_0000 + t) x 1074)) false v c → (s ≡ false) × (i ≡ false)
-    go true true h = absurd h
-    go true false h = absurd h
-    go false j h = (odd-not s 53 (0x10_0000_0000_0000 + t) x 1074 v c h, refl)
+    room : (n : ℕ) → 54 ≤ n + 1023
+    room n = omega arith
 
-finite-pattern : (b v c : ℕ) → HasValue (ofBits binary64 b) false v c → b < 0x7ff0_0000_0000_0000
-finite-pattern b v c h =
-    let k = fields-ok (leb 0x8000_0000_0000_0000 b) (b % 0x8000_0000_0000_0000 / 0x10_0000_0000_0000) (b % 0x10_0000_0000_0000) v c
-    (subst (λ (x : Float). HasValue x false v c) (fields b (leb 0x8000_0000_0000_0000 b) (b % 0x8000_0000_0000_0000 / 0x10_0000_0000_0000) (b % 0x10_0000_0000_0000) refl refl refl) h) in
-    in-range b (leb-false 0x8000_0000_0000_0000 b (k .0)) (eqb-false (b % 0x8000_0000_0000_0000 / 0x10_0000_0000_0000) 2047 (k .1))
+    end : (n : ℕ) → n ≤ 52 → n + 1023 ≤ 3121
+    end n l = omega arith
+
+    scale : (n : ℕ) → n ≤ 52 → b * 2 ^ (53 - n) * 2 ^ (n + 1023) ≡ b * 2 ^ 1076
+    scale n l =
+        let e : 53 - n + (n + 1023) ≡ 1076 = omega arith in
+        mul-assoc b (2 ^ (53 - n)) (2 ^ (n + 1023)) ∙ ap (λ (z : ℕ). b * z) (sym (pow-add 2 (53 - n) (n + 1023)) ∙ ap (λ (z : ℕ). 2 ^ z) e)
+
+normal-root : (b : ℕ) → 0x10_0000_0000_0000 ≤ b → b < 0x7ff0_0000_0000_0000 → Bracket (ofBits binary64 b) (ofBits binary64 (rootBits b))
+normal-root b h l =
+    rw (normal-bits b h)
+    (root-is-nearest (b % 2 ^ 52 + 2 ^ 52) (b / 2 ^ 52 + 1075) (omega arith) (omega arith) (omega arith) (omega arith) (ofBits binary64 b) (val b) (bits-is b h l) (scale (b % 2 ^ 52) (b / 2 ^ 52) (omega arith)))
   where
-    in-range : (b : ℕ) → b < 0x8000_0000_0000_0000 → (b % 0x8000_0000_0000_0000 / 0x10_0000_0000_0000 ≡ 2047 → ⊥) → b < 0x7ff0_0000_0000_0000
-    in-range b h f = go (ltb b 0x7ff0_0000_0000_0000) refl
-      where
-        go : (t : Bool) → ltb b 0x7ff0_0000_0000_0000 ≡ t → b < 0x7ff0_0000_0000_0000
-        go true e = ltb-true b 0x7ff0_0000_0000_0000 e
-        go false e = absurd (f (omega (arith, ltb-false b 0x7ff0_0000_0000_0000 e)))
+    scale : (t e : ℕ) → 1 ≤ e → (t + 2 ^ 52) * 2 ^ (e + 1075) ≡ (2 ^ 52 + t) * 2 ^ (e - 1) * 2 ^ 1076
+    scale t e p =
+        let c : t + 2 ^ 52 ≡ 2 ^ 52 + t = omega arith in
+        let f : e + 1075 ≡ e - 1 + 1076 = omega arith in
+        ap (λ (n : ℕ). n * 2 ^ (e + 1075)) c ∙ ap (λ (n : ℕ). (2 ^ 52 + t) * 2 ^ n) f ∙ ap (λ (n : ℕ). (2 ^ 52 + t) * n) (pow-add 2 (e - 1) 1076) ∙ sym (mul-assoc (2 ^ 52 + t) (2 ^ (e - 1)) (2 ^ 1076))
 
-large-pattern : (b v : ℕ) → HasValue (ofBits binary64 b) false v (2 ^ 1074) → 0x10_0000_0000_0000 ≤ v → 0x10_0000_0000_0000 ≤ b
-large-pattern b v h l = go (ltb b 0x10_0000_0000_0000) refl
-  where
-    go : (t : Bool) → ltb b 0x10_0000_0000_0000 ≡ t → 0x10_0000_0000_0000 ≤ b
-    go true e = let s : b ≡ v = same-size (ofBits binary64 b) false false b v (2 ^ 1074) (small-is b (ltb-true b 0x10_0000_0000_0000 e)) h in absurd (omega (arith, ltb-true b 0x10_0000_0000_0000 e))
-    go false e = ltb-false b 0x10_0000_0000_0000 e
-
--- ---- times 2 ^ 54
-up-fraction : (m u e b p l : ℕ) → m * u * l ≡ b * e → m * u * (1 * p) * l ≡ b * p * (e * 1)
-up-fraction m u e b p l h =
-    let a : m * u * (1 * p) * l ≡ m * u * l * p = ap (λ (z : ℕ). m * u * z * l) (one-mul p) ∙ mul-right-comm (m * u) p l in
-    let c : b * e * p ≡ b * p * (e * 1) = mul-right-comm b e p ∙ ap (λ (z : ℕ). b * p * z) (sym (mul-one e)) in
-    a ∙ ap (λ (z : ℕ). z * p) h ∙ c
-
-raised : (x : Float) (b : ℕ) → b < 0x10_0000_0000_0000 → HasValue x false b (2 ^ 1074) → HasValue (mul binary64 x (lit 0x4350_0000_0000_0000)) false (b * 2 ^ 54) (2 ^ 1074)
-unfolding mul ofBits
-raised nan b h v = absurd v
-raised (inf s) b h v = absurd v
-raised (fin true m e) b h v = absurd (subst T (v .0) tt)
-raised (fin false m e) b h v =
-    subst (λ (z : Float). HasValue z false (b * 2 ^ 54) (2 ^ 1074))
-    (round-same binary64 false (b * 2 ^ 54) (2 ^ 1074) (m * up e * (1 * 2 ^ 54)) (down e * 1) (pow-pos 1074) (mul-pos (down-pos e) (zero-lt-suc 0)) (sym (up-fraction m (up e) (down e) b (2 ^ 54) (2 ^ 1074) (v .1))))
-    (round-exact binary64 false (b * 2 ^ 54) (2 ^ 1074) b 54 (pow-pos 1074) (omega arith) (lt-of-lt-of-le (mul-lt-mul-of-pos-right h (pow-pos 54)) (lit≤ tt)) refl)
-
--- ---- times 2 ^ -27
-down-fraction : (m u e v w p l : ℕ) → m * u * l ≡ v * e → v ≡ w * p → m * u * (1 * 1) * l ≡ w * (e * p)
-down-fraction m u e v w p l h g =
-    let a : m * u * (1 * 1) * l ≡ m * u * l = ap (λ (z : ℕ). z * l) (mul-one (m * u)) in
-    let c : w * p * e ≡ w * (e * p) = mul-right-comm w p e ∙ mul-assoc w e p in
-    a ∙ h ∙ ap (λ (z : ℕ). z * e) g ∙ c
-
-lowered-exact : (r k : ℕ) → 2 ^ 52 ≤ r → r ≤ 2 ^ 53 → k ≤ 1506 → HasValue (round binary64 false (r * 2 ^ k) (2 ^ 1074)) false (r * 2 ^ k) (2 ^ 1074)
-lowered-exact r k g h l = go (eqb r (2 ^ 53)) refl
-  where
-    room : r * 2 ^ k < 2 ^ 2098
-    room = lt-of-le-of-lt (mul-le-mul-right (2 ^ k) h) (lt-of-le-of-lt (le-of-eq (sym (pow-add 2 53 k))) (lt-of-le-of-lt (pow-mono (within k l)) (lit< tt)))
-      where
-        within : (k : ℕ) → k ≤ 1506 → 53 + k ≤ 1559
-        within k h = omega arith
-
-    halved : r ≡ 2 ^ 53 → r * 2 ^ k ≡ 2 ^ 52 * 2 ^ (1 + k)
-    halved e = ap (λ (z : ℕ). z * 2 ^ k) e ∙ mul-assoc (2 ^ 52) 2 (2 ^ k) ∙ ap (λ (z : ℕ). 2 ^ 52 * z) (sym (pow-add 2 1 k))
-
-    go : (t : Bool) → eqb r (2 ^ 53) ≡ t → HasValue (round binary64 false (r * 2 ^ k) (2 ^ 1074)) false (r * 2 ^ k) (2 ^ 1074)
-    go true e =
-        let f = halved (eqb-true r (2 ^ 53) e) in
-        round-exact binary64 false (r * 2 ^ k) (2 ^ 1074) (2 ^ 52) (1 + k) (pow-pos 1074) (lit< tt) (subst (λ (z : ℕ). z < 2 ^ 2098) f room) (ap (λ (z : ℕ). z * 2 ^ 1074) f)
-    go false e = round-exact binary64 false (r * 2 ^ k) (2 ^ 1074) r k (pow-pos 1074) (let d = eqb-false r (2 ^ 53) e in omega arith) room refl
-
-lowered : (y : Float) (r k : ℕ) → 2 ^ 52 ≤ r → r ≤ 2 ^ 53 → k ≤ 1506 → HasValue y false (r * 2 ^ (k + 27)) (2 ^ 1074) → HasValue (mul binary64 y (lit 0x3e40_0000_0000_0000)) false (r * 2 ^ k) (2 ^ 1074)
-unfolding mul ofBits
-lowered nan r k g h l v = absurd v
-lowered (inf s) r k g h l v = absurd v
-lowered (fin true m e) r k g h l v = absurd (subst T (v .0) tt)
-lowered (fin false m e) r k g h l v =
-    subst (λ (z : Float). HasValue z false (r * 2 ^ k) (2 ^ 1074))
-    (round-same binary64 false (r * 2 ^ k) (2 ^ 1074) (m * up e * (1 * 1)) (down e * 2 ^ 27) (pow-pos 1074) (mul-pos (down-pos e) (pow-pos 27))
-    (sym (down-fraction m (up e) (down e) (r * 2 ^ (k + 27)) (r * 2 ^ k) (2 ^ 27) (2 ^ 1074) (v .1) (ap (λ (z : ℕ). r * z) (pow-add 2 k 27) ∙ sym (mul-assoc r (2 ^ k) (2 ^ 27))))))
-    (lowered-exact r k g h l)
-
--- ---- the branch that `rootOf` takes
-abbrev high54 : Float → ℕ
-high54 x = toBits binary64 (mul binary64 x (lit 0x4350_0000_0000_0000))
-
+-- ---- the arm that `rootOf` takes
 level-self : (a : ℕ) → eqb a a && (true || eqb a 0) ≡ true
 level-self a = rw (eq-eqb a a refl)
 
@@ -151,70 +161,16 @@ tests (fin false m e) b B v =
       tt,
     )
 
-branch : (b : ℕ) → 0 < b → b < 0x10_0000_0000_0000 → rootOf (ofBits binary64 b) ≡ mul binary64 (lit (rootBits (high54 (ofBits binary64 b)))) (lit 0x3e40_0000_0000_0000)
+arm : (b v : ℕ) → b < 0x7ff0_0000_0000_0000 → 0 < v → HasValue (ofBits binary64 b) false v (2 ^ 1074) → rootOf (ofBits binary64 b) ≡ ofBits binary64 (rootBits b)
 unfolding rootOf
-branch b B h =
+arm b v l above is =
     let x = ofBits binary64 b in
-    let t = tests x b B (small-is b h) in
-    let p : toBits binary64 x ≡ b = toBits-ofBits binary64 b (wide b h) (t .3) in
-    rw (t .0, t .1, t .2, p, lt-leb 0x7ff0_0000_0000_0000 b (omega arith), lt-ltb b 0x10_0000_0000_0000 h)
+    let t = tests x v above is in
+    let p : toBits binary64 x ≡ b = toBits-ofBits binary64 b (wide b l) (t .3) in
+    rw (t .0, t .1, t .2, p, lt-leb 0x7ff0_0000_0000_0000 b l)
   where
-    wide : (b : ℕ) → b < 0x10_0000_0000_0000 → b < 2 * 0x8000_0000_0000_0000
+    wide : (b : ℕ) → b < 0x7ff0_0000_0000_0000 → b < 2 * 0x8000_0000_0000_0000
     wide b h = omega arith
-
--- ---- the result
-squares : (k j : ℕ) → k ≡ j + 27 → 2 ^ k * 2 ^ k ≡ 2 ^ j * 2 ^ j * 2 ^ 54
-squares k j e =
-    let a : 2 ^ k ≡ 2 ^ j * 2 ^ 27 = ap (λ (z : ℕ). 2 ^ z) e ∙ pow-add 2 j 27 in
-    ap (λ (z : ℕ). z * z) a ∙ regroup (2 ^ j) (2 ^ 27)
-  where
-    regroup : (p q : ℕ) → p * q * (p * q) ≡ p * p * (q * q)
-    regroup p q = simp (mul-assoc, mul-comm, mul-left-comm)
-
-module _ (s p q x b c t : ℕ) (t-pos : 0 < t) (hq : q ≡ p * t) (hx : x ≡ b * t) where
-  left-side : s * q ≡ s * p * t
-  left-side = ap (λ (z : ℕ). s * z) hq ∙ sym (mul-assoc s p t)
-
-  right-side : x * c ≡ b * c * t
-  right-side = ap (λ (z : ℕ). z * c) hx ∙ mul-right-comm b t c
-
-  unscaled-le : s * q ≤ x * c → s * p ≤ b * c
-  unscaled-le h = le-of-mul-le-mul-right (le-trans (le-of-eq (sym left-side)) (le-trans h (le-of-eq right-side))) t-pos
-
-  unscaled-under : s * q < x * c → s * p < b * c
-  unscaled-under h = lt-of-mul-lt-mul-right t (lt-of-le-of-lt (le-of-eq (sym left-side)) (lt-of-lt-of-le h (le-of-eq right-side)))
-
-  unscaled-lt : x * c < s * q → b * c < s * p
-  unscaled-lt h = lt-of-mul-lt-mul-right t (lt-of-le-of-lt (le-of-eq (sym right-side)) (lt-of-lt-of-le h (le-of-eq left-side)))
-
-pub small-root : (b : ℕ) → 0 < b → b < 0x10_0000_0000_0000 → Bracket (ofBits binary64 b) (rootOf (ofBits binary64 b))
-small-root b B h =
-    let x = ofBits binary64 b in
-    let y = mul binary64 x (lit 0x4350_0000_0000_0000) in
-    let hy : HasValue y false (b * 2 ^ 54) (2 ^ 1074) = raised x b h (small-is b h) in
-    let back : ofBits binary64 (toBits binary64 y) ≡ y = ofBits-toBits binary64 y (mul-fits binary64 x (lit 0x4350_0000_0000_0000)) in
-    let hb : HasValue (ofBits binary64 (toBits binary64 y)) false (b * 2 ^ 54) (2 ^ 1074) = subst (λ (z : Float). HasValue z false (b * 2 ^ 54) (2 ^ 1074)) (sym back) hy in
-    let low = large-pattern (toBits binary64 y) (b * 2 ^ 54) hb (omega arith) in
-    let high = finite-pattern (toBits binary64 y) (b * 2 ^ 54) (2 ^ 1074) hb in
-    let N = root-is-nearest (toBits binary64 y) low high in
-    let kb = k-bounds (toBits binary64 y) low high in
-    let X-is : N .X ≡ b * 2 ^ 54 = same-size (ofBits binary64 (toBits binary64 y)) false false (N .X) (b * 2 ^ 54) (2 ^ 1074) (N .is-x) hb in
-    let k-is : N .k ≡ N .k - 27 + 27 = omega (arith, kb .0) in
-    let q = squares (N .k) (N .k - 27) k-is in
-    record {
-      X = b;
-      r = N .r;
-      k = N .k - 27;
-      is-x = small-is b h;
-      is-y =
-          subst (λ (z : Float). HasValue z false (N .r * 2 ^ (N .k - 27)) (2 ^ 1074)) (sym (branch b B h))
-          (lowered (lit (rootBits (toBits binary64 y))) (N .r) (N .k - 27) (N .digits .0) (N .digits .1) (omega (arith, kb .1))
-          (subst (λ (n : ℕ). HasValue (lit (rootBits (toBits binary64 y))) false (N .r * 2 ^ n) (2 ^ 1074)) k-is (N .is-y)));
-      digits = N .digits;
-      reach = unscaled-le (2 ^ 53 * 2 ^ 53) (2 ^ (N .k - 27) * 2 ^ (N .k - 27)) (2 ^ N .k * 2 ^ N .k) (N .X) b (2 ^ 1076) (2 ^ 54) (pow-pos 54) q X-is (N .reach);
-      under = unscaled-under ((2 * N .r - 1) * (2 * N .r - 1)) (2 ^ (N .k - 27) * 2 ^ (N .k - 27)) (2 ^ N .k * 2 ^ N .k) (N .X) b (2 ^ 1076) (2 ^ 54) (pow-pos 54) q X-is (N .under);
-      over = unscaled-lt ((2 * N .r + 1) * (2 * N .r + 1)) (2 ^ (N .k - 27) * 2 ^ (N .k - 27)) (2 ^ N .k * 2 ^ N .k) (N .X) b (2 ^ 1076) (2 ^ 54) (pow-pos 54) q X-is (N .over);
-    }
 
 -- ---- every finite x above 0
 val-pos : (b : ℕ) → 0 < val b
@@ -223,20 +179,20 @@ val-pos b = mul-pos (positive (b % 0x10_0000_0000_0000)) (pow-pos (b / 0x10_0000
     positive : (t : ℕ) → 0 < 0x10_0000_0000_0000 + t
     positive t = omega arith
 
-normal-branch : (b : ℕ) → 0x10_0000_0000_0000 ≤ b → b < 0x7ff0_0000_0000_0000 → rootOf (ofBits binary64 b) ≡ ofBits binary64 (rootBits b)
-unfolding rootOf
-normal-branch b h l =
-    let x = ofBits binary64 b in
-    let t = tests x (val b) (val-pos b) (bits-is b h l) in
-    let p : toBits binary64 x ≡ b = toBits-ofBits binary64 b (wide b l) (t .3) in
-    rw (t .0, t .1, t .2, p, lt-leb 0x7ff0_0000_0000_0000 b l, le-ltb b 0x10_0000_0000_0000 h)
-  where
-    wide : (b : ℕ) → b < 0x7ff0_0000_0000_0000 → b < 2 * 0x8000_0000_0000_0000
-    wide b h = omega arith
-
 pub root-bracket : (b : ℕ) → 0 < b → b < 0x7ff0_0000_0000_0000 → Bracket (ofBits binary64 b) (rootOf (ofBits binary64 b))
 root-bracket b B l = go (ltb b 0x10_0000_0000_0000) refl
   where
     go : (t : Bool) → ltb b 0x10_0000_0000_0000 ≡ t → Bracket (ofBits binary64 b) (rootOf (ofBits binary64 b))
-    go true e = small-root b B (ltb-true b 0x10_0000_0000_0000 e)
-    go false e = let h : 0x10_0000_0000_0000 ≤ b = ltb-false b 0x10_0000_0000_0000 e in subst (λ (y : Float). Bracket (ofBits binary64 b) y) (sym (normal-branch b h l)) (root-is-nearest b h l)
+    go true e = let h = ltb-true b 0x10_0000_0000_0000 e in rw (arm b b l B (small-is b h)) (small-root b B h)
+    go false e = let h = ltb-false b 0x10_0000_0000_0000 e in rw (arm b (val b) l (val-pos b) (bits-is b h l)) (normal-root b h l)
+
+-- ---- a pattern that is not a zero's
+pub not-zero : (x : Float) → T (fits binary64 x) → eq x (lit 0) ≡ false → 0 < toBits binary64 x
+not-zero x t e = go (toBits binary64 x) (ofBits-toBits binary64 x t)
+  where
+    clash : eq (lit 0) (lit 0) ≡ true
+    clash = unfold eq ofBits in refl
+
+    go : (n : ℕ) → ofBits binary64 n ≡ x → 0 < n
+    go zero q = absurd (subst T (sym clash ∙ ap (λ (y : Float). eq y (lit 0)) q ∙ e) tt)
+    go (suc n) q = omega arith

@@ -2,7 +2,7 @@
 use Prim.Native.Nat.{ℕ, zero, suc, _+_, _-_, _*_, _/_, _%_, _^_, _≤_, _<_}
 use mathlib.Core.Bool.{Bool, false, not, cond}
 use lib.Dec.{ltb, leb, eqb}
-use lib.Ieee.{Float, nan, binary64, mul, eq, lt, ne, ofBits, toBits}
+use lib.Ieee.{Float, nan, binary64, eq, lt, ne, toBits, size}
 use Rattle.float.specs.Double.{lit}
 
 -- q is the whole part of the square root of n
@@ -23,28 +23,34 @@ rootIn (suc k) n = grown (rootIn k (n / 4)) n
 unfoldable pub nearestTest : ℕ → ℕ → Bool
 nearestTest m r = cond (eqb r 0) false (cond (leb ((2 * r - 1) * (2 * r - 1)) (m * 2 ^ 54)) (not (leb ((2 * r + 1) * (2 * r + 1)) (m * 2 ^ 54))) false)
 
--- Where the exponent's field of the pattern b is e, from 1 up, b is the number c * 2 ^ (e - 1075), c having 53 digits.
--- That is m * 4 ^ (h - 1075), for x = e + 1075, h = x / 2 and m = c or 2c as x is even or odd.
+-- A finite double above 0 is c * 2 ^ (x - 2150), for a c of 53 digits. Of a pattern b from 2 ^ 52 up, c is its last 52 digits with a 1 before them, and x is the exponent's field + 1075.
+-- A subnormal b is b * 2 ^ -1074, and c is b with zeros after it: `size b` is the number of b's digits.
+abbrev pub significand : ℕ → ℕ
+significand b = cond (ltb b (2 ^ 52)) (b * 2 ^ (53 - size b)) (b % 2 ^ 52 + 2 ^ 52)
+
+abbrev pub place : ℕ → ℕ
+place b = cond (ltb b (2 ^ 52)) (size b + 1023) (b / 2 ^ 52 + 1075)
+
+-- c * 2 ^ (x - 2150) is m * 4 ^ (h - 1075), for h = x / 2 and m = c or 2c as x is even or odd.
 -- The root has 53 digits, R * 2 ^ (h - 1101), for the whole number R that is nearest to the root of m * 4 ^ 26.
--- R is (q + 1) / 2 for the whole part q of twice that root, which is the root of m * 4 ^ 27. No tie can occur: the square of an odd q has 107 digits, the last of them 1, and m * 4 ^ 27 ends in zeros.
-abbrev pub half-exponent : ℕ → ℕ
-half-exponent b = (b / 2 ^ 52 + 1075) / 2
+-- R is (q + 1) / 2 for the whole part q of twice that root, which is the root of m * 4 ^ 27. No tie can occur: the square of an odd q ends in a 1, and m * 4 ^ 27 in zeros.
+-- m is `aligned` without its last ten digits, so m * 4 ^ 27 is `aligned` * 2 ^ 44.
+abbrev pub aligned : ℕ → ℕ → ℕ
+aligned c x = cond (eqb (x % 2) 0) (c * 1024) (c * 2048)
 
-abbrev pub aligned : ℕ → ℕ
-aligned b = cond (eqb ((b / 2 ^ 52 + 1075) % 2) 0) ((b % 2 ^ 52 + 2 ^ 52) * 1024) ((b % 2 ^ 52 + 2 ^ 52) * 2048)
+-- the root's pattern
+unfoldable pub rootAt : ℕ → ℕ → ℕ
+rootAt c x = (x / 2 - 27) * 2 ^ 52 + (rootIn 54 (aligned c x * 2 ^ 44) + 1) / 2
 
--- m is `aligned` without its last ten digits, so m * 4 ^ 27 is `aligned` * 2 ^ 44
 unfoldable pub rootBits : ℕ → ℕ
-rootBits b = (half-exponent b - 27) * 2 ^ 52 + (rootIn 54 (aligned b * 2 ^ 44) + 1) / 2
+unfolding rootAt size
+rootBits b = rootAt (significand b) (place b)
 
 -- A zero is its own root, with its sign, and so is the infinity. A negative number has none.
--- A subnormal x is multiplied by 2 ^ 54 first and its root by 2 ^ -27 afterwards, both of them exact.
 unfoldable pub rootOf : Float → Float
 rootOf x =
     cond (ne x x) x
     (cond (eq x (lit 0)) x
     (cond (lt x (lit 0)) nan
     (cond (leb 0x7ff0_0000_0000_0000 (toBits binary64 x)) x
-    (cond (ltb (toBits binary64 x) 0x10_0000_0000_0000)
-    (mul binary64 (lit (rootBits (toBits binary64 (mul binary64 x (lit 0x4350_0000_0000_0000))))) (lit 0x3e40_0000_0000_0000))
-    (lit (rootBits (toBits binary64 x)))))))
+    (lit (rootBits (toBits binary64 x))))))

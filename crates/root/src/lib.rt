@@ -1,9 +1,9 @@
 // The IEEE square root of a double, by whole-number arithmetic: total, and equal to `rootOf` of specs/Root.antt, which is the nearest double (specs/Nearest.antt).
 ghost use mathlib.Core.Path.{_≡_};
-ghost use Prim.Native.Nat.{_+_, _*_, _/_, _%_, _^_, _<_};
+ghost use Prim.Native.Nat.{_+_, _*_, _/_, _%_, _^_, _≤_, _<_};
 ghost use lib.Dec.{leb};
 ghost use Rattle.root.specs.Root as Root;
-ghost use Rattle.root.specs.Root.{rootIn, rootBits, rootOf, nearestTest};
+ghost use Rattle.root.specs.Root.{rootIn, rootAt, rootBits, rootOf, nearestTest};
 
 // The whole part of the root of d0 * 2^44, which has 54 digits: q so far, with what is left over, r, and the digits to come, d.
 pub fn root_digits(d0: u64) -> u64
@@ -29,11 +29,11 @@ pub fn root_digits(d0: u64) -> u64
     q
 }
 
-fn aligned(b: u64) -> u64
-    ensures { λ r. ⌜ (r ≡ Root.aligned b) × (r % 1024 ≡ 0) ⌝ }
+fn aligned(c: u64, x: u64) -> u64
+    requires { ⌜ c < 2 ^ 53 ⌝ }
+    ensures { λ r. ⌜ (r ≡ Root.aligned c x) × (r % 1024 ≡ 0) ⌝ }
 {
-    let c = b % 0x10_0000_0000_0000 + 0x10_0000_0000_0000;
-    if (b / 0x10_0000_0000_0000 + 1075) % 2 == 0 {
+    if x % 2 == 0 {
         return c * 1024;
     }
     c * 2048
@@ -112,11 +112,40 @@ fn root_nearest(d: u64) -> u64
     (root_digits(d) + 1) / 2
 }
 
-fn root_bits(b: u64) -> u64
+// The pattern of the root of c * 2^(x - 2150).
+fn root_at(c: u64, x: u64) -> u64
+    requires { ⌜ (c < 2 ^ 53) × (54 ≤ x) × (x < 6000) ⌝ }
+    ensures { λ r. ⌜ r ≡ rootAt c x ⌝ }
+{
+    let r = root_nearest(aligned(c, x));
+    (x / 2 - 27) * 0x10_0000_0000_0000 + r
+}
+
+// The pattern of the root of a subnormal, which is doubled until it has 53 digits.
+fn root_small(b: u64) -> u64
+    requires { ⌜ (0 < b) × (b < 2 ^ 52) ⌝ }
     ensures { λ r. ⌜ r ≡ rootBits b ⌝ }
 {
-    let r = root_nearest(aligned(b));
-    ((b / 0x10_0000_0000_0000 + 1075) / 2 - 27) * 0x10_0000_0000_0000 + r
+    let mut c: u64 = b;
+    let mut x: u64 = 1076;
+    while c < 0x10_0000_0000_0000 {
+        c *= 2;
+        x -= 1;
+    }
+    root_at(c, x)
+}
+
+fn root_bits(b: u64) -> u64
+    requires { ⌜ 0 < b ⌝ }
+    ensures { λ r. ⌜ r ≡ rootBits b ⌝ }
+{
+    if b < 0x10_0000_0000_0000 {
+        return root_small(b);
+    }
+    root_at(
+        b % 0x10_0000_0000_0000 + 0x10_0000_0000_0000,
+        b / 0x10_0000_0000_0000 + 1075,
+    )
 }
 
 pub fn sqrt(x: f64) -> f64
@@ -134,10 +163,6 @@ pub fn sqrt(x: f64) -> f64
     let b = float::bits(x);
     if b >= 0x7ff0_0000_0000_0000 {
         return x;
-    }
-    if b < 0x10_0000_0000_0000 {
-        let c = float::bits(x * 18014398509481984.0);
-        return float::from_bits(root_bits(c)) * 0.000000007450580596923828125;
     }
     float::from_bits(root_bits(b))
 }
