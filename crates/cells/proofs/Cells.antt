@@ -148,16 +148,20 @@ module _ (w : List Float) (b : ℕ) (v : List Complex) {n : ℕ} (e : length v �
   unfolding putC
   putC-apart c u {m} h a = put-apart w b (flat v) (length-flat v e) c (flat u) (length-flat u h) a
 
+-- a vector is what its 2 n doubles say
+flat-only : (u v : List Complex) {n : ℕ} → length u ≡ n → length v ≡ n → flat u ≡ flat v → u ≡ v
+flat-only u v {n} h k e =
+    ext-getD cnan u v (h ∙ sym k) (λ i l.
+    let x : getD u i cnan .re ≡ getD v i cnan .re = sym (flat-re u i l) ∙ ap (λ t. getD t i nan) e ∙ flat-re v i (omega arith) in
+    let y : getD u i cnan .im ≡ getD v i cnan .im = sym (flat-im u h i) ∙ ap (λ t. getD t (n + i) nan) e ∙ flat-im v k i in
+    λ k. record { re = x k; im = y k })
+
+pub regionC-flat : (w : List Float) (b n : ℕ) (v : List Complex) → length v ≡ n → region nan w b (2 * n) ≡ flat v → regionC w b n ≡ v
+regionC-flat w b n v h e = flat-only (regionC w b n) v (length-regionC w b n) h (flat-regionC w b n ∙ e)
+
+pub regionC-same : (w w′ : List Float) (b n : ℕ) → region nan w b (2 * n) ≡ region nan w′ b (2 * n) → regionC w b n ≡ regionC w′ b n
+regionC-same w w′ b n e = regionC-flat w b n (regionC w′ b n) (length-regionC w′ b n) (e ∙ sym (flat-regionC w′ b n))
+
 -- a real region that was put leaves a vector elsewhere
 pub regionC-put-else : (w : List Float) (b : ℕ) (v : List Float) {n : ℕ} → length v ≡ n → (c m : ℕ) → Apart b n c (2 * m) → regionC (put w b v) c m ≡ regionC w c m
-regionC-put-else w b v {n} e c m a =
-    let x : flat (regionC (put w b v) c m) ≡ flat (regionC w c m) =
-    flat-regionC (put w b v) c m ∙ region-else w b v e nan c (2 * m) a ∙ sym (flat-regionC w c m) in
-    flat-only (regionC (put w b v) c m) (regionC w c m) (length-regionC _ c m) (length-regionC _ c m) x
-  where
-    flat-only : (u v : List Complex) {n : ℕ} → length u ≡ n → length v ≡ n → flat u ≡ flat v → u ≡ v
-    flat-only u v {n} h k e =
-        ext-getD cnan u v (h ∙ sym k) (λ i l.
-        let x : getD u i cnan .re ≡ getD v i cnan .re = sym (flat-re u i l) ∙ ap (λ t. getD t i nan) e ∙ flat-re v i (omega arith) in
-        let y : getD u i cnan .im ≡ getD v i cnan .im = sym (flat-im u h i) ∙ ap (λ t. getD t (n + i) nan) e ∙ flat-im v k i in
-        λ k. record { re = x k; im = y k })
+regionC-put-else w b v {n} e c m a = regionC-same (put w b v) w c m (region-else w b v e nan c (2 * m) a)

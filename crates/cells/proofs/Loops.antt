@@ -26,6 +26,11 @@ pub apart-cases : (a n b m : ℕ) → Apart a n b m → (a + n ≤ b) ⊎ (b + m
 unfolding Apart
 apart-cases a n b m h = h
 
+pub apart-other : (a n b m : ℕ) → Apart a n b m → Apart b m a n
+unfolding Apart
+apart-other a n b m (inl l) = inr l
+apart-other a n b m (inr l) = inl l
+
 -- ---- iter
 
 module _ {ℓ} {S : Type ℓ} where
@@ -44,14 +49,6 @@ module _ {ℓ} {S : Type ℓ} where
   unfolding iter
   iter-keeps P step zero s p more = p
   iter-keeps P step (suc n) s p more = more n (iter step n s) (omega arith) (iter-keeps P step n s p (λ i t l. more i t (omega arith)))
-
--- two loops of one length, turn by turn
-pub iter-map {ℓ ℓ′} : {S : Type ℓ} {T : Type ℓ′} (f : S → T) (step : ℕ → S → S) (step′ : ℕ → T → T) (n : ℕ) (s : S)
-    → ((i : ℕ) (t : S) → i < n → f (step i t) ≡ step′ i (f t)) → f (iter step n s) ≡ iter step′ n (f s)
-unfolding iter
-iter-map f step step′ zero s h = refl
-iter-map f step step′ (suc n) s h =
-    h n (iter step n s) (omega arith) ∙ ap (step′ n) (iter-map f step step′ n s (λ i t l. h i t (omega arith)))
 
 -- ---- tab
 

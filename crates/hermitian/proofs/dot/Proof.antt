@@ -1,0 +1,58 @@
+use Rattle.hermitian.proofs.Loops.{dotTo, dot-none, dot-again, dot-done}
+use mathlib.Core.Path.{_≡_}
+use Prim.Native.Nat.{_≤_, _-_}
+use borrow.Author.Needs.{needs}
+use Rattle.hermitian.proofs.dot.Statement.{statement}
+use Rattle.hermitian.proofs.dot.Tie as tie
+use Rattle.hermitian.proofs.dot.Reads as reads
+use Rattle.hermitian.proofs.dot.Lts as lts
+use Rattle.complex.proofs.Complex.new.Reads as new-reads
+use Rattle.hermitian.proofs.dot_turn.Reads as dot-turn-reads
+
+abbrev Inv-loop : tie.InvT-loop
+Inv-loop work a b n sum₀ i₀ sum i = (i ≤ n) × (sum ≡ dotTo work a b n i)
+
+abbrev μ-loop : tie.MeasureT-loop
+μ-loop work a b n sum₀ i₀ sum i = n - i
+
+-- src/lib.rt:40:9
+new-requires : tie.Need-new-requires Inv-loop μ-loop
+new-requires c κs = search needs
+
+-- src/lib.rt:41:5
+loop-holds : tie.Need-loop-holds Inv-loop μ-loop
+loop-holds c = search (dot-none, needs)
+
+-- src/lib.rt:42:9
+dot-turn-requires : tie.Need-dot-turn-requires Inv-loop μ-loop
+dot-turn-requires c κs = search needs
+
+-- src/lib.rt:41:9
+add-i : tie.Need-add-i Inv-loop μ-loop
+add-i c = search needs
+
+-- src/lib.rt:41:5
+loop-less : tie.Need-loop-less Inv-loop μ-loop
+loop-less c = search needs
+
+-- src/lib.rt:41:5
+loop-again : tie.Need-loop-again Inv-loop μ-loop
+loop-again c = search (dot-again, needs)
+
+-- src/lib.rt:36:1
+returns : tie.Need-returns Inv-loop μ-loop
+returns c = search dot-done
+
+pub dot-spec : {M : Type 1} → statement M
+dot-spec =
+    tie.close
+    (tie.spec
+    Inv-loop
+    μ-loop
+    new-requires
+    loop-holds
+    dot-turn-requires
+    add-i
+    loop-less
+    loop-again
+    returns)

@@ -1,0 +1,58 @@
+use mathlib.Core.Path.{_∙_}
+use borrow.Author.Needs.{needs}
+use Rattle.hermitian.proofs.edge_at.Statement.{statement}
+use Rattle.hermitian.proofs.edge_at.Tie as tie
+use Rattle.hermitian.proofs.edge_at.Reads as reads
+use Rattle.hermitian.proofs.edge_at.Lts as lts
+use Rattle.hermitian.proofs.edge_turn.Reads as edge-turn-reads
+use Rattle.hermitian.proofs.wide.Reads as wide-reads
+
+-- src/lib.rt:126:59
+mul-wide : tie.Need-mul-wide
+mul-wide c = search needs
+
+-- src/lib.rt:126:59
+shared-slice-read-wide : tie.Need-shared-slice-read-wide
+shared-slice-read-wide c = search needs
+
+-- src/lib.rt:126:54
+wide-requires : tie.Need-wide-requires
+wide-requires c κs = search needs
+
+-- src/lib.rt:126:74
+mul-wide-2 : tie.Need-mul-wide-2
+mul-wide-2 c = search needs
+
+-- src/lib.rt:126:74
+shared-slice-read-wide-2 : tie.Need-shared-slice-read-wide-2
+shared-slice-read-wide-2 c = search needs
+
+-- src/lib.rt:126:69
+wide-requires-2 : tie.Need-wide-requires-2
+wide-requires-2 c κs = search needs
+
+-- src/lib.rt:126:5
+edge-turn-requires : tie.Need-edge-turn-requires
+edge-turn-requires c κs = search needs
+
+-- src/lib.rt:121:1
+same-length : tie.Need-same-length
+same-length c = search needs
+
+-- src/lib.rt:121:1
+returns : tie.Need-returns
+returns c = c .before .before .edge-turn .ensures ∙ rw (c .before .before .before .before .before .wide .ensures, c .before .before .before .wide2 .ensures)
+
+pub edge-at-spec : {M : Type 1} → statement M
+edge-at-spec =
+    tie.close
+    (tie.spec
+    mul-wide
+    shared-slice-read-wide
+    wide-requires
+    mul-wide-2
+    shared-slice-read-wide-2
+    wide-requires-2
+    edge-turn-requires
+    same-length
+    returns)
