@@ -1,0 +1,67 @@
+use Rattle.conjugate_gradient.proofs.Mass.{normalize-not, normalize-done}
+use borrow.Author.Needs.{needs}
+use Rattle.conjugate_gradient.proofs.normalize_in_mass.Statement.{statement}
+use Rattle.conjugate_gradient.proofs.normalize_in_mass.Tie as tie
+use Rattle.conjugate_gradient.proofs.normalize_in_mass.Reads as reads
+use Rattle.conjugate_gradient.proofs.normalize_in_mass.Lts as lts
+use Rattle.conjugate_gradient.proofs.is_unfit.Reads as is-unfit-reads
+use Rattle.conjugate_gradient.proofs.scale_by.Reads as scale-by-reads
+use Rattle.float.proofs.recip.Reads as recip-reads
+use Rattle.hermitian.proofs.apply.Reads as apply-reads
+use Rattle.hermitian.proofs.dot_re.Reads as dot-re-reads
+use Rattle.root.proofs.sqrt.Reads as sqrt-reads
+
+-- src/lib.rt:345:5
+apply-requires : tie.Need-apply-requires
+apply-requires c κs = search needs
+
+-- src/lib.rt:346:9
+dot-re-requires : tie.Need-dot-re-requires
+dot-re-requires c κs = search needs
+
+-- src/lib.rt:347:8
+is-unfit-requires : tie.Need-is-unfit-requires
+is-unfit-requires c κs = search needs
+
+-- src/lib.rt:348:9
+same-length : tie.Need-same-length
+same-length c = search needs
+
+-- src/lib.rt:348:9
+returns : tie.Need-returns
+returns c = normalize-not _ _ _ _ _ (c .before .before .before .before .before .before .before .before .before .before .before .pre .0) (c .before .before .before .before .before .before .apply .ensures) (c .before .before .dot-re .ensures) (c .before .is-unfit .ensures) (c .if1 .taken)
+
+-- src/lib.rt:350:47
+sqrt-requires : tie.Need-sqrt-requires
+sqrt-requires c κs = search needs
+
+-- src/lib.rt:350:34
+recip-requires : tie.Need-recip-requires
+recip-requires c κs = search needs
+
+-- src/lib.rt:350:5
+scale-by-requires : tie.Need-scale-by-requires
+scale-by-requires c κs = search needs
+
+-- src/lib.rt:340:1
+same-length-2 : tie.Need-same-length-2
+same-length-2 c = search needs
+
+-- src/lib.rt:340:1
+returns-2 : tie.Need-returns-2
+returns-2 c = normalize-done _ _ _ _ _ (c .before .before .before .before .before .before .before .before .before .before .before .before .before .before .before .before .before .pre .0) (c .before .before .before .before .before .before .before .before .before .before .before .before .apply .ensures) (c .before .before .before .before .before .before .before .before .dot-re .ensures) (c .before .before .before .before .before .before .before .is-unfit .ensures) (c .before .before .before .before .before .before .if1 .left) (c .before .before .before .before .sqrt .ensures) (c .before .before .before .recip .ensures) (c .before .before .scale-by .ensures)
+
+pub normalize-in-mass-spec : {M : Type 1} → statement M
+normalize-in-mass-spec =
+    tie.close
+    (tie.spec
+    apply-requires
+    dot-re-requires
+    is-unfit-requires
+    same-length
+    returns
+    sqrt-requires
+    recip-requires
+    scale-by-requires
+    same-length-2
+    returns-2)
