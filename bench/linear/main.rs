@@ -19,7 +19,7 @@ mod reference {
         System(h, complex(rhs))
     }
 
-    pub fn solve(s: &System, tolerance: f64, most: usize) -> Option<(Vec<[f64; 2]>, usize)> {
+    pub fn answer(s: &System, tolerance: f64, most: usize) -> Option<(Vec<[f64; 2]>, usize)> {
         let (x, count) = conjugate_gradient(&s.0, &s.1, tolerance, most).ok()?;
         Some((x.iter().map(|z| [z.re, z.im]).collect(), count))
     }
@@ -96,7 +96,7 @@ fn main() {
         let ours = |work: &mut Vec<f64>, tolerance: f64, most: usize| unsafe {
             layers_conjugate_gradient(work.as_mut_ptr(), work.len(), n, from.as_ptr(), m, to.as_ptr(), m, tolerance, most)
         };
-        let (x, count) = reference::solve(&system, 1e-10, 6000).expect("the reference converges");
+        let (x, count) = reference::answer(&system, 1e-10, 6000).expect("the reference converges");
         assert!(ours(&mut work, 1e-10, 6000));
         let same = (0..n).all(|i| {
             x[i][0].to_bits() == work[n + 2 * m + i].to_bits() && x[i][1].to_bits() == work[n + 2 * m + n + i].to_bits()
