@@ -1,7 +1,8 @@
-// fdlibm 5.3's atan and atan2.
+// fdlibm 5.3's atan and atan2. Each function is one part of the C and equal to its definition in specs/, operation by
+// operation (docs/FDLIBM.md).
 ghost use mathlib.Core.Path.{_≡_};
-ghost use Prim.Native.Nat.{_≤_};
-ghost use Rattle.arctangent.specs.Arc.{atanTail, atanNear, atanSize, atanOf, quadrant, atanRatio, placed, atAxis, atan2Of};
+ghost use Prim.Native.Nat.{_+_, _*_};
+ghost use Rattle.arctangent.specs.Arc.{isNan, isZero, isOne, atanTail, atanNear, atanSize, atanOf, quadrant, switch, atanRatio, placed, atInfinity, upright, atan2Of};
 
 const ATANHI0: f64 = 4.63647609000806093515e-01;
 
@@ -51,6 +52,7 @@ const PI_LO: f64 = 1.2246467991473531772E-16;
 
 const TINY: f64 = 1.0e-300;
 
+// x * (s1 + s2).
 fn atan_tail(x: f64) -> f64
     ensures { λ r. ⌜ r ≡ atanTail x ⌝ }
 {
@@ -61,12 +63,14 @@ fn atan_tail(x: f64) -> f64
     x * (s1 + s2)
 }
 
+// atanhi[id] - ((x * (s1 + s2) - atanlo[id]) - x).
 fn atan_near(hi: f64, lo: f64, x: f64) -> f64
     ensures { λ r. ⌜ r ≡ atanNear hi lo x ⌝ }
 {
     hi - (atan_tail(x) - lo - x)
 }
 
+// The arc of an x from 7/16 up.
 fn atan_size(x: f64, ix: u64) -> f64
     ensures { λ r. ⌜ r ≡ atanSize x ix ⌝ }
 {
@@ -82,47 +86,77 @@ fn atan_size(x: f64, ix: u64) -> f64
     atan_near(ATANHI3, ATANLO3, -1.0 / x)
 }
 
+// (ix | ((lx | -lx) >> 31)) > 0x7ff00000
+fn is_nan(x: f64) -> bool
+    ensures { λ r. ⌜ r ≡ isNan x ⌝ }
+{
+    float::bits(x) % 0x8000_0000_0000_0000 > 0x7ff0_0000_0000_0000
+}
+
+// (ix | lx) == 0
+fn is_zero(x: f64) -> bool
+    ensures { λ r. ⌜ r ≡ isZero x ⌝ }
+{
+    float::bits(x) % 0x8000_0000_0000_0000 == 0
+}
+
+// ((hx - 0x3ff00000) | lx) == 0
+fn is_one(x: f64) -> bool
+    ensures { λ r. ⌜ r ≡ isOne x ⌝ }
+{
+    float::bits(x) == 0x3ff0_0000_0000_0000
+}
+
+// The arctangent.
 pub fn atan(x: f64) -> f64
     ensures { λ r. ⌜ r ≡ atanOf x ⌝ }
 {
-    if x != x {
-        return x + x;
-    }
     let ix = float::high_word(x);
     if ix >= 0x4410_0000 {
-        if x > 0.0 {
+        if is_nan(x) {
+            return x + x;
+        }
+        if float::sign_bit(x) == 0 {
             return ATANHI3 + ATANLO3;
         }
         return -ATANHI3 - ATANLO3;
     }
-    if ix < 0x3e20_0000 {
-        return x;
-    }
     if ix < 0x3fdc_0000 {
+        if ix < 0x3e20_0000 {
+            return x;
+        }
         return x - atan_tail(x);
     }
     let z = atan_size(float::abs(x), ix);
-    if x < 0.0 {
-        return -z;
+    if float::sign_bit(x) == 0 {
+        return z;
     }
-    z
+    -z
 }
 
-fn in_quadrant(sx: u64, sy: u64, a: f64, b: f64, c: f64, d: f64) -> f64
-    ensures { λ r. ⌜ r ≡ quadrant sx sy a b c d ⌝ }
+// m: the sign of y, and twice that of x.
+fn quadrant_of(y: f64, x: f64) -> u64
+    ensures { λ r. ⌜ r ≡ quadrant y x ⌝ }
 {
-    if sx == 0 {
-        if sy == 0 {
-            return a;
-        }
+    float::bits(y) / 0x8000_0000_0000_0000 + 2 * (float::bits(x) / 0x8000_0000_0000_0000)
+}
+
+fn switch_of(m: u64, a: f64, b: f64, c: f64, d: f64) -> f64
+    ensures { λ r. ⌜ r ≡ switch m a b c d ⌝ }
+{
+    if m == 0 {
+        return a;
+    }
+    if m == 1 {
         return b;
     }
-    if sy == 0 {
+    if m == 2 {
         return c;
     }
     d
 }
 
+// z: the arc of |y / x|. k > 60 is ix + 61 * 2^20 <= iy, and k < -60 is iy + 60 * 2^20 < ix.
 fn atan_ratio(y: f64, x: f64) -> f64
     ensures { λ r. ⌜ r ≡ atanRatio y x ⌝ }
 {
@@ -131,78 +165,72 @@ fn atan_ratio(y: f64, x: f64) -> f64
     if ix + 0x3d0_0000 <= iy {
         return PI_O_2 + 0.5 * PI_LO;
     }
-    if x < 0.0 {
-        if iy + 0x3c0_0000 < ix {
-            return 0.0;
+    if iy + 0x3c0_0000 < ix {
+        if float::sign_bit(x) == 0 {
+            return atan(float::abs(y / x));
         }
-        return atan(float::abs(y / x));
+        return 0.0;
     }
     atan(float::abs(y / x))
 }
 
-fn place(sx: u64, sy: u64, z: f64) -> f64
-    ensures { λ r. ⌜ r ≡ placed sx sy z ⌝ }
+// The last switch. Turning the sign's bit of z is -z.
+fn place(m: u64, z: f64) -> f64
+    ensures { λ r. ⌜ r ≡ placed m z ⌝ }
 {
-    if sx == 0 {
-        if sy == 0 {
-            return z;
-        }
-        return -z;
-    }
-    if sy == 0 {
-        return PI - (z - PI_LO);
-    }
-    z - PI_LO - PI
+    switch_of(m, z, -z, PI - (z - PI_LO), z - PI_LO - PI)
 }
 
-fn at_axis(sx: u64, sy: u64, iy: u64) -> f64
-    ensures { λ r. ⌜ r ≡ atAxis sx sy iy ⌝ }
+fn at_infinity(m: u64, iy: u64) -> f64
+    ensures { λ r. ⌜ r ≡ atInfinity m iy ⌝ }
 {
     if iy == 0x7ff0_0000 {
-        return in_quadrant(
-            sx,
-            sy,
+        return switch_of(
+            m,
             PI_O_4 + TINY,
             -PI_O_4 - TINY,
             3.0 * PI_O_4 + TINY,
             -3.0 * PI_O_4 - TINY,
         );
     }
-    in_quadrant(sx, sy, 0.0, -1.0 * 0.0, PI + TINY, -PI - TINY)
+    switch_of(m, 0.0, -1.0 * 0.0, PI + TINY, -PI - TINY)
 }
 
+fn upright_of(y: f64) -> f64
+    ensures { λ r. ⌜ r ≡ upright y ⌝ }
+{
+    if float::sign_bit(y) == 0 {
+        return PI_O_2 + TINY;
+    }
+    -PI_O_2 - TINY
+}
+
+// The arc of the point (x, y), from -pi to pi.
 pub fn atan2(y: f64, x: f64) -> f64
     ensures { λ r. ⌜ r ≡ atan2Of y x ⌝ }
 {
-    if x != x {
+    if is_nan(x) {
         return x + y;
     }
-    if y != y {
+    if is_nan(y) {
         return x + y;
     }
-    if x == 1.0 {
+    if is_one(x) {
         return atan(y);
     }
-    let sx = float::sign_bit(x);
-    let sy = float::sign_bit(y);
-    if y == 0.0 {
-        return in_quadrant(sx, sy, y, y, PI + TINY, -PI - TINY);
+    let m = quadrant_of(y, x);
+    if is_zero(y) {
+        return switch_of(m, y, y, PI + TINY, -PI - TINY);
     }
-    if x == 0.0 {
-        if sy == 0 {
-            return PI_O_2 + TINY;
-        }
-        return -PI_O_2 - TINY;
+    if is_zero(x) {
+        return upright_of(y);
     }
     let iy = float::high_word(y);
     if float::high_word(x) == 0x7ff0_0000 {
-        return at_axis(sx, sy, iy);
+        return at_infinity(m, iy);
     }
     if iy == 0x7ff0_0000 {
-        if sy == 0 {
-            return PI_O_2 + TINY;
-        }
-        return -PI_O_2 - TINY;
+        return upright_of(y);
     }
-    place(sx, sy, atan_ratio(y, x))
+    place(m, atan_ratio(y, x))
 }

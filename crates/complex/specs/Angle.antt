@@ -1,5 +1,6 @@
 -- cross_angle and wrap_to_pi, step by step. Definitions only.
-use mathlib.Core.Bool.{cond, _&&_}
+use mathlib.Core.Path.{_≡_}
+use mathlib.Core.Bool.{true, cond, _&&_}
 use lib.Ieee.{Float, neg, lt, le}
 use Rattle.float.specs.Double.{lit, remEuclid, FRAC-PI-2, PI, TAU, _⊕_, _⊖_, _⊘_}
 use Rattle.complex.specs.declared.Complex.{Complex}
@@ -19,3 +20,14 @@ unwound w = cond (le w (neg PI)) (w ⊕ TAU) w
 
 unfoldable pub wrapToPi : Float → Float
 wrapToPi x = unwound (remEuclid (x ⊕ PI) TAU ⊖ PI)
+
+-- ---- what proofs/Range.antt shows of them
+-- a lies in [0, FRAC_PI_2), -0 counted in
+pub record IsCross (a : Float) : Type 0 where
+  pub from : le (lit 0) a ≡ true
+  pub below : lt a FRAC-PI-2 ≡ true
+
+-- w lies in (-PI, PI]
+pub record IsWrapped (w : Float) : Type 0 where
+  pub above : lt (neg PI) w ≡ true
+  pub to : le w PI ≡ true

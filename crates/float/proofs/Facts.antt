@@ -1,4 +1,4 @@
--- Facts on single values that the proofs cite. Assumes nothing.
+-- Facts on single values: what a comparison with a bound says of the value, and what a bit pattern is where its sign is cleared or turned. The proofs of this crate and of those above cite them. Assumes nothing.
 use mathlib.Core.Path.{_≡_, refl, sym, ap, _∙_, subst}
 use Prim.Native.Nat.{ℕ, zero, suc, _+_, _-_, _*_, _/_, _%_, _^_, _≤_, _<_, min}
 use native.Mathlib.Nat.{mul-one, one-mul, zero-mul, mul-le-mul-right, le-div-iff-mul-le, min-eq-right, pow-succ'}
@@ -12,7 +12,7 @@ use lib.Ieee.{Float, nan, inf, fin, binary64, up, down, lt, eq, ne, neg, div, of
 use lib.Ieee.Bits.{nanBits-is, nanBits-above, ofBits-toBits, toBits-lt}
 use lib.Ieee.Fits.{down-pos, up-pos}
 use lib.Ieee.Compare.{differs-from-itself}
-use Rattle.float.specs.Double.{mag, isFinite}
+use Rattle.float.specs.Double.{mag, isFinite, turnSign}
 
 no : {A : Type 0} → false ≡ true → A
 no h = absurd (subst T (sym h) tt)
@@ -20,59 +20,7 @@ no h = absurd (subst T (sym h) tt)
 no' : {A : Type 0} → true ≡ false → A
 no' h = absurd (subst T h tt)
 
--- ---- abs
-pub abs-neg : (x : Float) → lt x (ofBits binary64 0) ≡ true → neg x ≡ mag x
-unfolding lt ofBits neg mag
-abs-neg nan h = refl
-abs-neg (inf true) h = refl
-abs-neg (inf false) h = no h
-abs-neg (fin true m e) h = refl
-abs-neg (fin false m e) h = absurd (omega (arith, ltb-true (m * up e * 1) (0 * 1 * down e) h))
-
-one-of : (e : ℤ) → up e * down e ≡ 1 → e ≡ pos 0
-one-of (pos zero) h = refl
-one-of (pos (suc k)) h = absurd (omega (arith, h, pow-succ' 2 k, pow-pos k))
-one-of (negsuc k) h = absurd (omega (arith, h, pow-succ' 2 k, pow-pos k))
-
-zero-fits : (s : Bool) (m : ℕ) (e : ℤ) → m ≡ 0 → T (fits binary64 (fin s m e)) → fin false 0 (pos 0) ≡ fin false m e
-unfolding fits
-zero-fits s zero e z t = ap (λ (k : ℤ). fin false 0 k) (sym (one-of e (eqb→eq _ _ t)))
-zero-fits s (suc m) e z t = absurd (omega arith)
-
-product-zero : (m u : ℕ) → 0 < u → m * u ≡ 0 → m ≡ 0
-product-zero zero u h e = refl
-product-zero (suc m) u h e = absurd (omega (arith, e, mul-le-mul-right u (lit m)))
-  where
-    lit : (m : ℕ) → 1 ≤ suc m
-    lit m = omega arith
-
-and-left : (a b : Bool) → a && b ≡ true → a ≡ true
-and-left true b h = refl
-and-left false b h = no h
-
-pub abs-zero : (x : Float) → T (fits binary64 x) → eq x (ofBits binary64 0) ≡ true → ofBits binary64 0 ≡ mag x
-unfolding eq ofBits mag
-abs-zero nan t h = no h
-abs-zero (inf s) t h = no h
-abs-zero (fin s m e) t h =
-    let a : m * up e * 1 ≡ 0 * 1 * down e = eqb-true _ _ (and-left _ _ h) in
-    zero-fits s m e (product-zero m (up e) (up-pos e) (omega arith)) t
-
--- what is not below and not equal to zero has no sign
-both-no : (a b : ℕ) → ltb 0 (a + b) ≡ false → b ≡ 0 → a ≡ 0
-both-no a b h z = omega (arith, ltb-false 0 (a + b) h)
-
-pub abs-pos : (x : Float) → lt x (ofBits binary64 0) ≡ false → eq x (ofBits binary64 0) ≡ false → x ≡ mag x
-unfolding lt eq ofBits mag
-abs-pos nan h k = refl
-abs-pos (inf true) h k = no' h
-abs-pos (inf false) h k = refl
-abs-pos (fin false m e) h k = refl
-abs-pos (fin true m e) h k =
-    let z : 0 * 1 * down e ≡ 0 = omega arith in
-    let a : m * up e * 1 ≡ 0 = both-no _ _ h z in
-    no' (sym (simp (eq-eqb (m * up e * 1) (0 * 1 * down e) (a ∙ sym z), eq-eqb (m * up e * 1) 0 a)) ∙ k)
-
+-- ---- is_finite
 pub finite-is : (x : Float) → lt (mag x) (div binary64 (ofBits binary64 0x3ff0_0000_0000_0000) (ofBits binary64 0)) ≡ isFinite x
 unfolding lt ofBits mag div
 finite-is nan = refl
@@ -151,6 +99,32 @@ clear-sign (inf true) t = refl
 clear-sign (inf false) t = refl
 clear-sign (fin true m e) t = top-and _ _ (toBits-lt binary64 (fin true m e) t)
 clear-sign (fin false m e) t = no-top _ _ (toBits-lt binary64 (fin true m e) (signs-alike m e t))
+
+-- ---- the sign turned, by the pattern
+drop-top : (a b : ℕ) → turnSign (0x8000_0000_0000_0000 + a + b) ≡ 0 + a + b
+drop-top a b = rw (le-ltb (0x8000_0000_0000_0000 + a + b) 0x8000_0000_0000_0000 (omega arith)) (omega arith)
+
+put-top : (a b : ℕ) → 0x8000_0000_0000_0000 + a + b < 2 * 0x8000_0000_0000_0000 → turnSign (0 + a + b) ≡ 0x8000_0000_0000_0000 + a + b
+put-top a b h = rw (lt-ltb (0 + a + b) 0x8000_0000_0000_0000 (omega arith)) (omega arith)
+
+neg-fits : (x : Float) → T (fits binary64 x) → T (fits binary64 (neg x))
+unfolding fits neg
+neg-fits nan t = tt
+neg-fits (inf s) t = tt
+neg-fits (fin s zero e) t = t
+neg-fits (fin s (suc m) e) t = t
+
+turned-fin : (s : Bool) (m : ℕ) (e : ℤ) → T (fits binary64 (fin s m e)) → turnSign (toBits binary64 (fin s m e)) ≡ toBits binary64 (fin (not s) m e)
+unfolding toBits
+turned-fin true m e t = drop-top _ _
+turned-fin false m e t = put-top _ _ (toBits-lt binary64 (fin true m e) (signs-alike m e t))
+
+pub sign-turned : (x : Float) → T (fits binary64 x) → ofBits binary64 (turnSign (toBits binary64 x)) ≡ neg x
+unfolding neg
+sign-turned nan t = unfold ofBits toBits in refl
+sign-turned (inf true) t = unfold ofBits toBits in refl
+sign-turned (inf false) t = unfold ofBits toBits in refl
+sign-turned (fin s m e) t = ap (λ (n : ℕ). ofBits binary64 n) (turned-fin s m e t) ∙ ofBits-toBits binary64 (fin (not s) m e) (neg-fits (fin s m e) t)
 
 pub abs-nan : (x : Float) → ne x x ≡ true → x ≡ mag x
 unfolding mag

@@ -2,3 +2,5 @@ pub mod Facts
 pub mod Sign
 pub mod Less
 pub mod Rem
+pub mod Within
+pub mod Signed

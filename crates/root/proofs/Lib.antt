@@ -1,4 +1,4 @@
 pub mod Laws
-mod Vectors
 pub mod Value
 pub mod Small
+pub mod Theorem

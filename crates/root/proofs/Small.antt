@@ -15,7 +15,7 @@ use lib.Ieee.Exact.{HasValue, odd-sign, round-exact}
 use lib.Ieee.Scale.{round-same}
 use Rattle.float.specs.Double.{lit}
 use Rattle.root.specs.Root.{rootBits, rootOf}
-use Rattle.root.proofs.Value.{Nearest, root-is-nearest, k-bounds, val, bits-is}
+use Rattle.root.proofs.Value.{Bracket, root-is-nearest, k-bounds, val, bits-is}
 
 -- ---- one value, one sign and size
 same-sign : (x : Float) (s t : Bool) (a b c d : ℕ) → HasValue x s a c → HasValue x t b d → s ≡ t
@@ -181,10 +181,13 @@ module _ (s p q x b c t : ℕ) (t-pos : 0 < t) (hq : q ≡ p * t) (hx : x ≡ b 
   unscaled-le : s * q ≤ x * c → s * p ≤ b * c
   unscaled-le h = le-of-mul-le-mul-right (le-trans (le-of-eq (sym left-side)) (le-trans h (le-of-eq right-side))) t-pos
 
+  unscaled-under : s * q < x * c → s * p < b * c
+  unscaled-under h = lt-of-mul-lt-mul-right t (lt-of-le-of-lt (le-of-eq (sym left-side)) (lt-of-lt-of-le h (le-of-eq right-side)))
+
   unscaled-lt : x * c < s * q → b * c < s * p
   unscaled-lt h = lt-of-mul-lt-mul-right t (lt-of-le-of-lt (le-of-eq (sym right-side)) (lt-of-lt-of-le h (le-of-eq left-side)))
 
-pub small-root : (b : ℕ) → 0 < b → b < 0x10_0000_0000_0000 → Nearest (ofBits binary64 b) (rootOf (ofBits binary64 b))
+pub small-root : (b : ℕ) → 0 < b → b < 0x10_0000_0000_0000 → Bracket (ofBits binary64 b) (rootOf (ofBits binary64 b))
 small-root b B h =
     let x = ofBits binary64 b in
     let y = mul binary64 x (lit 0x4350_0000_0000_0000) in
@@ -209,7 +212,7 @@ small-root b B h =
           (subst (λ (n : ℕ). HasValue (lit (rootBits (toBits binary64 y))) false (N .r * 2 ^ n) (2 ^ 1074)) k-is (N .is-y)));
       digits = N .digits;
       reach = unscaled-le (2 ^ 53 * 2 ^ 53) (2 ^ (N .k - 27) * 2 ^ (N .k - 27)) (2 ^ N .k * 2 ^ N .k) (N .X) b (2 ^ 1076) (2 ^ 54) (pow-pos 54) q X-is (N .reach);
-      under = unscaled-le ((2 * N .r - 1) * (2 * N .r - 1)) (2 ^ (N .k - 27) * 2 ^ (N .k - 27)) (2 ^ N .k * 2 ^ N .k) (N .X) b (2 ^ 1076) (2 ^ 54) (pow-pos 54) q X-is (N .under);
+      under = unscaled-under ((2 * N .r - 1) * (2 * N .r - 1)) (2 ^ (N .k - 27) * 2 ^ (N .k - 27)) (2 ^ N .k * 2 ^ N .k) (N .X) b (2 ^ 1076) (2 ^ 54) (pow-pos 54) q X-is (N .under);
       over = unscaled-lt ((2 * N .r + 1) * (2 * N .r + 1)) (2 ^ (N .k - 27) * 2 ^ (N .k - 27)) (2 ^ N .k * 2 ^ N .k) (N .X) b (2 ^ 1076) (2 ^ 54) (pow-pos 54) q X-is (N .over);
     }
 
@@ -231,9 +234,9 @@ normal-branch b h l =
     wide : (b : ℕ) → b < 0x7ff0_0000_0000_0000 → b < 2 * 0x8000_0000_0000_0000
     wide b h = omega arith
 
-pub root-nearest : (b : ℕ) → 0 < b → b < 0x7ff0_0000_0000_0000 → Nearest (ofBits binary64 b) (rootOf (ofBits binary64 b))
-root-nearest b B l = go (ltb b 0x10_0000_0000_0000) refl
+pub root-bracket : (b : ℕ) → 0 < b → b < 0x7ff0_0000_0000_0000 → Bracket (ofBits binary64 b) (rootOf (ofBits binary64 b))
+root-bracket b B l = go (ltb b 0x10_0000_0000_0000) refl
   where
-    go : (t : Bool) → ltb b 0x10_0000_0000_0000 ≡ t → Nearest (ofBits binary64 b) (rootOf (ofBits binary64 b))
+    go : (t : Bool) → ltb b 0x10_0000_0000_0000 ≡ t → Bracket (ofBits binary64 b) (rootOf (ofBits binary64 b))
     go true e = small-root b B (ltb-true b 0x10_0000_0000_0000 e)
-    go false e = let h : 0x10_0000_0000_0000 ≤ b = ltb-false b 0x10_0000_0000_0000 e in subst (λ (y : Float). Nearest (ofBits binary64 b) y) (sym (normal-branch b h l)) (root-is-nearest b h l)
+    go false e = let h : 0x10_0000_0000_0000 ≤ b = ltb-false b 0x10_0000_0000_0000 e in subst (λ (y : Float). Bracket (ofBits binary64 b) y) (sym (normal-branch b h l)) (root-is-nearest b h l)

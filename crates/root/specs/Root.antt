@@ -1,4 +1,4 @@
--- The square root of a binary64 value, rounded to the nearest one, by whole numbers and their squares. Definitions only.
+-- The square root of a double, rounded to the nearest one, by whole numbers and their squares. `specs/Nearest.antt` says what nearest means, and `proofs/Theorem.antt` proves it of every positive finite double. Definitions only.
 use Prim.Native.Nat.{ℕ, zero, suc, _+_, _-_, _*_, _/_, _%_, _^_, _≤_, _<_}
 use mathlib.Core.Bool.{Bool, false, not, cond}
 use lib.Dec.{ltb, leb, eqb}

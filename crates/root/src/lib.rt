@@ -1,4 +1,4 @@
-// The square root of an f64, by whole-number arithmetic.
+// The IEEE square root of a double, by whole-number arithmetic: total, and equal to `rootOf` of specs/Root.antt, which is the nearest double (specs/Nearest.antt).
 ghost use mathlib.Core.Path.{_≡_};
 ghost use Prim.Native.Nat.{_+_, _*_, _/_, _%_, _^_, _<_};
 ghost use lib.Dec.{leb};
@@ -63,7 +63,10 @@ fn square_within(m: u64, q: u64) -> bool
 fn guess(m: u64) -> u64 {
     let f = std::num::nearest_u64_to_f64(m);
     let h = f * 0.5;
-    let y0 = float::from(std::num::wrapping_sub_u64(0x5fe6_eb50_c7b5_37a9, float::bits(f) / 2));
+    let y0 = float::from_bits(std::num::wrapping_sub_u64(
+        0x5fe6_eb50_c7b5_37a9,
+        float::bits(f) / 2,
+    ));
     let y1 = y0 * (1.5 - h * y0 * y0);
     let y2 = y1 * (1.5 - h * y1 * y1);
     let y3 = y2 * (1.5 - h * y2 * y2);
@@ -134,7 +137,7 @@ pub fn sqrt(x: f64) -> f64
     }
     if b < 0x10_0000_0000_0000 {
         let c = float::bits(x * 18014398509481984.0);
-        return float::from(root_bits(c)) * 0.000000007450580596923828125;
+        return float::from_bits(root_bits(c)) * 0.000000007450580596923828125;
     }
-    float::from(root_bits(b))
+    float::from_bits(root_bits(b))
 }

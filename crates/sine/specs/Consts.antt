@@ -48,6 +48,7 @@ C5 = lit 0x3e21_ee9e_bdb4_b1c4
 abbrev pub C6 : Float
 C6 = lit 0xbda8_fae9_be88_38d4
 
+-- 0.28125
 abbrev pub nineThirtySeconds : Float
 nineThirtySeconds = lit 0x3fd2_0000_0000_0000
 
@@ -72,5 +73,6 @@ pio2-3 = lit 0x3ba3_198a_2e00_0000
 abbrev pub pio2-3t : Float
 pio2-3t = lit 0x397b_839a_2520_49c1
 
+-- 524,288, above which sin and cos answer NaN
 abbrev pub limit : Float
 limit = lit 0x4120_0000_0000_0000

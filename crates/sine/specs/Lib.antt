@@ -1,3 +1,4 @@
 pub mod Consts
 pub mod Kernel
 pub mod Sine
+pub mod Taken

@@ -1,9 +1,13 @@
-// fdlibm 5.3's sin, cos and atan2.
-
+// fdlibm 5.3's sin and cos, with the argument reduction up to 524,288. Each function is one file or one branch of the C and
+// equal to its definition in specs/, operation by operation (docs/FDLIBM.md).
 ghost use mathlib.Core.Path.{_≡_};
 ghost use Prim.Native.Nat.{_≤_, _<_};
-ghost use Rattle.sine.specs.Kernel.{kernelSin0, kernelSin, kernelCos, quarter};
-ghost use Rattle.sine.specs.Sine.{clearOf, splitOf, nearOf, deepOf, mediumOf, reducedSize, turned, turnedBy, sinOf, cosOf};
+ghost use lib.IntN.{pos};
+ghost use lib.Ieee.{binary64, ofInt, toBits};
+ghost use Rattle.float.specs.Double.{lit, mag, high, sign};
+ghost use Rattle.sine.specs.Kernel.{kernelSin, kernelCos, quarter};
+ghost use Rattle.sine.specs.Sine.{isClear, less, plus, remNear, remDeep, remMedium, opposite, remPio2, sinSwitch, sinOf, cosOf};
+ghost use Rattle.sine.specs.Taken.{taken, turned};
 
 const S1: f64 = -1.66666666666666324348e-01;
 
@@ -43,9 +47,9 @@ const PIO2_3: f64 = 2.02226624871116645580e-21;
 
 const PIO2_3T: f64 = 8.47842766036889956997e-32;
 
-// __kernel_sin(x, 0, 0)
-pub fn kernel_sin0(x: f64) -> f64
-    ensures { λ r. ⌜ r ≡ kernelSin0 x ⌝ }
+// __kernel_sin(x, 0, 0).
+fn kernel_sin_alone(x: f64) -> f64
+    ensures { λ r. ⌜ r ≡ kernelSin x (lit 0) 0 ⌝ }
 {
     if float::high_word(x) < 0x3e40_0000 {
         return x;
@@ -56,9 +60,9 @@ pub fn kernel_sin0(x: f64) -> f64
     x + v * (S1 + z * r)
 }
 
-// __kernel_sin(x, y, 1)
-pub fn kernel_sin(x: f64, y: f64) -> f64
-    ensures { λ r. ⌜ r ≡ kernelSin x y ⌝ }
+// __kernel_sin(x, y, 1).
+fn kernel_sin(x: f64, y: f64) -> f64
+    ensures { λ r. ⌜ r ≡ kernelSin x y 1 ⌝ }
 {
     if float::high_word(x) < 0x3e40_0000 {
         return x;
@@ -69,19 +73,19 @@ pub fn kernel_sin(x: f64, y: f64) -> f64
     x - ((z * (0.5 * y - v * r) - y) - v * S1)
 }
 
-// qx of k_cos.c: about a quarter of a number whose upper word is ix, with the lower word 0.
-pub fn quarter_of(ix: u64) -> f64
+// qx of k_cos.c, for an x whose upper word is ix.
+fn quarter_of(ix: u64) -> f64
     requires { ⌜ 0x20_0000 ≤ ix ⌝ }
     ensures { λ r. ⌜ r ≡ quarter ix ⌝ }
 {
     if ix > 0x3fe9_0000 {
         return 0.28125;
     }
-    float::from((ix - 0x20_0000) * 0x1_0000_0000)
+    float::from_bits((ix - 0x20_0000) * 0x1_0000_0000)
 }
 
-// __kernel_cos(x, y)
-pub fn kernel_cos(x: f64, y: f64) -> f64
+// __kernel_cos(x, y).
+fn kernel_cos(x: f64, y: f64) -> f64
     ensures { λ r. ⌜ r ≡ kernelCos x y ⌝ }
 {
     let ix = float::high_word(x);
@@ -93,170 +97,182 @@ pub fn kernel_cos(x: f64, y: f64) -> f64
     if ix < 0x3fd3_3333 {
         return 1.0 - (0.5 * z - (z * r - x * y));
     }
-    let q = quarter_of(ix);
-    1.0 - q - (0.5 * z - q - (z * r - x * y))
+    let qx = quarter_of(ix);
+    let hz = 0.5 * z - qx;
+    let a = 1.0 - qx;
+    a - (hz - (z * r - x * y))
 }
 
-// An angle as n quarter turns and hi + lo.
-pub struct Reduced {
-    pub n: u64,
-    pub hi: f64,
-    pub lo: f64,
+// What the reduction hands on: n & 3, y[0] and y[1].
+struct Reduced {
+    n: u64,
+    hi: f64,
+    lo: f64,
 }
 
-const NPIO2: [u64; 32] = [
-    0,
-    0x3ff921fb,
-    0x400921fb,
-    0x4012d97c,
-    0x401921fb,
-    0x401f6a7a,
-    0x4022d97c,
-    0x4025fdbb,
-    0x402921fb,
-    0x402c463a,
-    0x402f6a7a,
-    0x4031475c,
-    0x4032d97c,
-    0x40346b9c,
-    0x4035fdbb,
-    0x40378fdb,
-    0x403921fb,
-    0x403ab41b,
-    0x403c463a,
-    0x403dd85a,
-    0x403f6a7a,
-    0x40407e4c,
-    0x4041475c,
-    0x4042106c,
-    0x4042d97c,
-    0x4043a28c,
-    0x40446b9c,
-    0x404534ac,
-    0x4045fdbb,
-    0x4046c6cb,
-    0x40478fdb,
-    0x404858eb,
-];
-
-fn clear(n: u64, ix: u64) -> bool
-    ensures { λ r. ⌜ r ≡ clearOf n ix ⌝ }
+// n < 32 && ix != npio2_hw[n-1], where f is n as a double. Each word of the table is the upper word of the product here.
+fn is_clear(n: u64, f: f64, ix: u64) -> bool
+    requires { ⌜ f ≡ ofInt binary64 (pos n) ⌝ }
+    ensures { λ r. ⌜ r ≡ isClear n ix ⌝ }
 {
     if n < 32 {
-        return ix != NPIO2[n as usize];
+        return ix != float::high_word(f * float::FRAC_PI_2);
     }
     false
 }
 
+// r - w in two parts.
 fn split(n: u64, r: f64, w: f64) -> Reduced
-    ensures { λ p. ⌜ p ≡ splitOf n r w ⌝ }
+    ensures { λ p. ⌜ p ≡ taken (less (pos n) r w) ⌝ }
 {
     let hi = r - w;
     Reduced {
-        n,
+        n: n % 4,
         hi,
         lo: r - hi - w,
     }
 }
 
-fn near(t: f64, ix: u64) -> Reduced
-    ensures { λ p. ⌜ p ≡ nearOf t ix ⌝ }
+// |x| < 3pi/4, where s is the sign's bit of x. -1 & 3 is 3.
+fn rem_near(x: f64, s: u64, ix: u64) -> Reduced
+    requires { ⌜ s ≡ sign x ⌝ }
+    ensures { λ p. ⌜ p ≡ taken (remNear x ix) ⌝ }
 {
-    if ix == 0x3ff9_21fb {
-        return split(1, t - PIO2_1 - PIO2_2, PIO2_2T);
+    if s == 0 {
+        if ix != 0x3ff9_21fb {
+            return split(1, x - PIO2_1, PIO2_1T);
+        }
+        return split(1, x - PIO2_1 - PIO2_2, PIO2_2T);
     }
-    split(1, t - PIO2_1, PIO2_1T)
+    if ix != 0x3ff9_21fb {
+        let z = x + PIO2_1;
+        let hi = z + PIO2_1T;
+        return Reduced {
+            n: 3,
+            hi,
+            lo: z - hi + PIO2_1T,
+        };
+    }
+    let z = x + PIO2_1 + PIO2_2;
+    let hi = z + PIO2_2T;
+    Reduced {
+        n: 3,
+        hi,
+        lo: z - hi + PIO2_2T,
+    }
 }
 
-fn deep(n: u64, j: u64, f: f64, t: f64) -> Reduced
-    ensures { λ p. ⌜ p ≡ deepOf n j f t ⌝ }
+// The second and the third iteration.
+fn rem_deep(n: u64, j: u64, f: f64, t: f64) -> Reduced
+    ensures { λ p. ⌜ p ≡ taken (remDeep (pos n) j f t) ⌝ }
 {
-    let a = f * PIO2_2;
-    let r = t - a;
-    let w = f * PIO2_2T - (t - r - a);
-    if j <= float::exponent(r - w) + 49 {
-        return split(n, r, w);
+    let w2 = f * PIO2_2;
+    let r2 = t - w2;
+    let v2 = f * PIO2_2T - (t - r2 - w2);
+    if float::exponent(r2 - v2) + 49 < j {
+        let w3 = f * PIO2_3;
+        let r3 = r2 - w3;
+        return split(n, r3, f * PIO2_3T - (r2 - r3 - w3));
     }
-    let b = f * PIO2_3;
-    let s = r - b;
-    split(n, s, f * PIO2_3T - (r - s - b))
+    split(n, r2, v2)
 }
 
-fn medium(t: f64, ix: u64) -> Reduced
-    ensures { λ p. ⌜ p ≡ mediumOf t ix ⌝ }
+// 3pi/4 <= t = |x|.
+fn rem_medium(t: f64, ix: u64) -> Reduced
+    ensures { λ p. ⌜ p ≡ taken (remMedium t ix) ⌝ }
 {
     let n = float::whole(t * INVPIO2 + 0.5);
-    let f = std::num::nearest_u64_to_f64(n);
+    let f = float::from_whole(n);
     let r = t - f * PIO2_1;
     let w = f * PIO2_1T;
-    if clear(n, ix) {
+    if is_clear(n, f, ix) {
         return split(n, r, w);
     }
     let j = ix / 0x10_0000;
-    if j <= float::exponent(r - w) + 16 {
-        return split(n, r, w);
+    if float::exponent(r - w) + 16 < j {
+        return rem_deep(n, j, f, r);
     }
-    deep(n, j, f, r)
+    split(n, r, w)
 }
 
-fn reduce(t: f64, ix: u64) -> Reduced
-    ensures { λ p. ⌜ p ≡ reducedSize t ix ⌝ }
+// __ieee754_rem_pio2, where t is |x| and b the pattern of x. -n & 3 is 4 less n & 3, and 0 for 0.
+fn rem_pio2(x: f64, t: f64, b: u64) -> Reduced
+    requires { ⌜ (t ≡ mag x) × (b ≡ toBits binary64 x) ⌝ ∗ ⌜ 0x3fe9_21fb < high x ⌝ }
+    ensures { λ p. ⌜ p ≡ taken (remPio2 x) ⌝ }
 {
+    let ix = b % 0x8000_0000_0000_0000 / 0x1_0000_0000;
+    let s = b / 0x8000_0000_0000_0000;
     if ix < 0x4002_d97c {
-        return near(t, ix);
+        return rem_near(x, s, ix);
     }
-    medium(t, ix)
+    let p = rem_medium(t, ix);
+    if s == 0 {
+        return p;
+    }
+    let n = p.n;
+    let hi = p.hi;
+    let lo = p.lo;
+    Reduced {
+        n: (4 - n % 4) % 4,
+        hi: -hi,
+        lo: -lo,
+    }
 }
 
-fn turn(n: u64, hi: f64, lo: f64) -> f64
-    ensures { λ r. ⌜ r ≡ turned n hi lo ⌝ }
+// sin's switch.
+fn sin_switch(q: u64, hi: f64, lo: f64) -> f64
+    ensures { λ r. ⌜ r ≡ sinSwitch q hi lo ⌝ }
 {
-    if n == 0 {
+    if q == 0 {
         return kernel_sin(hi, lo);
     }
-    if n == 1 {
+    if q == 1 {
         return kernel_cos(hi, lo);
     }
-    if n == 2 {
+    if q == 2 {
         return -kernel_sin(hi, lo);
     }
     -kernel_cos(hi, lo)
 }
 
-fn turn_by(k: u64, x: f64) -> f64
-    requires { ⌜ k < 4 ⌝ }
-    ensures { λ r. ⌜ r ≡ turnedBy k x ⌝ }
+// sin's switch, k quarter turns on: one function for sin and cos, so that the reduction is compiled into it.
+fn turn_by(k: u64, x: f64, t: f64, b: u64) -> f64
+    requires { ⌜ (t ≡ mag x) × (b ≡ toBits binary64 x) ⌝ ∗ ⌜ (0x3fe9_21fb < high x) × (k < 2) ⌝ }
+    ensures { λ r. ⌜ r ≡ turned k (remPio2 x) ⌝ }
 {
-    let p = reduce(float::abs(x), float::high_word(x));
+    let p = rem_pio2(x, t, b);
     let n = p.n;
     let hi = p.hi;
     let lo = p.lo;
-    if x < 0.0 {
-        return turn((4 - n % 4 + k) % 4, -hi, -lo);
-    }
-    turn((n % 4 + k) % 4, hi, lo)
+    sin_switch((n % 4 + k) % 4, hi, lo)
 }
 
+// The sine, and NaN for infinities, NaN and |x| above 524,288.
 pub fn sin(x: f64) -> f64
     ensures { λ r. ⌜ r ≡ sinOf x ⌝ }
 {
-    if float::abs(x) <= 524288.0 {
-        if float::high_word(x) <= 0x3fe9_21fb {
-            return kernel_sin0(x);
-        }
-        return turn_by(0, x);
+    let b = float::bits(x);
+    if b % 0x8000_0000_0000_0000 / 0x1_0000_0000 <= 0x3fe9_21fb {
+        return kernel_sin_alone(x);
+    }
+    let t = float::abs(x);
+    if t <= 524288.0 {
+        return turn_by(0, x, t, b);
     }
     0.0 / 0.0
 }
 
+// The cosine, likewise. Its switch is sin's, one quarter turn on.
 pub fn cos(x: f64) -> f64
     ensures { λ r. ⌜ r ≡ cosOf x ⌝ }
 {
-    if float::abs(x) <= 524288.0 {
-        if float::high_word(x) <= 0x3fe9_21fb {
-            return kernel_cos(x, 0.0);
-        }
-        return turn_by(1, x);
+    let b = float::bits(x);
+    if b % 0x8000_0000_0000_0000 / 0x1_0000_0000 <= 0x3fe9_21fb {
+        return kernel_cos(x, 0.0);
+    }
+    let t = float::abs(x);
+    if t <= 524288.0 {
+        return turn_by(1, x, t, b);
     }
     0.0 / 0.0
 }

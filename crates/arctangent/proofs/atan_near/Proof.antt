@@ -1,6 +1,6 @@
-use borrow.Author.Needs.{needs}
-use borrow.Author.Tests.{lt-ltb, le-ltb, le-leb, lt-leb, eq-eqb, ne-eqb}
+-- `arctangent::atan_near` meets its contract: the operations are those of `atanNear`. Assumes nothing.
 use Rattle.arctangent.specs.Arc.{atanNear}
+use borrow.Author.Needs.{needs}
 use Rattle.arctangent.proofs.atan_near.Statement.{statement}
 use Rattle.arctangent.proofs.atan_near.Tie as tie
 

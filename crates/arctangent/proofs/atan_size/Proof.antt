@@ -1,6 +1,7 @@
-use borrow.Author.Needs.{needs}
-use borrow.Author.Tests.{lt-ltb, le-ltb, le-leb, lt-leb, eq-eqb, ne-eqb}
+-- `arctangent::atan_size` meets its contract: the arms of `atanSize`. Assumes nothing.
+use borrow.Author.Tests.{le-ltb, lt-ltb}
 use Rattle.arctangent.specs.Arc.{atanSize}
+use borrow.Author.Needs.{needs}
 use Rattle.arctangent.proofs.atan_size.Statement.{statement}
 use Rattle.arctangent.proofs.atan_size.Tie as tie
 
@@ -9,42 +10,38 @@ atan-near-requires c κs = search needs
 
 returns : tie.Need-returns
 unfolding atanSize
-returns c = simp (c .atan-near .ensures, lt-ltb _ _ (c .before .if1 .taken))
+returns c = simp (lt-ltb _ _ (c .before .if1 .taken), c .atan-near .ensures)
 
 atan-near-requires-2 : tie.Need-atan-near-requires-2
 atan-near-requires-2 c κs = search needs
 
 returns-2 : tie.Need-returns-2
 unfolding atanSize
-returns-2 c = simp (c .atan-near2 .ensures, le-ltb _ _ (c .before .before .if1 .left), lt-ltb _ _ (c .before .if2 .taken))
+returns-2 c = simp (le-ltb _ _ (c .before .before .if1 .left), lt-ltb _ _ (c .before .if2 .taken), c .atan-near2 .ensures)
 
 atan-near-requires-3 : tie.Need-atan-near-requires-3
 atan-near-requires-3 c κs = search needs
 
 returns-3 : tie.Need-returns-3
 unfolding atanSize
-returns-3 c =
-    simp (
-      c .atan-near3 .ensures,
-      le-ltb _ _ (c .before .before .before .if1 .left),
-      le-ltb _ _ (c .before .before .if2 .left),
-      lt-ltb _ _ (c .before .if3 .taken),
-    )
+returns-3 c = simp (le-ltb _ _ (c .before .before .before .if1 .left), le-ltb _ _ (c .before .before .if2 .left), lt-ltb _ _ (c .before .if3 .taken), c .atan-near3 .ensures)
 
 atan-near-requires-4 : tie.Need-atan-near-requires-4
 atan-near-requires-4 c κs = search needs
 
 returns-4 : tie.Need-returns-4
 unfolding atanSize
-returns-4 c =
-    simp (
-      c .atan-near4 .ensures,
-      le-ltb _ _ (c .before .before .before .if1 .left),
-      le-ltb _ _ (c .before .before .if2 .left),
-      le-ltb _ _ (c .before .if3 .left),
-    )
+returns-4 c = simp (le-ltb _ _ (c .before .before .before .if1 .left), le-ltb _ _ (c .before .before .if2 .left), le-ltb _ _ (c .before .if3 .left), c .atan-near4 .ensures)
 
 pub atan-size-spec : {M : Type 1} → statement M
 atan-size-spec =
     tie.close
-    (tie.spec atan-near-requires returns atan-near-requires-2 returns-2 atan-near-requires-3 returns-3 atan-near-requires-4 returns-4)
+    (tie.spec
+    atan-near-requires
+    returns
+    atan-near-requires-2
+    returns-2
+    atan-near-requires-3
+    returns-3
+    atan-near-requires-4
+    returns-4)

@@ -1,24 +1,18 @@
-use borrow.Author.Needs.{needs}
-use borrow.Author.Tests.{lt-ltb, le-ltb, le-leb, lt-leb, eq-eqb, ne-eqb}
+-- `arctangent::place` meets its contract: the arms of `placed`; turning the sign's bit of a double negates it. Assumes nothing.
+use mathlib.Core.Path.{sym, subst}
+use lib.Dec.{T}
+use Rattle.float.proofs.Facts.{sign-turned}
 use Rattle.arctangent.specs.Arc.{placed}
+use borrow.Author.Needs.{needs}
 use Rattle.arctangent.proofs.place.Statement.{statement}
 use Rattle.arctangent.proofs.place.Tie as tie
 
+switch-of-requires : tie.Need-switch-of-requires
+switch-of-requires c κs = search needs
+
 returns : tie.Need-returns
 unfolding placed
-returns c = simp (eq-eqb _ _ (c .before .if1 .taken), eq-eqb _ _ (c .if2 .taken))
-
-returns-2 : tie.Need-returns-2
-unfolding placed
-returns-2 c = simp (eq-eqb _ _ (c .before .if1 .taken), ne-eqb _ _ (c .if2 .left))
-
-returns-3 : tie.Need-returns-3
-unfolding placed
-returns-3 c = simp (ne-eqb _ _ (c .before .if1 .left), eq-eqb _ _ (c .if3 .taken))
-
-returns-4 : tie.Need-returns-4
-unfolding placed
-returns-4 c = simp (ne-eqb _ _ (c .before .if1 .left), ne-eqb _ _ (c .if3 .left))
+returns c = simp (c .switch-of .ensures, sign-turned (c .before .args .z) (subst T (sym (c .before .good .1 .0 .1)) tt))
 
 pub place-spec : {M : Type 1} → statement M
-place-spec = tie.close (tie.spec returns returns-2 returns-3 returns-4)
+place-spec = tie.close (tie.spec switch-of-requires returns)

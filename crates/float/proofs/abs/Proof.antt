@@ -1,3 +1,4 @@
+-- `float::abs` meets its contract: clearing the sign's bit of the pattern is `mag`. Assumes nothing.
 use mathlib.Core.Path.{sym, subst}
 use lib.Dec.{T}
 use lib.Ieee.{binary64, fits}

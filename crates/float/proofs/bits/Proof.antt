@@ -1,3 +1,4 @@
+-- `float::bits` meets its contract: a NaN has the one pattern that `toBits` writes. Assumes nothing.
 use borrow.Author.Needs.{needs}
 use Rattle.float.proofs.Facts.{nan-bits, no-nan}
 use Rattle.float.proofs.bits.Statement.{statement}

@@ -1,3 +1,4 @@
+-- `float::is_finite` meets its contract: the finite values are those whose size is below the infinity. Assumes nothing.
 use borrow.Author.Needs.{needs}
 use Rattle.float.proofs.Facts.{finite-is}
 use Rattle.float.proofs.is_finite.Statement.{statement}

@@ -1,3 +1,4 @@
+-- `float::max` meets its contract: the arms of `maxOf`. Assumes nothing.
 use Rattle.float.proofs.max.Statement.{statement}
 use Rattle.float.proofs.max.Tie as tie
 

@@ -1,3 +1,4 @@
+-- `float::min` meets its contract: the arms of `minOf`. Assumes nothing.
 use Rattle.float.proofs.min.Statement.{statement}
 use Rattle.float.proofs.min.Tie as tie
 

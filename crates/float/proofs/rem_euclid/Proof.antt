@@ -1,3 +1,4 @@
+-- `float::rem_euclid` meets its contract: the arms of `remEuclid`. Assumes nothing.
 use borrow.Author.Needs.{needs}
 use Rattle.float.proofs.rem_euclid.Statement.{statement}
 use Rattle.float.proofs.rem_euclid.Tie as tie

@@ -1,3 +1,4 @@
+-- `float::round` meets its contract: the arms of `roundAway`. Assumes nothing.
 use Rattle.float.specs.Double.{roundAway}
 use borrow.Author.Needs.{needs}
 use Rattle.float.proofs.round.Statement.{statement}

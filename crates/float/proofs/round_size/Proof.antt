@@ -1,3 +1,4 @@
+-- `float::round_size` meets its contract: the arms of `roundSize`. Assumes nothing.
 use Rattle.float.specs.Double.{roundSize}
 use borrow.Author.Needs.{needs}
 use Rattle.float.proofs.round_size.Statement.{statement}
@@ -6,16 +7,16 @@ use Rattle.float.proofs.round_size.Tie as tie
 whole-requires : tie.Need-whole-requires
 whole-requires c κs = search needs
 
-nearest-u64-to-f64-requires : tie.Need-nearest-u64-to-f64-requires
-nearest-u64-to-f64-requires c κs = search needs
+from-whole-requires : tie.Need-from-whole-requires
+from-whole-requires c κs = search needs
 
 returns : tie.Need-returns
 unfolding roundSize
-returns c = simp (← c .before .before .whole .ensures, ← c .before .nearest-u64-to-f64 .ensures, c .if1 .taken)
+returns c = simp (← c .before .before .whole .ensures, ← c .before .from-whole .ensures, c .if1 .taken)
 
 returns-2 : tie.Need-returns-2
 unfolding roundSize
-returns-2 c = simp (← c .before .before .whole .ensures, ← c .before .nearest-u64-to-f64 .ensures, c .if1 .left)
+returns-2 c = simp (← c .before .before .whole .ensures, ← c .before .from-whole .ensures, c .if1 .left)
 
 pub round-size-spec : {M : Type 1} → statement M
-round-size-spec = tie.close (tie.spec whole-requires nearest-u64-to-f64-requires returns returns-2)
+round-size-spec = tie.close (tie.spec whole-requires from-whole-requires returns returns-2)

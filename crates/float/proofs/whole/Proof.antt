@@ -1,3 +1,4 @@
+-- `float::whole` meets its contract: between -1 and 2^64 the library's cast, and the ends of the range outside. Assumes nothing.
 use mathlib.Core.Path.{sym, subst}
 use lib.Dec.{T}
 use lib.Ieee.{ofBits, neg}

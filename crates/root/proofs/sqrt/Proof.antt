@@ -1,3 +1,4 @@
+-- `root::sqrt` meets its contract: the arms of `rootOf`. Assumes nothing.
 use borrow.Author.Tests.{le-leb, le-ltb, lt-leb, lt-ltb}
 use Rattle.root.specs.Root.{rootOf}
 use Rattle.float.proofs.Facts.{zero-by-zero}
@@ -30,22 +31,22 @@ bits-requires-2 c κs = search needs
 root-bits-requires : tie.Need-root-bits-requires
 root-bits-requires c κs = search needs
 
-from-requires : tie.Need-from-requires
-from-requires c κs = search needs
+from-bits-requires : tie.Need-from-bits-requires
+from-bits-requires c κs = search needs
 
 returns-5 : tie.Need-returns-5
 unfolding rootOf
-returns-5 c = simp (c .before .before .before .before .before .before .before .before .if1 .left, c .before .before .before .before .before .before .before .if2 .left, c .before .before .before .before .before .before .if3 .left, ← c .before .before .before .before .before .bits .ensures, lt-leb _ _ (c .before .before .before .before .if4 .left), lt-ltb _ _ (c .before .before .before .if5 .taken), ← c .before .before .bits2 .ensures, c .before .root-bits .ensures, c .from .ensures)
+returns-5 c = simp (c .before .before .before .before .before .before .before .before .if1 .left, c .before .before .before .before .before .before .before .if2 .left, c .before .before .before .before .before .before .if3 .left, ← c .before .before .before .before .before .bits .ensures, lt-leb _ _ (c .before .before .before .before .if4 .left), lt-ltb _ _ (c .before .before .before .if5 .taken), ← c .before .before .bits2 .ensures, c .before .root-bits .ensures, c .from-bits .ensures)
 
 root-bits-requires-2 : tie.Need-root-bits-requires-2
 root-bits-requires-2 c κs = search needs
 
-from-requires-2 : tie.Need-from-requires-2
-from-requires-2 c κs = search needs
+from-bits-requires-2 : tie.Need-from-bits-requires-2
+from-bits-requires-2 c κs = search needs
 
 returns-6 : tie.Need-returns-6
 unfolding rootOf
-returns-6 c = simp (c .before .before .before .before .before .before .before .if1 .left, c .before .before .before .before .before .before .if2 .left, c .before .before .before .before .before .if3 .left, ← c .before .before .before .before .bits .ensures, lt-leb _ _ (c .before .before .before .if4 .left), le-ltb _ _ (c .before .before .if5 .left), c .before .root-bits2 .ensures, c .from2 .ensures)
+returns-6 c = simp (c .before .before .before .before .before .before .before .if1 .left, c .before .before .before .before .before .before .if2 .left, c .before .before .before .before .before .if3 .left, ← c .before .before .before .before .bits .ensures, lt-leb _ _ (c .before .before .before .if4 .left), le-ltb _ _ (c .before .before .if5 .left), c .before .root-bits2 .ensures, c .from-bits2 .ensures)
 
 pub sqrt-spec : {M : Type 1} → statement M
 sqrt-spec =
@@ -58,8 +59,8 @@ sqrt-spec =
     returns-4
     bits-requires-2
     root-bits-requires
-    from-requires
+    from-bits-requires
     returns-5
     root-bits-requires-2
-    from-requires-2
+    from-bits-requires-2
     returns-6)

@@ -1,42 +1,44 @@
+-- `sine::cos` meets its contract: the arms of `cosOf`, whose switch is sin's one quarter turn on. Assumes nothing.
 use borrow.Author.Tests.{le-leb, lt-leb}
 use Rattle.float.proofs.Facts.{zero-by-zero}
-use Rattle.sine.specs.Sine.{cosOf}
+use Rattle.sine.specs.Sine.{remPio2, cosOf}
+use Rattle.sine.proofs.Quarters.{cos-switch}
 use borrow.Author.Needs.{needs}
 use Rattle.sine.proofs.cos.Statement.{statement}
 use Rattle.sine.proofs.cos.Tie as tie
 
-abs-requires : tie.Need-abs-requires
-abs-requires c κs = search needs
-
-high-word-requires : tie.Need-high-word-requires
-high-word-requires c κs = search needs
+bits-requires : tie.Need-bits-requires
+bits-requires c κs = search needs
 
 kernel-cos-requires : tie.Need-kernel-cos-requires
 kernel-cos-requires c κs = search needs
 
 returns : tie.Need-returns
 unfolding cosOf
-returns c = simp (← c .before .before .before .before .abs .ensures, c .before .before .before .if1 .taken, ← c .before .before .high-word .ensures, le-leb _ _ (c .before .if2 .taken), c .kernel-cos .ensures)
+returns c = simp (← c .before .before .bits .ensures, le-leb _ _ (c .before .if1 .taken), c .kernel-cos .ensures)
+
+abs-requires : tie.Need-abs-requires
+abs-requires c κs = search needs
 
 turn-by-requires : tie.Need-turn-by-requires
 turn-by-requires c κs = search needs
 
 returns-2 : tie.Need-returns-2
 unfolding cosOf
-returns-2 c = simp (← c .before .before .before .before .abs .ensures, c .before .before .before .if1 .taken, ← c .before .before .high-word .ensures, lt-leb _ _ (c .before .if2 .left), c .turn-by .ensures)
+returns-2 c = simp (← c .before .before .before .before .bits .ensures, lt-leb _ _ (c .before .before .before .if1 .left), ← c .before .before .abs .ensures, c .before .if2 .taken, c .turn-by .ensures, cos-switch (remPio2 (c .before .before .before .before .before .args .x)))
 
 returns-3 : tie.Need-returns-3
 unfolding cosOf
-returns-3 c = simp (← c .before .abs .ensures, c .if1 .left, zero-by-zero)
+returns-3 c = simp (← c .before .before .before .bits .ensures, lt-leb _ _ (c .before .before .if1 .left), ← c .before .abs .ensures, c .if2 .left, zero-by-zero)
 
 pub cos-spec : {M : Type 1} → statement M
 cos-spec =
     tie.close
     (tie.spec
-    abs-requires
-    high-word-requires
+    bits-requires
     kernel-cos-requires
     returns
+    abs-requires
     turn-by-requires
     returns-2
     returns-3)

@@ -1,6 +1,7 @@
-use borrow.Author.Needs.{needs}
-use borrow.Author.Tests.{lt-ltb, le-ltb}
+-- `sine::kernel_cos` meets its contract: the arm of `kernelCos` that the tests of the upper word choose. Assumes nothing.
+use borrow.Author.Tests.{le-ltb, lt-ltb}
 use Rattle.sine.specs.Kernel.{kernelCos}
+use borrow.Author.Needs.{needs}
 use Rattle.sine.proofs.kernel_cos.Statement.{statement}
 use Rattle.sine.proofs.kernel_cos.Tie as tie
 
@@ -20,13 +21,8 @@ quarter-of-requires c κs = search needs
 
 returns-3 : tie.Need-returns-3
 unfolding kernelCos
-returns-3 c =
-    simp (
-      c .quarter-of .ensures,
-      ← c .before .before .before .high-word .ensures,
-      le-ltb _ _ (c .before .before .if1 .left),
-      le-ltb _ _ (c .before .if2 .left),
-    )
+returns-3 c = simp (← c .before .before .before .high-word .ensures, le-ltb _ _ (c .before .before .if1 .left), le-ltb _ _ (c .before .if2 .left), c .quarter-of .ensures)
 
 pub kernel-cos-spec : {M : Type 1} → statement M
-kernel-cos-spec = tie.close (tie.spec high-word-requires returns returns-2 quarter-of-requires returns-3)
+kernel-cos-spec =
+    tie.close (tie.spec high-word-requires returns returns-2 quarter-of-requires returns-3)

@@ -1,6 +1,7 @@
-use borrow.Author.Needs.{needs}
-use borrow.Author.Tests.{lt-ltb, le-ltb}
+-- `sine::kernel_sin` meets its contract: the arm of `kernelSin` that the test of the upper word chooses. Assumes nothing.
+use borrow.Author.Tests.{le-ltb, lt-ltb}
 use Rattle.sine.specs.Kernel.{kernelSin}
+use borrow.Author.Needs.{needs}
 use Rattle.sine.proofs.kernel_sin.Statement.{statement}
 use Rattle.sine.proofs.kernel_sin.Tie as tie
 

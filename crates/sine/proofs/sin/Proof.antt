@@ -1,42 +1,44 @@
+-- `sine::sin` meets its contract: the arms of `sinOf`. Assumes nothing.
 use borrow.Author.Tests.{le-leb, lt-leb}
 use Rattle.float.proofs.Facts.{zero-by-zero}
-use Rattle.sine.specs.Sine.{sinOf}
+use Rattle.sine.specs.Sine.{remPio2, sinOf}
+use Rattle.sine.proofs.Quarters.{sin-switch}
 use borrow.Author.Needs.{needs}
 use Rattle.sine.proofs.sin.Statement.{statement}
 use Rattle.sine.proofs.sin.Tie as tie
 
-abs-requires : tie.Need-abs-requires
-abs-requires c κs = search needs
+bits-requires : tie.Need-bits-requires
+bits-requires c κs = search needs
 
-high-word-requires : tie.Need-high-word-requires
-high-word-requires c κs = search needs
-
-kernel-sin0-requires : tie.Need-kernel-sin0-requires
-kernel-sin0-requires c κs = search needs
+kernel-sin-alone-requires : tie.Need-kernel-sin-alone-requires
+kernel-sin-alone-requires c κs = search needs
 
 returns : tie.Need-returns
 unfolding sinOf
-returns c = simp (← c .before .before .before .before .abs .ensures, c .before .before .before .if1 .taken, ← c .before .before .high-word .ensures, le-leb _ _ (c .before .if2 .taken), c .kernel-sin0 .ensures)
+returns c = simp (← c .before .before .bits .ensures, le-leb _ _ (c .before .if1 .taken), c .kernel-sin-alone .ensures)
+
+abs-requires : tie.Need-abs-requires
+abs-requires c κs = search needs
 
 turn-by-requires : tie.Need-turn-by-requires
 turn-by-requires c κs = search needs
 
 returns-2 : tie.Need-returns-2
 unfolding sinOf
-returns-2 c = simp (← c .before .before .before .before .abs .ensures, c .before .before .before .if1 .taken, ← c .before .before .high-word .ensures, lt-leb _ _ (c .before .if2 .left), c .turn-by .ensures)
+returns-2 c = simp (← c .before .before .before .before .bits .ensures, lt-leb _ _ (c .before .before .before .if1 .left), ← c .before .before .abs .ensures, c .before .if2 .taken, c .turn-by .ensures, sin-switch (remPio2 (c .before .before .before .before .before .args .x)))
 
 returns-3 : tie.Need-returns-3
 unfolding sinOf
-returns-3 c = simp (← c .before .abs .ensures, c .if1 .left, zero-by-zero)
+returns-3 c = simp (← c .before .before .before .bits .ensures, lt-leb _ _ (c .before .before .if1 .left), ← c .before .abs .ensures, c .if2 .left, zero-by-zero)
 
 pub sin-spec : {M : Type 1} → statement M
 sin-spec =
     tie.close
     (tie.spec
-    abs-requires
-    high-word-requires
-    kernel-sin0-requires
+    bits-requires
+    kernel-sin-alone-requires
     returns
+    abs-requires
     turn-by-requires
     returns-2
     returns-3)

@@ -1,0 +1,31 @@
+-- The codes by which C learns the case of an answer, and what a lent place then holds: the answer's number, or what it held. Definitions only.
+use Prim.Native.Nat.{ℕ}
+use lib.Ieee.{Float}
+use Rattle.probe.specs.declared.Probe.{Probe}
+use Rattle.probe.specs.declared.Probe.the-variants.{NotTriples, NoAngle, TooLarge, Angle}
+use Rattle.singularities.specs.declared.Singularities.{Singularities}
+use Rattle.singularities.specs.declared.Singularities.the-variants.{Counted, NotTriples as NotCounted}
+
+abbrev pub probeCode : Probe → ℕ
+probeCode (Angle a) = 0
+probeCode NotTriples = 1
+probeCode NoAngle = 2
+probeCode TooLarge = 3
+
+abbrev pub probeAngle : Probe → Float → Float
+probeAngle (Angle a) held = a
+probeAngle NotTriples held = held
+probeAngle NoAngle held = held
+probeAngle TooLarge held = held
+
+abbrev pub countCode : Singularities → ℕ
+countCode (Counted c) = 0
+countCode NotCounted = 1
+
+abbrev pub threes : Singularities → ℕ → ℕ
+threes (Counted c) held = c .valence_3
+threes NotCounted held = held
+
+abbrev pub fives : Singularities → ℕ → ℕ
+fives (Counted c) held = c .valence_5
+fives NotCounted held = held

@@ -1,0 +1,39 @@
+// What C and Rust call. Each function is one of a layer below under C's calling rules, and include/godf.h mirrors this file.
+pub mod field;
+
+ghost use mathlib.Core.Path.{_≡_};
+ghost use Rattle.sine.specs.Sine.{sinOf, cosOf};
+ghost use Rattle.arctangent.specs.Arc.{atan2Of};
+ghost use Rattle.root.specs.Root.{rootOf};
+
+// The sine.
+#[no_mangle]
+pub extern "C" fn godf_sin(x: f64) -> f64
+    ensures { λ r. ⌜ r ≡ sinOf x ⌝ }
+{
+    sine::sin(x)
+}
+
+// The cosine.
+#[no_mangle]
+pub extern "C" fn godf_cos(x: f64) -> f64
+    ensures { λ r. ⌜ r ≡ cosOf x ⌝ }
+{
+    sine::cos(x)
+}
+
+// The arc of the point (x, y).
+#[no_mangle]
+pub extern "C" fn godf_atan2(y: f64, x: f64) -> f64
+    ensures { λ r. ⌜ r ≡ atan2Of y x ⌝ }
+{
+    arctangent::atan2(y, x)
+}
+
+// The square root.
+#[no_mangle]
+pub extern "C" fn godf_sqrt(x: f64) -> f64
+    ensures { λ r. ⌜ r ≡ rootOf x ⌝ }
+{
+    root::sqrt(x)
+}

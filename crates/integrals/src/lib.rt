@@ -1,0 +1,120 @@
+// The integrals of the mass and the Dirichlet energy over a triangle with holonomy ω: MassIJ and DirichletIJ of
+// Knöppel et al. (2013), appendix D, and the diagonal of the Dirichlet matrix. By series strictly below |ω| = 0.1,
+// where the closed forms cancel, and by the closed forms from 0.1 on.
+ghost use mathlib.Core.Path.{_≡_};
+ghost use Rattle.integrals.specs.Integrals.{bySeries, massSeries, massClosed, massIntegral, dirichletSeries, dirichletClosed, dirichletIntegral, dirichletDiagonal};
+use complex::Complex;
+use plane::Pair;
+
+// Whether the series serve: strictly below 0.1.
+fn by_series(omega: f64) -> bool
+    ensures { λ r. ⌜ r ≡ bySeries omega ⌝ }
+{
+    float::abs(omega) < 0.1
+}
+
+fn mass_series(omega: f64) -> Complex
+    ensures { λ r. ⌜ r ≡ massSeries omega ⌝ }
+{
+    let o2 = omega * omega;
+    let o4 = o2 * o2;
+    let o6 = o4 * o2;
+    let o8 = o4 * o4;
+    let re = 1.0 / 12.0 - o2 / 360.0 + o4 / 20160.0 - o6 / 1814400.0 + o8 / 239500800.0;
+    let im = omega * (1.0 / 60.0 - o2 / 2520.0 + o4 / 181440.0 - o6 / 19958400.0);
+    Complex { re, im }
+}
+
+fn mass_closed(omega: f64) -> Complex
+    ensures { λ r. ⌜ r ≡ massClosed omega ⌝ }
+{
+    let a = Complex::from_angle(omega)
+        .scale(6.0)
+        .sub(Complex { re: 6.0, im: 0.0 });
+    let b = a.sub(Complex {
+        re: 0.0,
+        im: 6.0 * omega,
+    });
+    let c = b.add(Complex {
+        re: 3.0 * omega * omega,
+        im: 0.0,
+    });
+    let numerator = c.add(Complex {
+        re: 0.0,
+        im: omega * omega * omega,
+    });
+    numerator.scale(float::recip(3.0 * omega * omega * omega * omega))
+}
+
+pub fn mass_integral(omega: f64) -> Complex
+    ensures { λ r. ⌜ r ≡ massIntegral omega ⌝ }
+{
+    if by_series(omega) {
+        return mass_series(omega);
+    }
+    mass_closed(omega)
+}
+
+fn dirichlet_series(omega: f64, g11: f64, g12: f64, g22: f64) -> Complex
+    ensures { λ r. ⌜ r ≡ dirichletSeries omega g11 g12 g22 ⌝ }
+{
+    let o2 = omega * omega;
+    let o4 = o2 * o2;
+    let o6 = o4 * o2;
+    let o8 = o4 * o4;
+    let edges = g11 + g22;
+    let re = -0.25 * g12
+        + edges * (o2 / 120.0 - o4 / 2688.0 + o6 / 129600.0 - o8 / 10644480.0)
+        + g12 * (o2 / 45.0 - o4 / 1120.0 + o6 / 56700.0 - o8 / 4790016.0);
+    let im = omega
+        * (edges * (-1.0 / 24.0 + o2 / 504.0 - o4 / 17280.0 + o6 / 1108800.0)
+            + g12 * (-1.0 / 24.0 + 5.0 * o2 / 1008.0 - 7.0 * o4 / 51840.0 + o6 / 492800.0));
+    Complex { re, im }
+}
+
+fn dirichlet_closed(omega: f64, g11: f64, g12: f64, g22: f64) -> Complex
+    ensures { λ r. ⌜ r ≡ dirichletClosed omega g11 g12 g22 ⌝ }
+{
+    let o2 = omega * omega;
+    let o3 = o2 * omega;
+    let o4 = o2 * o2;
+    let o5 = o4 * omega;
+    let a = 3.0 * g11 + 4.0 * g12 + 3.0 * g22;
+    let b = g11 + g12 + g22;
+    let c = g11 - 2.0 * g12 + g22;
+    let d = g11 + 2.0 * g12 + g22;
+    let e = 2.0 * g11 + 3.0 * g12 + 2.0 * g22;
+    let front = Complex {
+        re: -a + 0.5 * o2 * d,
+        im: omega * e,
+    };
+    let tail = front.mul(Complex::from_angle(omega));
+    let head = Complex {
+        re: a + o4 * c / 24.0,
+        im: omega * b - o3 * g12 / 6.0 - o5 * c / 60.0,
+    };
+    head.add(tail).scale(float::recip(o4))
+}
+
+pub fn dirichlet_integral(omega: f64, g11: f64, g12: f64, g22: f64) -> Complex
+    ensures { λ r. ⌜ r ≡ dirichletIntegral omega g11 g12 g22 ⌝ }
+{
+    if by_series(omega) {
+        return dirichlet_series(omega, g11, g12, g22);
+    }
+    dirichlet_closed(omega, g11, g12, g22)
+}
+
+// The diagonal entry of the first of three positions in counter-clockwise order.
+pub fn dirichlet_diagonal(omega: f64, area: f64, positions: [Pair; 3]) -> f64
+    ensures { λ r. ⌜ r ≡ dirichletDiagonal omega area positions ⌝ }
+{
+    let center = positions[0];
+    let next = positions[1];
+    let previous = positions[2];
+    let p_cu = plane::sub2(next, center);
+    let p_cv = plane::sub2(previous, center);
+    let opposite = plane::sub2(previous, next);
+    let sum = plane::dot2(p_cu, p_cu) + plane::dot2(p_cu, p_cv) + plane::dot2(p_cv, p_cv);
+    (plane::dot2(opposite, opposite) + omega * omega * sum / 90.0) / (4.0 * area)
+}

@@ -1,0 +1,108 @@
+// Recorded answers, for programs that replay them: a text of words, each 16 lowercase hex digits
+// and one byte that parts it from the next (a blank or a line feed), read in pieces of whole words.
+//
+// A program opens its file by `open`, fills a `chunk` by `io::read_full` again and again, takes the
+// words out by `word`, compares by `same_double`, and prints its counts by `report`.
+ghost use mathlib.Core.Path.{_≡_};
+ghost use Prim.Native.Nat.{_<_};
+ghost use lib.ListN.{length, getD};
+ghost use Rattle.replay.specs.Words.{digitOf, wordAt, sameDouble, nanPattern};
+
+// The bytes of a word, the one that parts it from the next among them.
+pub const WORD: usize = 17;
+
+// The words of a chunk: a multiple of 2, 3, 4, 5, 6, 8, 10, 12, 15 and 16, so that rows of that many words do not
+// straddle two chunks.
+pub const CHUNK: usize = 3840;
+
+// Room for CHUNK words.
+pub fn chunk() -> [u8; 65280]
+    ensures { λ r. ⌜ 65280 ≡ length r ⌝ }
+{
+    [0; 65280]
+}
+
+fn digit(b: u8) -> u64
+    ensures { λ r. ⌜ (r ≡ digitOf b) × (r < 16) ⌝ }
+{
+    if b < 48 {
+        return 0;
+    }
+    if b < 58 {
+        return (b - 48) as u64;
+    }
+    if b < 97 {
+        return 0;
+    }
+    if b < 103 {
+        return (b - 87) as u64;
+    }
+    0
+}
+
+fn digit_at(text: &[u8], j: usize) -> u64
+    ensures { λ r. ⌜ (r ≡ digitOf (getD (now (text .entry)) j 0)) × (r < 16) ⌝ }
+{
+    if j < text.len() {
+        return digit(text[j]);
+    }
+    0
+}
+
+// Word k of the text: what lies past its end, or is no hex digit, counts as the digit 0.
+pub fn word(text: &[u8], k: usize) -> u64
+    ensures { λ r. ⌜ r ≡ wordAt (now (text .entry)) k ⌝ }
+{
+    if k > text.len() / 17 {
+        return 0;
+    }
+    let at = 17 * k;
+    let mut value: u64 = 0;
+    let mut i: usize = 0;
+    while i < 16 {
+        value = value * 16 + digit_at(text, at + i);
+        i += 1;
+    }
+    value
+}
+
+fn is_nan_pattern(b: u64) -> bool
+    ensures { λ r. ⌜ r ≡ nanPattern b ⌝ }
+{
+    b % 0x8000_0000_0000_0000 > 0x7ff0_0000_0000_0000
+}
+
+// Whether two patterns stand for the same double. All NaNs count as equal.
+pub fn same_double(a: u64, b: u64) -> bool
+    ensures { λ r. ⌜ r ≡ sameDouble a b ⌝ }
+{
+    if is_nan_pattern(a) {
+        return is_nan_pattern(b);
+    }
+    a == b
+}
+
+// Opens a file of the folder that the program runs in, and answers a descriptor; where there is none, says so and answers -1.
+pub fn open(name: &[u8]) -> i32 {
+    let fd = os::open_read(name);
+    if fd < 0 {
+        os::fail(name);
+    }
+    fd
+}
+
+fn put_decimal(n: u64) {
+    let mut out = [0u8; 20];
+    let length = io::decimal(n, &mut out);
+    io::write_all(libc::STDOUT_FILENO, &out[..length]);
+}
+
+// Prints `NAME N recorded, M differ` as one line.
+pub fn report(name: &[u8], recorded: u64, differ: u64) {
+    io::write_all(libc::STDOUT_FILENO, name);
+    io::write_all(libc::STDOUT_FILENO, b" ");
+    put_decimal(recorded);
+    io::write_all(libc::STDOUT_FILENO, b" recorded, ");
+    put_decimal(differ);
+    io::write_all(libc::STDOUT_FILENO, b" differ\n");
+}

@@ -1,0 +1,2 @@
+mod Quarters
+mod Words

@@ -1,0 +1,72 @@
+use mir.Facts.{toZ-ofZ}
+use mir.Syntax.{w64}
+use mathlib.Core.Path.{_∙_}
+use Rattle.singularities.specs.Charge.{charge, turns}
+use borrow.Author.Needs.{needs}
+use Rattle.singularities.proofs.triangle_charge.Statement.{statement}
+use Rattle.singularities.proofs.triangle_charge.Tie as tie
+use Rattle.singularities.proofs.triangle_charge.Reads as reads
+use Rattle.singularities.proofs.triangle_charge.Lts as lts
+use Rattle.float.proofs.is_finite.Reads as is-finite-reads
+use Rattle.float.proofs.round.Reads as round-reads
+use Rattle.float.proofs.whole_signed.Reads as whole-signed-reads
+use Rattle.singularities.proofs.winding_of.Reads as winding-of-reads
+
+-- src/lib.rt:23:8
+is-finite-requires : tie.Need-is-finite-requires
+is-finite-requires c κs = search needs
+
+-- src/lib.rt:24:12
+is-finite-requires-2 : tie.Need-is-finite-requires-2
+is-finite-requires-2 c κs = search needs
+
+-- src/lib.rt:25:16
+is-finite-requires-3 : tie.Need-is-finite-requires-3
+is-finite-requires-3 c κs = search needs
+
+-- src/lib.rt:26:57
+winding-of-requires : tie.Need-winding-of-requires
+winding-of-requires c κs = search needs
+
+-- src/lib.rt:26:44
+round-requires : tie.Need-round-requires
+round-requires c κs = search needs
+
+-- src/lib.rt:26:17
+whole-signed-requires : tie.Need-whole-signed-requires
+whole-signed-requires c κs = search needs
+
+-- src/lib.rt:26:17
+returns : tie.Need-returns
+unfolding charge turns
+returns c = toZ-ofZ {w = w64} {z = c .whole-signed .result} (record { sfits = c .whole-signed .ok }) ∙ simp (← c .before .before .before .before .before .before .before .before .is-finite .ensures, ← c .before .before .before .before .before .before .is-finite2 .ensures, ← c .before .before .before .before .is-finite3 .ensures, c .before .before .before .before .before .before .before .if1 .taken, c .before .before .before .before .before .if2 .taken, c .before .before .before .if3 .taken, ← c .before .before .winding-of .ensures, ← c .before .round .ensures, c .whole-signed .ensures)
+
+-- src/lib.rt:28:13
+returns-2 : tie.Need-returns-2
+unfolding charge
+returns-2 c = simp (← c .before .before .before .before .before .is-finite .ensures, ← c .before .before .before .is-finite2 .ensures, ← c .before .is-finite3 .ensures, c .before .before .before .before .if1 .taken, c .before .before .if2 .taken, c .if3 .left)
+
+-- src/lib.rt:30:9
+returns-3 : tie.Need-returns-3
+unfolding charge
+returns-3 c = simp (← c .before .before .before .is-finite .ensures, ← c .before .is-finite2 .ensures, c .before .before .if1 .taken, c .if2 .left)
+
+-- src/lib.rt:20:1
+returns-4 : tie.Need-returns-4
+unfolding charge
+returns-4 c = simp (← c .before .is-finite .ensures, c .if1 .left)
+
+pub triangle-charge-spec : {M : Type 1} → statement M
+triangle-charge-spec =
+    tie.close
+    (tie.spec
+    is-finite-requires
+    is-finite-requires-2
+    is-finite-requires-3
+    winding-of-requires
+    round-requires
+    whole-signed-requires
+    returns
+    returns-2
+    returns-3
+    returns-4)

@@ -1,0 +1,74 @@
+//! Makes two copies of the reference in generated/, which is never committed: `bound.rs`, whose sine, cosine and arctangent
+//! are libgodf.a's, and `platform.rs`, which keeps the platform's. Both get the text of accessors.rs at their end, so that
+//! private functions can be called. Any text that is not found exactly as often as expected stops the build.
+
+use std::{env, fs, path::PathBuf, process::exit};
+
+/// Text of the reference, how often it occurs, and what takes its place in the bound copy.
+const BINDINGS: [(&str, usize, &str); 5] = [
+    ("re: angle.cos(),", 1, "re: crate::leaves::cos(angle),"),
+    ("im: angle.sin(),", 1, "im: crate::leaves::sin(angle),"),
+    ("self.im.atan2(self.re)", 1, "crate::leaves::atan2(self.im, self.re)"),
+    ("dvy.atan2(1.0 + dvx)", 1, "crate::leaves::atan2(dvy, 1.0 + dvx)"),
+    // boundary_targets, and a demonstration that is not called
+    (
+        "(points[v][1] - points[u][1]).atan2(points[v][0] - points[u][0])",
+        2,
+        "crate::leaves::atan2(points[v][1] - points[u][1], points[v][0] - points[u][0])",
+    ),
+];
+
+/// Calls of the platform's functions that may be left once the bindings stand: one in a demonstration.
+const LEFT: [(&str, usize); 6] =
+    [(".cos()", 0), (".sin()", 0), (".sin_cos()", 1), (".atan2(", 0), (".tan()", 0), (".atan()", 0)];
+
+fn stop(message: String) -> ! {
+    eprintln!("oracle: {message}");
+    println!("cargo:warning=oracle: {message}");
+    exit(1)
+}
+
+fn code(text: &str) -> String {
+    text.lines().filter(|line| !line.trim_start().starts_with("//")).collect::<Vec<_>>().join("\n")
+}
+
+fn main() {
+    let root = PathBuf::from(env::var("CARGO_MANIFEST_DIR").unwrap());
+    let folder = env::var("GODF_REFERENCE").map_or(root.join("../../shared/docs/src"), PathBuf::from);
+    let file = folder.join("src--src--simons_godf.rs.txt");
+    let library = env::var("GODF_LIBRARY").map_or(root.join("../target/staticlib"), PathBuf::from);
+    println!("cargo:rerun-if-env-changed=GODF_REFERENCE");
+    println!("cargo:rerun-if-env-changed=GODF_LIBRARY");
+    println!("cargo:rerun-if-changed={}", file.display());
+    println!("cargo:rerun-if-changed=accessors.rs");
+    println!("cargo:rerun-if-changed={}", library.join("libgodf.a").display());
+    let Ok(source) = fs::read_to_string(&file) else {
+        stop(format!("the reference is not at {}: set GODF_REFERENCE to its folder", file.display()))
+    };
+    if !library.join("libgodf.a").exists() {
+        stop(format!("no libgodf.a in {}: run `rt staticlib godf` first", library.display()))
+    }
+    let accessors = fs::read_to_string(root.join("accessors.rs")).expect("accessors.rs");
+    let mut bound = source.clone();
+    for (text, times, new) in BINDINGS {
+        let found = code(&source).matches(text).count();
+        if found != times {
+            stop(format!("{found} times `{text}` in the reference, and not {times}"));
+        }
+        bound = bound.replace(text, new);
+    }
+    for (text, times) in LEFT {
+        let found = code(&bound).matches(text).count();
+        if found != times {
+            stop(format!("{found} times `{text}` is left in the bound copy, and not {times}"));
+        }
+    }
+    let out = root.join("generated");
+    fs::create_dir_all(&out).expect("generated/");
+    for (name, text) in [("bound.rs", bound), ("platform.rs", source)] {
+        fs::write(out.join(name), format!("{text}\n{accessors}")).expect("a generated copy");
+    }
+    println!("cargo:rustc-link-search=native={}", library.display());
+    println!("cargo:rustc-link-lib=static=godf");
+    println!("cargo:rustc-link-lib=m");
+}

@@ -1,0 +1,35 @@
+//! The reference as judge: records its answers, over the proved sine, cosine and arctangent, as lists that the
+//! programs of crates/ replay.
+//!
+//!     oracle record LAYER COUNT SEED FOLDER     layers: scalars
+
+mod leaves;
+mod random;
+mod scalars;
+mod words;
+
+#[allow(dead_code)]
+#[path = "../generated/bound.rs"]
+mod bound;
+#[allow(dead_code)]
+#[path = "../generated/platform.rs"]
+mod platform;
+
+use std::{env, path::Path, process::exit};
+
+fn usage() -> ! {
+    eprintln!("usage: oracle record LAYER COUNT SEED FOLDER");
+    exit(2)
+}
+
+fn main() {
+    let args: Vec<String> = env::args().skip(1).collect();
+    let words: Vec<&str> = args.iter().map(String::as_str).collect();
+    let ["record", layer, count, seed, folder] = words[..] else { usage() };
+    let (Ok(count), Ok(seed)) = (count.parse(), seed.parse()) else { usage() };
+    let folder = Path::new(folder);
+    match layer {
+        "scalars" => scalars::record(seed, count, folder),
+        _ => usage(),
+    }
+}

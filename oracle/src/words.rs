@@ -1,0 +1,42 @@
+//! Recorded lists: words of 16 hex digits, a blank or a line feed after each, rows of a fixed number of words.
+
+use std::{fs::File, io::BufWriter, io::Write, path::Path};
+
+pub struct List {
+    file: BufWriter<File>,
+    width: usize,
+    pub rows: usize,
+}
+
+impl List {
+    pub fn new(folder: &Path, name: &str, width: usize) -> Self {
+        let path = folder.join(name);
+        let file = File::create(&path).unwrap_or_else(|e| panic!("{}: {e}", path.display()));
+        Self { file: BufWriter::new(file), width, rows: 0 }
+    }
+
+    /// One row; what it lacks of the list's width is filled by zeros. Any NaN is recorded by one pattern.
+    pub fn row(&mut self, words: &[u64]) {
+        assert!(words.len() <= self.width, "a row of {} words, over {}", words.len(), self.width);
+        let mut line = String::with_capacity(17 * self.width);
+        for k in 0..self.width {
+            line.push_str(&format!("{:016x}", words.get(k).copied().unwrap_or(0)));
+            line.push(if k + 1 < self.width { ' ' } else { '\n' });
+        }
+        self.file.write_all(line.as_bytes()).expect("a recorded row");
+        self.rows += 1;
+    }
+}
+
+/// A double's pattern, one for all NaNs.
+pub fn word(x: f64) -> u64 {
+    if x.is_nan() {
+        0x7ff8_0000_0000_0000
+    } else {
+        x.to_bits()
+    }
+}
+
+pub fn words(xs: &[f64]) -> Vec<u64> {
+    xs.iter().map(|&x| word(x)).collect()
+}
