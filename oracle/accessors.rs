@@ -110,4 +110,22 @@ pub mod access {
         let mut next = complex(x);
         super::normalize_in_mass(&mut next, &hermitian(diagonal, ends, off)).map(|()| pairs(&next))
     }
+
+    /// A system that conjugate_gradient was called with: diagonal, ends, entries, right-hand side, tolerance, count.
+    pub type Call = (Vec<f64>, Vec<(usize, usize)>, Vec<Pair>, Vec<Pair>, f64, usize);
+
+    thread_local! {
+        static CALLS: std::cell::RefCell<Vec<Call>> = const { std::cell::RefCell::new(Vec::new()) };
+    }
+
+    /// Called by the copy that keeps the systems.
+    pub(super) fn keep(matrix: &Hermitian, rhs: &[Complex], tolerance: f64, most: usize) {
+        let ends = matrix.edge_a.iter().copied().zip(matrix.edge_b.iter().copied()).collect();
+        let call = (matrix.diagonal.clone(), ends, pairs(&matrix.off_diagonal), pairs(rhs), tolerance, most);
+        CALLS.with(|c| c.borrow_mut().push(call));
+    }
+
+    pub fn calls() -> Vec<Call> {
+        CALLS.with(|c| c.take())
+    }
 }

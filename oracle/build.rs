@@ -1,6 +1,6 @@
-//! Makes two copies of the reference in generated/, which is never committed: `bound.rs`, whose sine, cosine and arctangent
-//! are libgodf.a's, and `platform.rs`, which keeps the platform's. Both get the text of accessors.rs at their end, so that
-//! private functions can be called. Any text that is not found exactly as often as expected stops the build.
+//! Makes three copies of the reference in generated/, which is never committed: `bound.rs`, whose sine, cosine and arctangent
+//! are libgodf.a's, `platform.rs`, which keeps the platform's, and `keeping.rs`, which also keeps the systems that it solves.
+//! All get the text of accessors.rs at their end, so that private functions can be called. Any text that is not found exactly as often as expected stops the build.
 
 use std::{env, fs, path::PathBuf, process::exit};
 
@@ -21,6 +21,9 @@ const BINDINGS: [(&str, usize, &str); 5] = [
 /// Calls of the platform's functions that may be left once the bindings stand: one in a demonstration.
 const LEFT: [(&str, usize); 6] =
     [(".cos()", 0), (".sin()", 0), (".sin_cos()", 1), (".atan2(", 0), (".tan()", 0), (".atan()", 0)];
+
+/// Where conjugate_gradient begins: the copy `keeping.rs` keeps the systems that it is called with.
+const KEEP: &str = "let rhs_norm = euclidean_norm(rhs);";
 
 fn stop(message: String) -> ! {
     eprintln!("oracle: {message}");
@@ -63,9 +66,13 @@ fn main() {
             stop(format!("{found} times `{text}` is left in the bound copy, and not {times}"));
         }
     }
+    if code(&source).matches(KEEP).count() != 1 {
+        stop(format!("not once `{KEEP}` in the reference"));
+    }
+    let keeping = source.replace(KEEP, &format!("access::keep(matrix, rhs, tolerance, max_iterations);\n    {KEEP}"));
     let out = root.join("generated");
     fs::create_dir_all(&out).expect("generated/");
-    for (name, text) in [("bound.rs", bound), ("platform.rs", source)] {
+    for (name, text) in [("bound.rs", bound), ("keeping.rs", keeping), ("platform.rs", source)] {
         fs::write(out.join(name), format!("{text}\n{accessors}")).expect("a generated copy");
     }
     println!("cargo:rustc-link-search=native={}", library.display());

@@ -1,9 +1,10 @@
 //! The reference as judge: records its answers, over the proved sine, cosine and arctangent, as lists that the
 //! programs of crates/ replay.
 //!
-//!     oracle record LAYER COUNT SEED FOLDER     layers: scalars
+//!     oracle record LAYER COUNT SEED FOLDER     layers: scalars, linear
 
 mod leaves;
+mod linear;
 mod random;
 mod scalars;
 mod words;
@@ -11,6 +12,9 @@ mod words;
 #[allow(dead_code)]
 #[path = "../generated/bound.rs"]
 mod bound;
+#[allow(dead_code)]
+#[path = "../generated/keeping.rs"]
+mod keeping;
 #[allow(dead_code)]
 #[path = "../generated/platform.rs"]
 mod platform;
@@ -30,6 +34,7 @@ fn main() {
     let folder = Path::new(folder);
     match layer {
         "scalars" => scalars::record(seed, count, folder),
+        "linear" => linear::record(seed, count, folder),
         _ => usage(),
     }
 }

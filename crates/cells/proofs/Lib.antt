@@ -1,0 +1,6 @@
+pub mod Loops
+pub mod Regions
+pub mod Cells
+pub mod Over
+pub mod Rows
+pub mod Writes

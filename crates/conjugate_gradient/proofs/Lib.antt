@@ -1,0 +1,7 @@
+pub mod Tests
+pub mod Zip
+pub mod Lays
+pub mod Passes
+pub mod Turns
+pub mod Runs
+pub mod Mass

@@ -1,0 +1,38 @@
+-- `conjugate_gradient::turn` meets its contract: each return opens the definition and rewrites it by the tests and the calls on its way; the laws are in proofs/Turns.
+use Rattle.conjugate_gradient.proofs.Turns.{turn-broken, turn-stepped}
+use borrow.Author.Needs.{needs}
+use Rattle.conjugate_gradient.proofs.turn.Statement.{statement}
+use Rattle.conjugate_gradient.proofs.turn.Tie as tie
+
+multiply-requires : tie.Need-multiply-requires
+multiply-requires c κs = search needs
+
+is-unfit-requires : tie.Need-is-unfit-requires
+is-unfit-requires c κs = search needs
+
+same-length : tie.Need-same-length
+same-length c = search needs
+
+returns : tie.Need-returns
+returns c = turn-broken _ _ _ _ _ _ _ (c .before .before .before .before .multiply .ensures) (c .before .is-unfit .ensures) (c .if1 .taken)
+
+step-requires : tie.Need-step-requires
+step-requires c κs = search needs
+
+same-length-2 : tie.Need-same-length-2
+same-length-2 c = search needs
+
+returns-2 : tie.Need-returns-2
+returns-2 c = turn-stepped _ _ _ _ _ _ _ (c .before .before .before .before .before .before .before .before .before .before .before .before .before .pre .0) (c .before .before .before .before .before .before .before .before .multiply .ensures) (c .before .before .before .before .before .is-unfit .ensures) (c .before .before .before .before .if1 .left) (c .before .before .step .ensures)
+
+pub turn-spec : {M : Type 1} → statement M
+turn-spec =
+    tie.close
+    (tie.spec
+    multiply-requires
+    is-unfit-requires
+    same-length
+    returns
+    step-requires
+    same-length-2
+    returns-2)

@@ -1,0 +1,168 @@
+-- The Rust's `conjugate_gradient` and `normalize_in_mass`, over lists of complex numbers, with every operation in its order. Definitions only.
+-- Each also says what it leaves in every vector, whatever it answers.
+use Prim.Native.Nat.{ℕ, zero, suc}
+use mathlib.Core.Bool.{Bool, not, cond, _||_}
+use mathlib.Core.List.{List, [], _∷_}
+use lib.Dec.{ltb}
+use lib.ListN.{length, getD, replicate}
+use lib.Ieee.{Float, nan, le}
+use Rattle.float.specs.Double.{lit, isFinite, recipOf, _⊗_, _⊘_}
+use Rattle.root.specs.Root.{rootOf}
+use Rattle.complex.specs.declared.Complex.{Complex}
+use Rattle.complex.specs.Complex.{czero, cnan, cadd, csub, cscale}
+use Rattle.cells.specs.Region.{tab}
+use Rattle.hermitian.specs.Hermitian.{Matrix, dotOf, normOf, scaled, applied}
+use Rattle.conjugate_gradient.specs.declared.Reason.{Reason}
+use Rattle.conjugate_gradient.specs.declared.Reason.the-variants.{RightHandNorm, Diagonal, FirstResidual, Denominator, LostDefiniteness, CountSpent, MassOfIterate}
+use Rattle.conjugate_gradient.specs.declared.Answer.{Answer}
+use Rattle.conjugate_gradient.specs.declared.Answer.the-variants.{Iterate, GaveUp}
+use Rattle.conjugate_gradient.specs.declared.Normalized.{Normalized}
+use Rattle.conjugate_gradient.specs.declared.Normalized.the-variants as normalized
+use Rattle.conjugate_gradient.specs.declared.Turned.{Turned}
+use Rattle.conjugate_gradient.specs.declared.Turned.the-variants.{Going, Converged, Broken}
+
+-- `!value.is_finite() || value <= 0.0`
+unfoldable pub unfit : Float → Bool
+unfit v = not (isFinite v) || le v (lit 0)
+
+-- the first index whose value is unfit, or the length where there is none
+unfoldable pub firstUnfit : List Float → ℕ
+firstUnfit [] = 0
+firstUnfit (v ∷ d) = cond (unfit v) 0 (suc (firstUnfit d))
+
+-- f (y i) (x i) at each i
+unfoldable pub zipOf : (Complex → Complex → Complex) → List Complex → List Complex → List Complex
+zipOf f y x = tab (λ i. f (getD y i cnan) (getD x i cnan)) (length y)
+
+-- y + x * k, and y - x * k
+unfoldable pub addScaled : Float → Complex → Complex → Complex
+addScaled k y x = cadd y (cscale x k)
+
+unfoldable pub subScaled : Float → Complex → Complex → Complex
+subScaled k y x = csub y (cscale x k)
+
+-- 1 / d i at each i
+unfoldable pub recipsOf : List Float → List Float
+recipsOf d = tab (λ i. recipOf (getD d i nan)) (length d)
+
+-- ---- the vectors: the iterate, the residual, the direction, the matrix times the direction, and the inverse diagonal
+
+pub record State : Type 0 where
+  pub x : List Complex
+  pub r : List Complex
+  pub p : List Complex
+  pub q : List Complex
+  pub inverse : List Float
+
+-- the residual times the inverse diagonal, and its product with the residual
+unfoldable pub preconditioned : State → List Complex
+preconditioned s = scaled (s .inverse) (s .r)
+
+unfoldable pub residualDot : State → Float
+residualDot s = dotOf (preconditioned s) (s .r) .re
+
+-- before the first turn. The residual is the right-hand side, which stands there already
+unfoldable pub begun : List Float → State → State
+begun diagonal s = record {
+  x = replicate (length (s .r)) czero;
+  r = s .r;
+  p = scaled (recipsOf diagonal) (s .r);
+  q = s .q;
+  inverse = recipsOf diagonal;
+}
+
+-- ---- a turn
+
+-- q = the matrix times p
+unfoldable pub multiplied : Matrix → State → State
+multiplied m s = record { x = s .x; r = s .r; p = s .p; q = applied m (s .p); inverse = s .inverse }
+
+unfoldable pub denominator : State → Float
+denominator s = dotOf (s .p) (s .q) .re
+
+-- x = x + p * alpha and r = r - q * alpha
+unfoldable pub reduced : Float → State → State
+reduced alpha s = record { x = s .x; r = zipOf (subScaled alpha) (s .r) (s .q); p = s .p; q = s .q; inverse = s .inverse }
+
+unfoldable pub advanced : Float → State → State
+advanced alpha s = record { x = zipOf (addScaled alpha) (s .x) (s .p); r = s .r; p = s .p; q = s .q; inverse = s .inverse }
+
+-- p = preconditioned + p * beta
+unfoldable pub directed : Float → State → State
+directed beta s = record { x = s .x; r = s .r; p = zipOf (addScaled beta) (preconditioned s) (s .p); q = s .q; inverse = s .inverse }
+
+-- a turn ends with the next residual dot, or convergence, or a reason; and with the vectors
+pub record Turn : Type 0 where
+  pub result : Turned
+  pub state : State
+
+abbrev pub turn : Turned → State → Turn
+turn t s = record { result = t; state = s }
+
+-- after the step by alpha, s being the vectors after it
+unfoldable pub judged : Float → Float → State → Turn
+judged limit dot s =
+    cond (le (normOf (s .r)) limit) (turn Converged s)
+    (cond (unfit (residualDot s)) (turn (Broken LostDefiniteness) s)
+    (turn (Going (residualDot s)) (directed (residualDot s ⊘ dot) s)))
+
+-- after the product, s having it
+unfoldable pub stepped : Float → Float → State → Turn
+stepped limit dot s =
+    cond (unfit (denominator s)) (turn (Broken Denominator) s)
+    (judged limit dot (advanced (dot ⊘ denominator s) (reduced (dot ⊘ denominator s) s)))
+
+unfoldable pub turned : Matrix → Float → Float → State → Turn
+turned m limit dot s = stepped limit dot (multiplied m s)
+
+-- ---- the method
+
+pub record Outcome : Type 0 where
+  pub answer : Answer
+  pub state : State
+
+abbrev pub outcome : Answer → State → Outcome
+outcome a s = record { answer = a; state = s }
+
+-- what the method answers where it ends with a turn, the count-th
+unfoldable pub answerOf : Turned → ℕ → Answer
+answerOf Converged count = Iterate count
+answerOf (Broken r) count = GaveUp r
+answerOf (Going dot) count = GaveUp CountSpent
+
+-- it goes on by f where the turn says so
+unfoldable pub after : Turned → State → ℕ → (Float → State → Outcome) → Outcome
+after Converged s count f = outcome (answerOf Converged count) s
+after (Broken r) s count f = outcome (answerOf (Broken r) count) s
+after (Going dot) s count f = f dot s
+
+-- at most k turns more, after i turns
+unfoldable pub run : Matrix → Float → ℕ → ℕ → Float → State → Outcome
+run m limit zero i dot s = outcome (GaveUp CountSpent) s
+run m limit (suc k) i dot s = after (turned m limit dot s .result) (turned m limit dot s .state) (suc i) (run m limit k (suc i))
+
+-- the first residual dot is tested, and then at most k turns are made
+unfoldable pub started : Matrix → Float → ℕ → State → Outcome
+started m limit k s = cond (unfit (residualDot s)) (outcome (GaveUp FirstResidual) s) (run m limit k 0 (residualDot s) s)
+
+unfoldable pub solved : Matrix → Float → ℕ → State → Outcome
+solved m tolerance k s =
+    cond (unfit (normOf (s .r))) (outcome (GaveUp RightHandNorm) s)
+    (cond (ltb (firstUnfit (m .diagonal)) (length (m .diagonal))) (outcome (GaveUp (Diagonal (firstUnfit (m .diagonal)))) s)
+    (started m (tolerance ⊗ normOf (s .r)) k (begun (m .diagonal) s)))
+
+-- ---- normalize_in_mass
+
+-- x^H M x
+unfoldable pub massOf : Matrix → List Complex → Float
+massOf m x = dotOf x (applied m x) .re
+
+-- each value times the reciprocal of the mass norm
+unfoldable pub scaledBy : Float → List Complex → List Complex
+scaledBy k x = tab (λ i. cscale (getD x i cnan) k) (length x)
+
+unfoldable pub normalizedAnswer : Float → Normalized
+normalizedAnswer squared = cond (unfit squared) (normalized.GaveUp MassOfIterate) normalized.Done
+
+unfoldable pub normalizedVector : Float → List Complex → List Complex
+normalizedVector squared x = cond (unfit squared) x (scaledBy (recipOf (rootOf squared)) x)

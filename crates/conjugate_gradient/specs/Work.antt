@@ -1,0 +1,102 @@
+-- How a work slice holds the vectors, and what the functions require of it.
+use mathlib.Core.Path.{_≡_}
+use mathlib.Core.List.{List, [], _∷_}
+use Prim.Native.Nat.{ℕ, _+_, _*_, _≤_, _<_}
+use lib.ListN.{length, getD}
+use lib.Ieee.{Float, nan}
+use Rattle.float.specs.Double.{lit, _⊕_}
+use Rattle.complex.specs.declared.Complex.{Complex}
+use Rattle.complex.specs.Complex.{cadd, cscale}
+use Rattle.cells.specs.Region.{region, Apart}
+use Rattle.cells.specs.Cell.{getC, setC, flat, regionC, putC}
+use Rattle.cells.specs.Rows.{Row, row, laid, Ranged}
+use Rattle.hermitian.specs.declared.Hermitian.{Hermitian}
+use Rattle.hermitian.specs.Hermitian.{Matrix, dotOf, applied}
+use Rattle.hermitian.specs.Work.{matrix, reTerm}
+use Rattle.conjugate_gradient.specs.declared.Plan.{Plan}
+use Rattle.conjugate_gradient.specs.declared.Sums.{Sums}
+use Rattle.conjugate_gradient.specs.declared.Next.{Next}
+use Rattle.conjugate_gradient.specs.declared.Turned.{Turned}
+use Rattle.conjugate_gradient.specs.declared.Answer.{Answer}
+use Rattle.conjugate_gradient.specs.declared.Normalized.{Normalized}
+use Rattle.conjugate_gradient.specs.Solve.{State, Turn, Outcome, addScaled, subScaled, begun, residualDot, multiplied, denominator, reduced, massOf, normalizedAnswer, normalizedVector}
+
+-- ---- the layout
+
+abbrev pub bases : ℕ → Plan → List Row
+bases n l = row (l .x) (2 * n) ∷ row (l .residual) (2 * n) ∷ row (l .direction) (2 * n) ∷ row (l .applied) (2 * n) ∷ row (l .inverse) n ∷ []
+
+abbrev pub vectors : State → List (List Float)
+vectors s = flat (s .x) ∷ flat (s .r) ∷ flat (s .p) ∷ flat (s .q) ∷ s .inverse ∷ []
+
+unfoldable pub read : List Float → ℕ → Plan → State
+read w n l = record {
+  x = regionC w (l .x) n;
+  r = regionC w (l .residual) n;
+  p = regionC w (l .direction) n;
+  q = regionC w (l .applied) n;
+  inverse = region nan w (l .inverse) n;
+}
+
+-- w with every vector replaced
+unfoldable pub lay : List Float → ℕ → Plan → State → List Float
+lay w n l s = laid w (bases n l) (vectors s)
+
+-- the vectors one after another, up to len
+pub record VectorRoom (len n : ℕ) (l : Plan) : Type 0 where
+  pub vectors-in : Ranged (l .x) len (bases n l)
+
+-- the matrix below them
+pub record Room (len : ℕ) (h : Hermitian) (l : Plan) : Type 0 where
+  pub diagonal-below : h .diagonal + h .size ≤ l .x
+  pub off-below : h .off + 2 * h .edges ≤ l .x
+  pub vector-room : VectorRoom len (h .size) l
+
+-- ---- what the functions leave and return
+
+pub record Begun (w w′ : List Float) (h : Hermitian) (l : Plan) (r : Float) : Type 0 where
+  pub work : w′ ≡ lay w (h .size) l (begun (region nan w (h .diagonal) (h .size)) (read w (h .size) l))
+  pub result : r ≡ residualDot (begun (region nan w (h .diagonal) (h .size)) (read w (h .size) l))
+
+pub record Multiplied (w w′ : List Float) (h : Hermitian) (l : Plan) (from to : List ℕ) (r : Float) : Type 0 where
+  pub work : w′ ≡ lay w (h .size) l (multiplied (matrix w h from to) (read w (h .size) l))
+  pub result : r ≡ denominator (multiplied (matrix w h from to) (read w (h .size) l))
+
+-- the residual after its step, with its own product and the residual dot
+pub record Updated (w w′ : List Float) (n : ℕ) (l : Plan) (alpha : Float) (r : Sums) : Type 0 where
+  pub work : w′ ≡ lay w n l (reduced alpha (read w n l))
+  pub square : r .square ≡ dotOf (reduced alpha (read w n l) .r) (reduced alpha (read w n l) .r) .re
+  pub next : r .next ≡ residualDot (reduced alpha (read w n l))
+
+pub record Ended (w w′ : List Float) (n : ℕ) (l : Plan) (t : Turn) (r : Turned) : Type 0 where
+  pub work : w′ ≡ lay w n l (t .state)
+  pub result : r ≡ t .result
+
+pub record Solved (w w′ : List Float) (n : ℕ) (l : Plan) (o : Outcome) (r : Answer) : Type 0 where
+  pub work : w′ ≡ lay w n l (o .state)
+  pub result : r ≡ o .answer
+
+-- normalize_in_mass: y is left with the mass matrix times x
+pub record InMass (w w′ : List Float) (x y n : ℕ) (m : Matrix) (r : Normalized) : Type 0 where
+  pub work : w′ ≡ putC (putC w y (applied m (regionC w x n))) x (normalizedVector (massOf m (regionC w x n)) (regionC w x n))
+  pub result : r ≡ normalizedAnswer (massOf m (regionC w x n))
+
+-- ---- turns of the loops
+
+-- the sums of the update, with the new residual z and the inverse diagonal's value k
+unfoldable pub sumsStep : Sums → Complex → Float → Sums
+sumsStep s z k = record { square = s .square ⊕ reTerm z z; next = s .next ⊕ reTerm (cscale z k) z }
+
+pub record UpdateTurn (w w′ : List Float) (l : Plan) (n i : ℕ) (alpha : Float) (s r : Sums) : Type 0 where
+  pub work : w′ ≡ setC w (l .residual) n i (subScaled alpha (getC w (l .residual) n i) (getC w (l .applied) n i))
+  pub result : r ≡ sumsStep s (subScaled alpha (getC w (l .residual) n i) (getC w (l .applied) n i)) (getD w (l .inverse + i) nan)
+
+-- the next x and direction at i, and w with them
+unfoldable pub nextC : List Float → Plan → ℕ → ℕ → Float → Float → Next
+nextC w l n i alpha beta = record {
+  x = addScaled alpha (getC w (l .x) n i) (getC w (l .direction) n i);
+  p = addScaled beta (cscale (getC w (l .residual) n i) (getD w (l .inverse + i) nan)) (getC w (l .direction) n i);
+}
+
+unfoldable pub directC : List Float → Plan → ℕ → ℕ → Float → Float → List Float
+directC w l n i alpha beta = setC (setC w (l .x) n i (nextC w l n i alpha beta .x)) (l .direction) n i (nextC w l n i alpha beta .p)

@@ -1,0 +1,391 @@
+// Jacobi-preconditioned conjugate gradients for a Hermitian system, in regions of one lent slice, and `normalize_in_mass`:
+// the Rust's steps, with the vectors that one pass over memory can serve in one loop.
+use cells::load;
+use cells::load_real;
+use cells::store;
+use cells::store_real;
+use complex::Complex;
+use hermitian::Hermitian;
+ghost use mathlib.Core.Path.{_≡_};
+ghost use Prim.Native.Nat.{_+_, _*_, _<_, _≤_};
+ghost use lib.ListN.{length, getD, set};
+ghost use lib.Ieee.{nan};
+ghost use Rattle.float.specs.Double.{lit, maxOf, recipOf};
+ghost use Rattle.root.specs.Root.{rootOf};
+ghost use Rattle.complex.specs.Complex.{cscale};
+ghost use Rattle.cells.specs.Region.{region, put};
+ghost use Rattle.cells.specs.Cell.{getC, setC, regionC, putC};
+ghost use Rattle.hermitian.specs.Work.{matrix, Graph, ApplyRoom, PairRoom};
+ghost use Rattle.conjugate_gradient.specs.Solve.{unfit, firstUnfit, addScaled, subScaled, recipsOf, reduced, advanced, directed, judged, turned, answerOf, run, solved, scaledBy};
+ghost use Rattle.conjugate_gradient.specs.Work.{read, lay, VectorRoom, Room, Begun, Multiplied, Updated, Ended, Solved, InMass, sumsStep, UpdateTurn, nextC, directC};
+
+// Why the solver gave up: number 24's reasons 3 to 9, in their order.
+pub enum Reason {
+    RightHandNorm,
+    Diagonal(usize),
+    FirstResidual,
+    Denominator,
+    LostDefiniteness,
+    CountSpent,
+    MassOfIterate,
+}
+
+// The iterate stands in its region after so many iterations; or the solver gave up.
+pub enum Answer {
+    Iterate(usize),
+    GaveUp(Reason),
+}
+
+// The answer of `normalize_in_mass`.
+pub enum Normalized {
+    Done,
+    GaveUp(Reason),
+}
+
+// Where each vector begins. On entry the residual's region holds the right-hand side.
+pub struct Plan {
+    pub x: usize,
+    pub residual: usize,
+    pub direction: usize,
+    pub applied: usize,
+    pub inverse: usize,
+}
+
+// How a turn ends: with the next residual dot, with convergence, or by a breakdown.
+enum Turned {
+    Going(f64),
+    Converged,
+    Broken(Reason),
+}
+
+// The residual's product with itself, and with the preconditioned residual.
+struct Sums {
+    square: f64,
+    next: f64,
+}
+
+// Whether a value is not finite, or not positive.
+fn is_unfit(value: f64) -> bool
+    ensures { λ r. ⌜ r ≡ unfit value ⌝ }
+{
+    if !float::is_finite(value) {
+        return true;
+    }
+    value <= 0.0
+}
+
+// The first of n values that is unfit, or n.
+fn first_unfit(work: &[f64], d: usize, n: usize) -> usize
+    requires { ⌜ d + n ≤ length (now work) ⌝ }
+    ensures { λ r. ⌜ r ≡ firstUnfit (region nan (now (work .entry)) d n) ⌝ }
+{
+    for i in 0..n {
+        if is_unfit(load_real(work, d, i)) {
+            return i;
+        }
+    }
+    n
+}
+
+fn invert_turn(work: &mut [f64], y: usize, d: usize, i: usize)
+    requires { ⌜ (y + i < length (now work)) × (d + i < length (now work)) ⌝ }
+    ensures { λ _. ⌜ now (work .exit) ≡ set (now (work .entry)) (y + i) (recipOf (getD (now (work .entry)) (d + i) nan)) ⌝ }
+{
+    let value = float::recip(load_real(work, d, i));
+    store_real(work, y, i, value);
+}
+
+// y[i] = 1 / d[i], for each i.
+fn invert(work: &mut [f64], y: usize, d: usize, n: usize)
+    requires { ⌜ PairRoom (length (now work)) d y n ⌝ }
+    ensures { λ _. ⌜ now (work .exit) ≡ put (now (work .entry)) y (recipsOf (region nan (now (work .entry)) d n)) ⌝ }
+{
+    for i in 0..n {
+        invert_turn(work, y, d, i);
+    }
+}
+
+fn begin(work: &mut [f64], h: Hermitian, l: Plan) -> f64
+    requires { ⌜ Room (length (now work)) h l ⌝ }
+    ensures { λ r. ⌜ Begun (now (work .entry)) (now (work .exit)) h l r ⌝ }
+{
+    invert(work, l.inverse, h.diagonal, h.size);
+    cells::fill(work, l.x, 2 * h.size, 0.0);
+    hermitian::scale(work, l.direction, l.residual, l.inverse, h.size);
+    hermitian::dot_re(work, l.direction, l.residual, h.size)
+}
+
+// applied = the matrix times the direction, and the direction's product with it.
+fn multiply(work: &mut [f64], h: Hermitian, l: Plan, from: &[u32], to: &[u32]) -> f64
+    requires { ⌜ Room (length (now work)) h l ⌝ }
+    requires { ⌜ Graph h (now from) (now to) ⌝ }
+    ensures { λ r. ⌜ Multiplied (now (work .entry)) (now (work .exit)) h l (now (from .entry)) (now (to .entry)) r ⌝ }
+{
+    hermitian::apply(work, l.applied, l.direction, h, from, to);
+    hermitian::dot_re(work, l.direction, l.applied, h.size)
+}
+
+// y + x * k.
+fn add_scaled(y: Complex, x: Complex, k: f64) -> Complex
+    ensures { λ r. ⌜ r ≡ addScaled k y x ⌝ }
+{
+    y.add(x.scale(k))
+}
+
+// y - x * k.
+fn sub_scaled(y: Complex, x: Complex, k: f64) -> Complex
+    ensures { λ r. ⌜ r ≡ subScaled k y x ⌝ }
+{
+    y.sub(x.scale(k))
+}
+
+// Both sums, with a residual z and its value k of the inverse diagonal.
+fn sums_step(s: Sums, z: Complex, k: f64) -> Sums
+    ensures { λ r. ⌜ r ≡ sumsStep s z k ⌝ }
+{
+    let v = z.scale(k);
+    Sums {
+        square: s.square + (z.re * z.re + z.im * z.im),
+        next: s.next + (v.re * z.re + v.im * z.im),
+    }
+}
+
+fn update_turn(work: &mut [f64], n: usize, l: Plan, alpha: f64, i: usize, s: Sums) -> Sums
+    requires { ⌜ (i < n) × (l .residual + n + i < length (now work)) × (l .applied + n + i < length (now work)) × (l .inverse + i < length (now work)) ⌝ }
+    ensures { λ r. ⌜ UpdateTurn (now (work .entry)) (now (work .exit)) l n i alpha s r ⌝ }
+{
+    let z = sub_scaled(
+        load(work, l.residual, n, i),
+        load(work, l.applied, n, i),
+        alpha,
+    );
+    let k = load_real(work, l.inverse, i);
+    store(work, l.residual, n, i, z);
+    sums_step(s, z, k)
+}
+
+// residual = residual - applied * alpha, with both sums, in one pass.
+fn update(work: &mut [f64], n: usize, l: Plan, alpha: f64) -> Sums
+    requires { ⌜ VectorRoom (length (now work)) n l ⌝ }
+    ensures { λ r. ⌜ Updated (now (work .entry)) (now (work .exit)) n l alpha r ⌝ }
+{
+    let mut s = Sums {
+        square: 0.0,
+        next: 0.0,
+    };
+    for i in 0..n {
+        s = update_turn(work, n, l, alpha, i, s);
+    }
+    s
+}
+
+fn advance_turn(work: &mut [f64], y: usize, x: usize, n: usize, alpha: f64, i: usize)
+    requires { ⌜ (i < n) × (y + n + i < length (now work)) × (x + n + i < length (now work)) ⌝ }
+    ensures { λ _. ⌜ now (work .exit) ≡ setC (now (work .entry)) y n i (addScaled alpha (getC (now (work .entry)) y n i) (getC (now (work .entry)) x n i)) ⌝ }
+{
+    let z = add_scaled(load(work, y, n, i), load(work, x, n, i), alpha);
+    store(work, y, n, i, z);
+}
+
+// x = x + direction * alpha.
+fn advance(work: &mut [f64], n: usize, l: Plan, alpha: f64)
+    requires { ⌜ VectorRoom (length (now work)) n l ⌝ }
+    ensures { λ _. ⌜ now (work .exit) ≡ lay (now (work .entry)) n l (advanced alpha (read (now (work .entry)) n l)) ⌝ }
+{
+    for i in 0..n {
+        advance_turn(work, l.x, l.direction, n, alpha, i);
+    }
+}
+
+// The next x and direction at one place.
+struct Next {
+    x: Complex,
+    p: Complex,
+}
+
+fn preconditioned_at(work: &[f64], n: usize, l: Plan, i: usize) -> Complex
+    requires { ⌜ (i < n) × (l .residual + n + i < length (now work)) × (l .inverse + i < length (now work)) ⌝ }
+    ensures { λ r. ⌜ r ≡ cscale (getC (now (work .entry)) (l .residual) n i) (getD (now (work .entry)) (l .inverse + i) nan) ⌝ }
+{
+    load(work, l.residual, n, i).scale(load_real(work, l.inverse, i))
+}
+
+fn next_at(work: &[f64], n: usize, l: Plan, alpha: f64, beta: f64, i: usize) -> Next
+    requires { ⌜ (i < n) × (l .x + n + i < length (now work)) × (l .residual + n + i < length (now work)) × (l .direction + n + i < length (now work)) × (l .inverse + i < length (now work)) ⌝ }
+    ensures { λ r. ⌜ r ≡ nextC (now (work .entry)) l n i alpha beta ⌝ }
+{
+    let p = load(work, l.direction, n, i);
+    Next {
+        x: add_scaled(load(work, l.x, n, i), p, alpha),
+        p: add_scaled(preconditioned_at(work, n, l, i), p, beta),
+    }
+}
+
+fn direct_turn(work: &mut [f64], n: usize, l: Plan, alpha: f64, beta: f64, i: usize)
+    requires { ⌜ (i < n) × (l .x + n + i < length (now work)) × (l .residual + n + i < length (now work)) × (l .direction + n + i < length (now work)) × (l .inverse + i < length (now work)) ⌝ }
+    ensures { λ _. ⌜ now (work .exit) ≡ directC (now (work .entry)) l n i alpha beta ⌝ }
+{
+    let next = next_at(work, n, l, alpha, beta, i);
+    store(work, l.x, n, i, next.x);
+    store(work, l.direction, n, i, next.p);
+}
+
+// x = x + direction * alpha and direction = preconditioned residual + direction * beta, in one pass.
+fn direct(work: &mut [f64], n: usize, l: Plan, alpha: f64, beta: f64)
+    requires { ⌜ VectorRoom (length (now work)) n l ⌝ }
+    ensures { λ _. ⌜ now (work .exit) ≡ lay (now (work .entry)) n l (directed beta (advanced alpha (read (now (work .entry)) n l))) ⌝ }
+{
+    for i in 0..n {
+        direct_turn(work, n, l, alpha, beta, i);
+    }
+}
+
+// The norm of a vector whose product with itself is `square`.
+fn norm(square: f64) -> f64
+    ensures { λ r. ⌜ r ≡ rootOf (maxOf square (lit 0)) ⌝ }
+{
+    root::sqrt(float::max(square, 0.0))
+}
+
+// A turn after its product, by the step alpha. `dot` is the residual dot before it.
+fn step(work: &mut [f64], n: usize, l: Plan, alpha: f64, dot: f64, limit: f64) -> Turned
+    requires { ⌜ VectorRoom (length (now work)) n l ⌝ }
+    ensures { λ r. ⌜ Ended (now (work .entry)) (now (work .exit)) n l (judged limit dot (advanced alpha (reduced alpha (read (now (work .entry)) n l)))) r ⌝ }
+{
+    let sums = update(work, n, l, alpha);
+    if norm(sums.square) <= limit {
+        advance(work, n, l, alpha);
+        return Turned::Converged;
+    }
+    if is_unfit(sums.next) {
+        advance(work, n, l, alpha);
+        return Turned::Broken(Reason::LostDefiniteness);
+    }
+    direct(work, n, l, alpha, sums.next / dot);
+    Turned::Going(sums.next)
+}
+
+fn turn(
+    work: &mut [f64],
+    h: Hermitian,
+    l: Plan,
+    from: &[u32],
+    to: &[u32],
+    limit: f64,
+    dot: f64,
+) -> Turned
+    requires { ⌜ Room (length (now work)) h l ⌝ }
+    requires { ⌜ Graph h (now from) (now to) ⌝ }
+    ensures { λ r. ⌜ Ended (now (work .entry)) (now (work .exit)) (h .size) l (turned (matrix (now (work .entry)) h (now (from .entry)) (now (to .entry))) limit dot (read (now (work .entry)) (h .size) l)) r ⌝ }
+{
+    let denominator = multiply(work, h, l, from, to);
+    if is_unfit(denominator) {
+        return Turned::Broken(Reason::Denominator);
+    }
+    step(work, h.size, l, dot / denominator, dot, limit)
+}
+
+// The answer where the method ends with this turn, the count-th.
+fn answer_of(t: Turned, count: usize) -> Answer
+    ensures { λ r. ⌜ r ≡ answerOf t count ⌝ }
+{
+    match t {
+        Turned::Converged => Answer::Iterate(count),
+        Turned::Broken(reason) => Answer::GaveUp(reason),
+        Turned::Going(_) => Answer::GaveUp(Reason::CountSpent),
+    }
+}
+
+fn iterate(
+    work: &mut [f64],
+    h: Hermitian,
+    l: Plan,
+    from: &[u32],
+    to: &[u32],
+    limit: f64,
+    first: f64,
+    most: usize,
+) -> Answer
+    requires { ⌜ Room (length (now work)) h l ⌝ }
+    requires { ⌜ Graph h (now from) (now to) ⌝ }
+    ensures { λ r. ⌜ Solved (now (work .entry)) (now (work .exit)) (h .size) l (run (matrix (now (work .entry)) h (now (from .entry)) (now (to .entry))) limit most 0 first (read (now (work .entry)) (h .size) l)) r ⌝ }
+{
+    let mut dot = first;
+    for i in 0..most {
+        let t = turn(work, h, l, from, to, limit, dot);
+        let Turned::Going(next) = t else {
+            return answer_of(t, i + 1);
+        };
+        dot = next;
+    }
+    Answer::GaveUp(Reason::CountSpent)
+}
+
+// Solves the system of the matrix and the right-hand side in the residual's region, by at most `most` iterations.
+pub fn conjugate_gradient(
+    work: &mut [f64],
+    h: Hermitian,
+    l: Plan,
+    from: &[u32],
+    to: &[u32],
+    tolerance: f64,
+    most: usize,
+) -> Answer
+    requires { ⌜ Room (length (now work)) h l ⌝ }
+    requires { ⌜ Graph h (now from) (now to) ⌝ }
+    ensures { λ r. ⌜ Solved (now (work .entry)) (now (work .exit)) (h .size) l (solved (matrix (now (work .entry)) h (now (from .entry)) (now (to .entry))) tolerance most (read (now (work .entry)) (h .size) l)) r ⌝ }
+{
+    let norm = hermitian::euclidean_norm(work, l.residual, h.size);
+    if is_unfit(norm) {
+        return Answer::GaveUp(Reason::RightHandNorm);
+    }
+    let vertex = first_unfit(work, h.diagonal, h.size);
+    if vertex < h.size {
+        return Answer::GaveUp(Reason::Diagonal(vertex));
+    }
+    let first = begin(work, h, l);
+    if is_unfit(first) {
+        return Answer::GaveUp(Reason::FirstResidual);
+    }
+    iterate(work, h, l, from, to, tolerance * norm, first, most)
+}
+
+fn scale_turn(work: &mut [f64], x: usize, n: usize, k: f64, i: usize)
+    requires { ⌜ (i < n) × (x + n + i < length (now work)) ⌝ }
+    ensures { λ _. ⌜ now (work .exit) ≡ setC (now (work .entry)) x n i (cscale (getC (now (work .entry)) x n i) k) ⌝ }
+{
+    let z = load(work, x, n, i).scale(k);
+    store(work, x, n, i, z);
+}
+
+// x[i] = x[i] * k, for each i.
+fn scale_by(work: &mut [f64], x: usize, n: usize, k: f64)
+    requires { ⌜ x + 2 * n ≤ length (now work) ⌝ }
+    ensures { λ _. ⌜ now (work .exit) ≡ putC (now (work .entry)) x (scaledBy k (regionC (now (work .entry)) x n)) ⌝ }
+{
+    for i in 0..n {
+        scale_turn(work, x, n, k, i);
+    }
+}
+
+// x divided by its norm in the mass matrix. The region at y is left with the matrix times x.
+pub fn normalize_in_mass(
+    work: &mut [f64],
+    x: usize,
+    y: usize,
+    mass: Hermitian,
+    from: &[u32],
+    to: &[u32],
+) -> Normalized
+    requires { ⌜ ApplyRoom (length (now work)) mass x y ⌝ }
+    requires { ⌜ Graph mass (now from) (now to) ⌝ }
+    ensures { λ r. ⌜ InMass (now (work .entry)) (now (work .exit)) x y (mass .size) (matrix (now (work .entry)) mass (now (from .entry)) (now (to .entry))) r ⌝ }
+{
+    hermitian::apply(work, y, x, mass, from, to);
+    let squared = hermitian::dot_re(work, x, y, mass.size);
+    if is_unfit(squared) {
+        return Normalized::GaveUp(Reason::MassOfIterate);
+    }
+    scale_by(work, x, mass.size, float::recip(root::sqrt(squared)));
+    Normalized::Done
+}

@@ -1,0 +1,4 @@
+pub mod Floats
+pub mod Loops
+pub mod Product
+pub mod Shift

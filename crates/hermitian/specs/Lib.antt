@@ -1,0 +1,2 @@
+pub mod Hermitian
+pub mod Work
