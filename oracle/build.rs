@@ -1,6 +1,7 @@
-//! Makes three copies of the reference in generated/, which is never committed: `bound.rs`, whose sine, cosine and arctangent
+//! Makes three copies of the reference in the build's own folder, which is never committed: `bound.rs`, whose sine, cosine and arctangent
 //! are libgodf.a's, `platform.rs`, which keeps the platform's, and `keeping.rs`, which also keeps the systems that it solves.
-//! All get the text of accessors.rs at their end, so that private functions can be called. Any text that is not found exactly as often as expected stops the build.
+//! All get the text of accessors.rs at their end, so that private functions can be called. Any text that is not found exactly as
+//! often as expected stops the build. GODF_WRONG names a line of wrong.txt that is made wrong in all of them.
 
 use std::{env, fs, path::PathBuf, process::exit};
 
@@ -19,8 +20,14 @@ const BINDINGS: [(&str, usize, &str); 5] = [
 ];
 
 /// Calls of the platform's functions that may be left once the bindings stand: one in a demonstration.
-const LEFT: [(&str, usize); 6] =
-    [(".cos()", 0), (".sin()", 0), (".sin_cos()", 1), (".atan2(", 0), (".tan()", 0), (".atan()", 0)];
+const LEFT: [(&str, usize); 6] = [
+    (".cos()", 0),
+    (".sin()", 0),
+    (".sin_cos()", 1),
+    (".atan2(", 0),
+    (".tan()", 0),
+    (".atan()", 0),
+];
 
 /// Where conjugate_gradient begins: the copy `keeping.rs` keeps the systems that it is called with.
 const KEEP: &str = "let rhs_norm = euclidean_norm(rhs);";
@@ -31,8 +38,27 @@ fn stop(message: String) -> ! {
     exit(1)
 }
 
+/// The line of wrong.txt with this name, as OLD, how often, and NEW.
+fn wrong(root: &std::path::Path, name: &str) -> (String, usize, String) {
+    let text = fs::read_to_string(root.join("wrong.txt")).expect("wrong.txt");
+    for line in text.lines().filter(|line| !line.starts_with('#')) {
+        let parts: Vec<&str> = line.splitn(5, " | ").collect();
+        if parts.len() == 5 && parts[0] == name {
+            return (
+                parts[3].to_string(),
+                parts[2].parse().expect("a count in wrong.txt"),
+                parts[4].to_string(),
+            );
+        }
+    }
+    stop(format!("no line {name} in wrong.txt"))
+}
+
 fn code(text: &str) -> String {
-    text.lines().filter(|line| !line.trim_start().starts_with("//")).collect::<Vec<_>>().join("\n")
+    text.lines()
+        .filter(|line| !line.trim_start().starts_with("//"))
+        .collect::<Vec<_>>()
+        .join("\n")
 }
 
 fn main() {
@@ -45,13 +71,30 @@ fn main() {
     println!("cargo:rerun-if-changed={}", file.display());
     println!("cargo:rerun-if-changed=accessors.rs");
     println!("cargo:rerun-if-changed={}", library.join("libgodf.a").display());
-    let Ok(source) = fs::read_to_string(&file) else {
-        stop(format!("the reference is not at {}: set GODF_REFERENCE to its folder", file.display()))
+    println!("cargo:rerun-if-env-changed=GODF_WRONG");
+    println!("cargo:rerun-if-changed=wrong.txt");
+    let Ok(mut source) = fs::read_to_string(&file) else {
+        stop(format!(
+            "the reference is not at {}: set GODF_REFERENCE to its folder",
+            file.display()
+        ))
     };
     if !library.join("libgodf.a").exists() {
-        stop(format!("no libgodf.a in {}: run `rt staticlib godf` first", library.display()))
+        stop(format!(
+            "no libgodf.a in {}: run `rt staticlib godf` first",
+            library.display()
+        ))
     }
     let accessors = fs::read_to_string(root.join("accessors.rs")).expect("accessors.rs");
+    // a line made wrong on purpose, to see that the comparison notices it
+    if let Ok(name) = env::var("GODF_WRONG") {
+        let (old, times, new) = wrong(&root, &name);
+        let found = code(&source).matches(&old).count();
+        if found != times {
+            stop(format!("{found} times `{old}` in the reference, and not {times}"));
+        }
+        source = source.replace(&old, &new);
+    }
     let mut bound = source.clone();
     for (text, times, new) in BINDINGS {
         let found = code(&source).matches(text).count();
@@ -63,16 +106,22 @@ fn main() {
     for (text, times) in LEFT {
         let found = code(&bound).matches(text).count();
         if found != times {
-            stop(format!("{found} times `{text}` is left in the bound copy, and not {times}"));
+            stop(format!(
+                "{found} times `{text}` is left in the bound copy, and not {times}"
+            ));
         }
     }
     if code(&source).matches(KEEP).count() != 1 {
         stop(format!("not once `{KEEP}` in the reference"));
     }
-    let keeping = source.replace(KEEP, &format!("access::keep(matrix, rhs, tolerance, max_iterations);\n    {KEEP}"));
-    let out = root.join("generated");
-    fs::create_dir_all(&out).expect("generated/");
+    let keeping = source.replace(
+        KEEP,
+        &format!("access::keep(matrix, rhs, tolerance, max_iterations);\n    {KEEP}"),
+    );
+    let out = PathBuf::from(env::var("OUT_DIR").unwrap());
     for (name, text) in [("bound.rs", bound), ("keeping.rs", keeping), ("platform.rs", source)] {
+        // the copies are included in modules, where comments of a whole file cannot stand
+        let text: String = text.lines().map(|line| line.replacen("//!", "//", 1) + "\n").collect();
         fs::write(out.join(name), format!("{text}\n{accessors}")).expect("a generated copy");
     }
     println!("cargo:rustc-link-search=native={}", library.display());

@@ -48,7 +48,10 @@ struct Random(u64);
 
 impl Random {
     fn next(&mut self) -> f64 {
-        self.0 = self.0.wrapping_mul(6364136223846793005).wrapping_add(1442695040888963407);
+        self.0 = self
+            .0
+            .wrapping_mul(6364136223846793005)
+            .wrapping_add(1442695040888963407);
         (self.0 >> 11) as f64 / (1u64 << 53) as f64
     }
 }
@@ -62,7 +65,12 @@ fn main() {
         let (mut from, mut to) = (vec![], vec![]);
         for j in 0..side - 1 {
             for i in 0..side - 1 {
-                let (a, b, c, d) = (j * side + i, j * side + i + 1, (j + 1) * side + i + 1, (j + 1) * side + i);
+                let (a, b, c, d) = (
+                    j * side + i,
+                    j * side + i + 1,
+                    (j + 1) * side + i + 1,
+                    (j + 1) * side + i,
+                );
                 for (u, v) in [(a, b), (b, c), (a, c), (c, d), (a, d)] {
                     let edge = (u.min(v), u.max(v));
                     if seen.insert(edge) {
@@ -73,7 +81,9 @@ fn main() {
             }
         }
         let m = from.len();
-        let off: Vec<[f64; 2]> = (0..m).map(|_| [random.next() - 0.9, 0.4 * random.next() - 0.2]).collect();
+        let off: Vec<[f64; 2]> = (0..m)
+            .map(|_| [random.next() - 0.9, 0.4 * random.next() - 0.2])
+            .collect();
         let mut diagonal = vec![0.001; n];
         for e in 0..m {
             let size = off[e][0].hypot(off[e][1]);
@@ -94,7 +104,17 @@ fn main() {
         }
         let mut work = start.clone();
         let ours = |work: &mut Vec<f64>, tolerance: f64, most: usize| unsafe {
-            layers_conjugate_gradient(work.as_mut_ptr(), work.len(), n, from.as_ptr(), m, to.as_ptr(), m, tolerance, most)
+            layers_conjugate_gradient(
+                work.as_mut_ptr(),
+                work.len(),
+                n,
+                from.as_ptr(),
+                m,
+                to.as_ptr(),
+                m,
+                tolerance,
+                most,
+            )
         };
         let (x, count) = reference::answer(&system, 1e-10, 6000).expect("the reference converges");
         assert!(ours(&mut work, 1e-10, 6000));

@@ -28,7 +28,12 @@ struct System {
 
 /// Document 01's reason and place for an error of the reference.
 fn reason(text: &str) -> (u64, u64) {
-    let place = |t: &str| t.split("vertex ").nth(1).and_then(|s| s.split(' ').next()).and_then(|s| s.parse().ok());
+    let place = |t: &str| {
+        t.split("vertex ")
+            .nth(1)
+            .and_then(|s| s.split(' ').next())
+            .and_then(|s| s.parse().ok())
+    };
     match text {
         t if t.contains("right-hand side has zero norm") => (3, 0),
         t if t.contains("non-positive diagonal") => (4, place(t).expect("a vertex")),
@@ -121,8 +126,10 @@ fn system(r: &mut Random) -> System {
         (n, ends)
     };
     let scale = if r.one_in(3) { r.scale(-150.0, 150.0) } else { 1.0 };
-    let off: Vec<Pair> =
-        ends.iter().map(|_| [scale * r.between(-1.0, 1.0), scale * r.between(-1.0, 1.0)]).collect();
+    let off: Vec<Pair> = ends
+        .iter()
+        .map(|_| [scale * r.between(-1.0, 1.0), scale * r.between(-1.0, 1.0)])
+        .collect();
     let slack = r.pick(&[1e-9, 1e-3, 0.1, 1.0]);
     let mut diagonal = vec![scale * slack; n];
     for (e, &(a, b)) in ends.iter().enumerate() {
@@ -131,7 +138,14 @@ fn system(r: &mut Random) -> System {
         diagonal[b] += size;
     }
     let rhs = (0..n).map(|_| [r.between(-1.0, 1.0), r.between(-1.0, 1.0)]).collect();
-    System { diagonal, ends, off, rhs, tolerance: r.pick(&[1e-6, 1e-10, 1e-13, 0.0]), most: 400 + 8 * n }
+    System {
+        diagonal,
+        ends,
+        off,
+        rhs,
+        tolerance: r.pick(&[1e-6, 1e-10, 1e-13, 0.0]),
+        most: 400 + 8 * n,
+    }
 }
 
 /// The systems of a solve of a small floor, at most three of them.
@@ -165,13 +179,22 @@ fn floor(r: &mut Random) -> Vec<System> {
         boundary,
         adaptive: 0.0,
     };
-    let guidance =
-        Guidance { weight: r.pick(&[0.0, 0.0, 0.5, 4.0]), angle: (0..w * h).map(|_| r.between(-1.0, 1.0)).collect() };
+    let guidance = Guidance {
+        weight: r.pick(&[0.0, 0.0, 0.5, 4.0]),
+        angle: (0..w * h).map(|_| r.between(-1.0, 1.0)).collect(),
+    };
     let _ = keeping::solve_with_guidance_and_options(&points, &tris, &size, &guidance, &options, 10);
     keeping::access::calls()
         .into_iter()
         .take(3)
-        .map(|(diagonal, ends, off, rhs, tolerance, most)| System { diagonal, ends, off, rhs, tolerance, most })
+        .map(|(diagonal, ends, off, rhs, tolerance, most)| System {
+            diagonal,
+            ends,
+            off,
+            rhs,
+            tolerance,
+            most,
+        })
         .collect()
 }
 
@@ -230,5 +253,10 @@ pub fn record(seed: u64, count: usize, folder: &Path) {
             record_one(&mut list, &mut counts, &s, 1);
         }
     }
-    println!("{} rows, {real} systems of floors: {} with an iterate or a norm, and by reason 3 to 9: {:?}", list.rows, counts[0], &counts[3..]);
+    println!(
+        "{} rows, {real} systems of floors: {} with an iterate or a norm, and by reason 3 to 9: {:?}",
+        list.rows,
+        counts[0],
+        &counts[3..]
+    );
 }

@@ -10,14 +10,17 @@ mod scalars;
 mod words;
 
 #[allow(dead_code)]
-#[path = "../generated/bound.rs"]
-mod bound;
+mod bound {
+    include!(concat!(env!("OUT_DIR"), "/bound.rs"));
+}
 #[allow(dead_code)]
-#[path = "../generated/keeping.rs"]
-mod keeping;
+mod keeping {
+    include!(concat!(env!("OUT_DIR"), "/keeping.rs"));
+}
 #[allow(dead_code)]
-#[path = "../generated/platform.rs"]
-mod platform;
+mod platform {
+    include!(concat!(env!("OUT_DIR"), "/platform.rs"));
+}
 
 use std::{env, path::Path, process::exit};
 
@@ -29,8 +32,12 @@ fn usage() -> ! {
 fn main() {
     let args: Vec<String> = env::args().skip(1).collect();
     let words: Vec<&str> = args.iter().map(String::as_str).collect();
-    let ["record", layer, count, seed, folder] = words[..] else { usage() };
-    let (Ok(count), Ok(seed)) = (count.parse(), seed.parse()) else { usage() };
+    let ["record", layer, count, seed, folder] = words[..] else {
+        usage()
+    };
+    let (Ok(count), Ok(seed)) = (count.parse(), seed.parse()) else {
+        usage()
+    };
     let folder = Path::new(folder);
     match layer {
         "scalars" => scalars::record(seed, count, folder),

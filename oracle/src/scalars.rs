@@ -48,7 +48,9 @@ fn integrals(r: &mut Random, count: usize, folder: &Path) {
         let area = number(r);
         let p = [[number(r), number(r)], [number(r), number(r)], [number(r), number(r)]];
         let d = access::dirichlet_diagonal(o, area, p[0], p[1], p[2]);
-        diagonal.row(&words(&[o, area, p[0][0], p[0][1], p[1][0], p[1][1], p[2][0], p[2][1], d]));
+        diagonal.row(&words(&[
+            o, area, p[0][0], p[0][1], p[1][0], p[1][1], p[2][0], p[2][1], d,
+        ]));
     }
 }
 
@@ -115,8 +117,14 @@ fn geometry(r: &mut Random, count: usize, folder: &Path) {
     let mut transport = List::new(folder, "transport", 15);
     for _ in 0..count {
         let p = corners(r);
-        let sigma = [r.scale(-3.0, 3.0), r.scale(-3.0, 3.0), if r.one_in(9) { r.any() } else { 1.0 }];
-        let mut row = words(&[p[0][0], p[0][1], p[1][0], p[1][1], p[2][0], p[2][1], sigma[0], sigma[1], sigma[2]]);
+        let sigma = [
+            r.scale(-3.0, 3.0),
+            r.scale(-3.0, 3.0),
+            if r.one_in(9) { r.any() } else { 1.0 },
+        ];
+        let mut row = words(&[
+            p[0][0], p[0][1], p[1][0], p[1][1], p[2][0], p[2][1], sigma[0], sigma[1], sigma[2],
+        ]);
         match access::triangle_geometry(p) {
             Ok((vertices, q, area)) => {
                 let g = access::triangle_gradient(q, sigma, area);
@@ -132,7 +140,10 @@ fn geometry(r: &mut Random, count: usize, folder: &Path) {
         let size = match r.below(4) {
             0 => [1.0, 1.0],
             1 => [r.scale(-3.0, 3.0), r.scale(-3.0, 3.0)],
-            2 => [r.pick(&[f64::MAX, 1.7e308, 5e-324, 1e-320]), r.pick(&[f64::MAX, 1e307, 5e-324])],
+            2 => [
+                r.pick(&[f64::MAX, 1.7e308, 5e-324, 1e-320]),
+                r.pick(&[f64::MAX, 1e307, 5e-324]),
+            ],
             _ => [r.any(), r.any()],
         };
         let g = [[number(r), number(r)], [number(r), number(r)]];
@@ -178,7 +189,11 @@ fn small_floor(r: &mut Random) -> (Vec<f64>, Vec<u32>) {
     let mut tris = Vec::new();
     for _ in 0..1 + r.below(6) {
         for _ in 0..3 {
-            tris.push(if r.one_in(40) { r.bits() as u32 } else { r.below(n) as u32 });
+            tris.push(if r.one_in(40) {
+                r.bits() as u32
+            } else {
+                r.below(n) as u32
+            });
         }
     }
     (points, tris)
@@ -202,7 +217,10 @@ fn probes(r: &mut Random, count: usize, folder: &Path) {
         }
         let corner = |k: usize, points: &[f64], tris: &[u32]| -> [f64; 2] {
             let v = tris.get(k).map_or(0, |&v| v as usize);
-            [points.get(3 * v).copied().unwrap_or(0.0), points.get(3 * v + 1).copied().unwrap_or(0.0)]
+            [
+                points.get(3 * v).copied().unwrap_or(0.0),
+                points.get(3 * v + 1).copied().unwrap_or(0.0),
+            ]
         };
         let at = match r.below(8) {
             0 => corner(r.below(3), &points, &tris),
@@ -214,9 +232,16 @@ fn probes(r: &mut Random, count: usize, folder: &Path) {
             3 => [r.below(4) as f64, r.below(4) as f64],
             4 => [r.between(-1.0, 2.0), r.between(-1.0, 2.0)],
             _ => {
-                let (a, b, c) = (corner(0, &points, &tris), corner(1, &points, &tris), corner(2, &points, &tris));
+                let (a, b, c) = (
+                    corner(0, &points, &tris),
+                    corner(1, &points, &tris),
+                    corner(2, &points, &tris),
+                );
                 let (u, v) = (r.unit(), r.unit());
-                [a[0] + 0.6 * u * (b[0] - a[0]) + 0.4 * v * (c[0] - a[0]), a[1] + 0.6 * u * (b[1] - a[1]) + 0.4 * v * (c[1] - a[1])]
+                [
+                    a[0] + 0.6 * u * (b[0] - a[0]) + 0.4 * v * (c[0] - a[0]),
+                    a[1] + 0.6 * u * (b[1] - a[1]) + 0.4 * v * (c[1] - a[1]),
+                ]
             }
         };
         // 1 not of whole triples, 2 no angle, 3 angle too large, 4 the angle
@@ -237,7 +262,15 @@ fn probes(r: &mut Random, count: usize, folder: &Path) {
                 }
             }
         };
-        let mut row = vec![alpha.len() as u64, points.len() as u64, tris.len() as u64, word(at[0]), word(at[1]), kind, word(angle)];
+        let mut row = vec![
+            alpha.len() as u64,
+            points.len() as u64,
+            tris.len() as u64,
+            word(at[0]),
+            word(at[1]),
+            kind,
+            word(angle),
+        ];
         row.extend(words(&alpha));
         row.resize(15, 0);
         row.extend(words(&points));

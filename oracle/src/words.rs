@@ -12,12 +12,21 @@ impl List {
     pub fn new(folder: &Path, name: &str, width: usize) -> Self {
         let path = folder.join(name);
         let file = File::create(&path).unwrap_or_else(|e| panic!("{}: {e}", path.display()));
-        Self { file: BufWriter::new(file), width, rows: 0 }
+        Self {
+            file: BufWriter::new(file),
+            width,
+            rows: 0,
+        }
     }
 
     /// One row; what it lacks of the list's width is filled by zeros. Any NaN is recorded by one pattern.
     pub fn row(&mut self, words: &[u64]) {
-        assert!(words.len() <= self.width, "a row of {} words, over {}", words.len(), self.width);
+        assert!(
+            words.len() <= self.width,
+            "a row of {} words, over {}",
+            words.len(),
+            self.width
+        );
         let mut line = String::with_capacity(17 * self.width);
         for k in 0..self.width {
             line.push_str(&format!("{:016x}", words.get(k).copied().unwrap_or(0)));

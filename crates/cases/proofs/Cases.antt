@@ -18,23 +18,23 @@ use Rattle.singularities.specs.Charge.{winding, turns, charge}
 use Rattle.root.specs.Root.{rootIn, rootBits, rootOf}
 
 -- n / 1024 radian
-abbrev part : ℕ → Float
+abbrev pub part : ℕ → Float
 part n = ofInt binary64 (pos n) ⊘ ofInt binary64 (pos 1024)
 
-abbrev whole : ℕ → Float
+abbrev pub whole : ℕ → Float
 whole n = ofInt binary64 (pos n)
 
 -- the square of the listing: its points, angles, sizes and triangles
-square : List Float
+unfoldable pub square : List Float
 square = whole 0 ∷ whole 0 ∷ lit 0 ∷ whole 2 ∷ whole 0 ∷ lit 0 ∷ whole 2 ∷ whole 2 ∷ lit 0 ∷ whole 0 ∷ whole 2 ∷ lit 0 ∷ []
 
-angles : List Float
+unfoldable pub angles : List Float
 angles = part 0 ∷ part 384 ∷ part 0 ∷ part 0 ∷ []
 
-ones : List Float
+unfoldable pub ones : List Float
 ones = whole 1 ∷ whole 1 ∷ whole 1 ∷ whole 1 ∷ []
 
-two : List Tri
+unfoldable pub two : List Tri
 two = tri 0 1 2 ∷ tri 0 2 3 ∷ []
 
 -- ---- (1) the listing
