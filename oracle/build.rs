@@ -1,7 +1,8 @@
 //! Makes three copies of the reference in the build's own folder, which is never committed: `bound.rs`, whose sine, cosine and arctangent
 //! are libgodf.a's, `platform.rs`, which keeps the platform's, and `keeping.rs`, which also keeps the systems that it solves.
 //! All get the text of accessors.rs at their end, so that private functions can be called. Any text that is not found exactly as
-//! often as expected stops the build. GODF_WRONG names a line of wrong.txt that is made wrong in all of them.
+//! often as expected stops the build. GODF_WRONG names a line of wrong.txt that is made wrong in all of them; with GODF_PLATFORM
+//! set, the copy `bound.rs` keeps the platform's functions too.
 
 use std::{env, fs, path::PathBuf, process::exit};
 
@@ -72,6 +73,7 @@ fn main() {
     println!("cargo:rerun-if-changed=accessors.rs");
     println!("cargo:rerun-if-changed={}", library.join("libgodf.a").display());
     println!("cargo:rerun-if-env-changed=GODF_WRONG");
+    println!("cargo:rerun-if-env-changed=GODF_PLATFORM");
     println!("cargo:rerun-if-changed=wrong.txt");
     let Ok(mut source) = fs::read_to_string(&file) else {
         stop(format!(
@@ -101,9 +103,14 @@ fn main() {
         if found != times {
             stop(format!("{found} times `{text}` in the reference, and not {times}"));
         }
-        bound = bound.replace(text, new);
+        if env::var("GODF_PLATFORM").is_err() {
+            bound = bound.replace(text, new);
+        }
     }
     for (text, times) in LEFT {
+        if env::var("GODF_PLATFORM").is_ok() {
+            break;
+        }
         let found = code(&bound).matches(text).count();
         if found != times {
             stop(format!(

@@ -239,6 +239,14 @@ pub fn record(seed: u64, count: usize, folder: &Path) {
             }
             // a step that overflows or vanishes
             12 => s.tolerance = r.pick(&[f64::NAN, f64::INFINITY, 1.0, 1e-300, -1.0]),
+            // a step that overflows beside entries of the product that are zero: a NaN residual, whose norm counts as 0
+            13 => {
+                let small = r.scale(-161.0, -155.0);
+                s.diagonal = vec![1.0; 3];
+                s.ends = vec![(0, 1)];
+                s.off = vec![[-1.0, 0.0]];
+                s.rhs = vec![[1.0, 0.0], [1.0, 0.0], [small, 0.0]];
+            }
             _ => {}
         }
         record_one(&mut list, &mut counts, &s, 0);

@@ -3,6 +3,7 @@
 //!
 //!     oracle record LAYER COUNT SEED FOLDER     layers: scalars, linear
 
+#[allow(dead_code)]
 mod leaves;
 mod linear;
 mod random;
