@@ -1,6 +1,11 @@
 //! The Rust's refine_once against godf_refine: random floors, every number compared by its bits, untouched ends included; then the time of 32,768 triangles.
 //! `compare SEED COUNT`. Built by compare/refinement, which puts a copy of the reference beside it.
 #![allow(dead_code, unused)]
+#[path = "../src/random.rs"]
+mod random;
+
+use random::Random;
+
 mod reference {
     include!(concat!(env!("OUT"), "/reference.rs"));
     pub fn once(
@@ -38,23 +43,6 @@ extern "C" {
     ) -> u64;
 }
 
-struct Random(u64);
-impl Random {
-    fn next(&mut self) -> u64 {
-        self.0 = self.0.wrapping_add(0x9e37_79b9_7f4a_7c15);
-        let mut z = self.0;
-        z = (z ^ (z >> 30)).wrapping_mul(0xbf58_476d_1ce4_e5b9);
-        z = (z ^ (z >> 27)).wrapping_mul(0x94d0_49bb_1331_11eb);
-        z ^ (z >> 31)
-    }
-    fn below(&mut self, n: u64) -> u64 {
-        self.next() % n
-    }
-    fn unit(&mut self) -> f64 {
-        (self.next() >> 11) as f64 / 9007199254740992.0
-    }
-}
-
 fn same(a: f64, b: f64) -> bool {
     a.to_bits() == b.to_bits() || (a.is_nan() && b.is_nan())
 }
@@ -68,20 +56,24 @@ struct Call {
     oe: Vec<u32>,
 }
 
-fn call(p: &[[f64; 3]], t: &[u32], s: &[f64], a: &[f64], th: f64, spare: usize) -> Call {
-    let (n, k) = (p.len(), t.len() / 3);
-    let mut c = Call {
+/// Result slices with marks in them, `spare` numbers longer than is asked for.
+fn lent(n: usize, k: usize, spare: usize) -> Call {
+    Call {
         code: 0,
         report: [777; 5],
         op: vec![-7.5; 3 * (n + 3 * k) + spare],
         os: vec![-7.5; n + 3 * k + spare],
         ot: vec![777; 12 * k + spare],
         oe: vec![777; 8 * k + spare],
-    };
+    }
+}
+
+fn refine(c: &mut Call, p: &[[f64; 3]], t: &[u32], s: &[f64], a: &[f64], th: f64) {
+    // SAFETY: each pointer goes with the length of its own slice
     c.code = unsafe {
         godf_refine(
             p.as_ptr() as *const f64,
-            3 * n,
+            3 * p.len(),
             t.as_ptr(),
             t.len(),
             s.as_ptr(),
@@ -101,16 +93,15 @@ fn call(p: &[[f64; 3]], t: &[u32], s: &[f64], a: &[f64], th: f64, spare: usize) 
             5,
         )
     };
-    c
 }
 
 fn main() {
     let args: Vec<u64> = std::env::args().skip(1).map(|x| x.parse().unwrap()).collect();
-    let mut r = Random(args[0]);
+    let mut r = Random::new(args[0]);
     let (mut differences, mut flagged, mut patterns) = (0usize, 0usize, [0usize; 5]);
     for case in 0..args[1] {
-        let n = 1 + r.below(if case % 10 == 0 { 200 } else { 12 }) as usize;
-        let k = 1 + r.below(if case % 10 == 0 { 300 } else { 10 }) as usize;
+        let n = 1 + r.below(if case % 10 == 0 { 200 } else { 12 });
+        let k = 1 + r.below(if case % 10 == 0 { 300 } else { 10 });
         let huge = r.below(20) == 0;
         let scale = if huge { 1.7e308 } else { 10.0 };
         let p: Vec<[f64; 3]> = (0..n)
@@ -131,12 +122,12 @@ fn main() {
                 2 => f64::NEG_INFINITY,
                 3 => 1.7e308,
                 4 => -1.7e308,
-                5..=10 => steps[r.below(6) as usize],
+                5..=10 => steps[r.below(6)],
                 _ => r.unit() * 3.0 - 1.0,
             })
             .collect();
-        let th = [0.0, 0.25, 0.375, 0.5, 0.7853981633974483, r.unit()][r.below(6) as usize];
-        let mut t: Vec<u32> = (0..3 * k).map(|_| r.below(n as u64) as u32).collect();
+        let th = [0.0, 0.25, 0.375, 0.5, 0.7853981633974483, r.unit()][r.below(6)];
+        let mut t: Vec<u32> = (0..3 * k).map(|_| r.below(n) as u32).collect();
         if k > 1 && r.below(3) == 0 {
             for j in 0..3 {
                 t[j] = t[3 * (k - 1) + j];
@@ -147,8 +138,9 @@ fn main() {
             .map(|c| [c[0] as usize, c[1] as usize, c[2] as usize])
             .collect();
         let (rp, rt, rs, rf, re) = reference::once(&p, &tr, &s, &a, th);
-        let spare = r.below(4) as usize;
-        let c = call(&p, &t, &s, &a, th, spare);
+        let spare = r.below(4);
+        let mut c = lent(n, k, spare);
+        refine(&mut c, &p, &t, &s, &a, th);
         flagged += rf;
         for q in &tr {
             let cut = |u: usize, v: usize| re.contains(&(u.min(v), u.max(v))) as usize;
@@ -211,31 +203,10 @@ fn main() {
         let now = std::time::Instant::now();
         let x = reference::once(&p, &tr, &s, &a, 0.0);
         other = other.min(now.elapsed().as_secs_f64());
-        let mut c = call(&p, &t, &s, &a, 0.0, 0);
+        // slices that the caller has touched before, as in a second match
+        let mut c = lent(p.len(), tr.len(), 0);
         let now = std::time::Instant::now();
-        c.code = unsafe {
-            godf_refine(
-                p.as_ptr() as *const f64,
-                3 * p.len(),
-                t.as_ptr(),
-                t.len(),
-                s.as_ptr(),
-                s.len(),
-                a.as_ptr(),
-                a.len(),
-                0.0,
-                c.op.as_mut_ptr(),
-                c.op.len(),
-                c.os.as_mut_ptr(),
-                c.os.len(),
-                c.ot.as_mut_ptr(),
-                c.ot.len(),
-                c.oe.as_mut_ptr(),
-                c.oe.len(),
-                c.report.as_mut_ptr(),
-                5,
-            )
-        };
+        refine(&mut c, &p, &t, &s, &a, 0.0);
         best = best.min(now.elapsed().as_secs_f64());
         count = (x.3, c.report[2] as usize);
     }
