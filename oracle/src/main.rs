@@ -5,6 +5,7 @@
 
 mod leaves;
 mod random;
+mod refinement;
 mod scalars;
 mod words;
 
@@ -30,6 +31,7 @@ fn main() {
     let folder = Path::new(folder);
     match layer {
         "scalars" => scalars::record(seed, count, folder),
+        "refinement" => refinement::record(seed, count, folder),
         _ => usage(),
     }
 }
