@@ -1,12 +1,13 @@
 //! The reference as judge: records its answers, over the proved sine, cosine and arctangent, as lists that the
 //! programs of crates/ replay.
 //!
-//!     oracle record LAYER COUNT SEED FOLDER     layers: scalars, linear
+//!     oracle record LAYER COUNT SEED FOLDER     layers: scalars, refinement, linear
 
 #[allow(dead_code)]
 mod leaves;
 mod linear;
 mod random;
+mod refinement;
 mod scalars;
 mod words;
 
@@ -43,6 +44,7 @@ fn main() {
     match layer {
         "scalars" => scalars::record(seed, count, folder),
         "linear" => linear::record(seed, count, folder),
+        "refinement" => refinement::record(seed, count, folder),
         _ => usage(),
     }
 }

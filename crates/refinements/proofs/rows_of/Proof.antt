@@ -1,0 +1,46 @@
+-- `refinements::rows_of` is safe and ends: what is left to do falls at each turn.
+use Prim.Native.Nat.{_-_}
+use borrow.Author.Needs.{needs}
+use Rattle.refinements.proofs.rows_of.Statement.{statement}
+use Rattle.refinements.proofs.rows_of.Tie as tie
+
+abbrev Inv-loop : tie.InvT-loop
+Inv-loop text list words step seen₀ at₀ seen at = Unit {0}
+
+abbrev μ-loop : tie.MeasureT-loop
+μ-loop text list words step seen₀ at₀ seen at = words - at
+
+width-requires : tie.Need-width-requires Inv-loop μ-loop
+width-requires c κs = search needs
+
+loop-holds : tie.Need-loop-holds Inv-loop μ-loop
+loop-holds c = search needs
+
+row-requires : tie.Need-row-requires Inv-loop μ-loop
+row-requires c κs = search needs
+
+add-at : tie.Need-add-at Inv-loop μ-loop
+add-at c = search needs
+
+loop-less : tie.Need-loop-less Inv-loop μ-loop
+loop-less c = search needs
+
+loop-again : tie.Need-loop-again Inv-loop μ-loop
+loop-again c = search needs
+
+returns : tie.Need-returns Inv-loop μ-loop
+returns c = search needs
+
+pub rows-of-spec : {M : Type 1} → statement M
+rows-of-spec =
+    tie.close
+    (tie.spec
+    Inv-loop
+    μ-loop
+    width-requires
+    loop-holds
+    row-requires
+    add-at
+    loop-less
+    loop-again
+    returns)
