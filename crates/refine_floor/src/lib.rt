@@ -1,5 +1,5 @@
-// Refinement as a call of its own, with the angles given: document 01's refusals, and refine_once's floor in four lent slices.
-// specs/Call.antt says what it answers and writes; specs/Claim.antt is what holds of every floor that it refines.
+// The slices of a refined floor: its triangles, the ends of its cut sides, its points and sizes, each as a run of stores into a lent slice.
+// The refinement call (crate refine_call) puts them together.
 ghost use mathlib.Core.Path.{_≡_};
 ghost use mathlib.Core.Bool.{Bool, not};
 ghost use mathlib.Core.List.{List, [], _∷_};
