@@ -4,7 +4,7 @@
 use crate::bound::{self, access};
 use crate::random::Random;
 use crate::words::{word, words, List};
-use std::f64::consts::{FRAC_PI_2, FRAC_PI_4, PI};
+use std::f64::consts::{FRAC_PI_2, FRAC_PI_4, PI, TAU};
 use std::path::Path;
 
 /// Holonomies: around the switch at 0.1, small, of any size, and any pattern.
@@ -294,6 +294,18 @@ fn singularities(r: &mut Random, count: usize, folder: &Path) {
                 _ => r.between(0.0, FRAC_PI_2),
             })
             .collect();
+        // differences that are exact multiples of TAU, so large that adding PI is absorbed: each turn wraps to PI itself, and
+        // the charge is 2. Some corners are a unit off
+        let mut alpha = alpha;
+        if r.one_in(6) {
+            let unit = TAU * (1u64 << (52 + r.below(3))) as f64 * r.sign();
+            for a in &mut alpha {
+                *a = r.below(4) as f64 * unit;
+                if r.one_in(8) {
+                    *a = r.near(*a, 1);
+                }
+            }
+        }
         if r.one_in(20) {
             tris.truncate(tris.len() - 1 - r.below(2));
         }
