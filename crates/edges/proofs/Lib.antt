@@ -1,3 +1,5 @@
 pub mod Bucket
 pub mod Chain
+pub mod Counts
+pub mod Numbering
 pub mod Stored

@@ -136,7 +136,7 @@ pub met-key′ : {o N : ℕ} {w w′ : List ℕ} {m m′ k : ℕ} (u v : ℕ) �
 met-key′ u v h t = rw (⊎-elim (λ p. absurd (omega (arith, p .1))) (λ p. p .0) (key-either u v)) t
 
 -- a number stays as more sides are met
-met-keeps : (l : List Side) (s t : Side) (k : ℕ) → place s l ≡ some k → place s (met l t) ≡ some k
+pub met-keeps : (l : List Side) (s t : Side) (k : ℕ) → place s l ≡ some k → place s (met l t) ≡ some k
 met-keeps l s t k h = go (find t l)
   where
     go : Found t l → place s (met l t) ≡ some k
@@ -202,11 +202,15 @@ pub zeros-more : (l : List ℕ) (i k : ℕ) → set (sets l i (replicate k 0)) (
 zeros-more l i zero = let e : i + 0 ≡ i = omega arith in ap (λ (j : ℕ). set l j 0) e
 zeros-more l i (suc k) = let e : i + suc k ≡ suc i + k = omega arith in ap (λ (j : ℕ). set (sets (set l i 0) (suc i) (replicate k 0)) j 0) e ∙ zeros-more (set l i 0) (suc i) k
 
-zeros-before : (l : List ℕ) (i k j : ℕ) → j < i → getD (sets l i (replicate k 0)) j 0 ≡ getD l j 0
+pub zeros-before : (l : List ℕ) (i k j : ℕ) → j < i → getD (sets l i (replicate k 0)) j 0 ≡ getD l j 0
 zeros-before l i zero j h = refl
 zeros-before l i (suc k) j h = zeros-before (set l i 0) (suc i) k j (omega arith) ∙ getD-set-other l i j 0 0 (omega arith)
 
-zeros-at : (l : List ℕ) (i k j : ℕ) → i + k ≤ length l → j < k → getD (sets l i (replicate k 0)) (i + j) 0 ≡ 0
+pub zeros-behind : (l : List ℕ) (i k j : ℕ) → i + k ≤ j → getD (sets l i (replicate k 0)) j 0 ≡ getD l j 0
+zeros-behind l i zero j h = refl
+zeros-behind l i (suc k) j h = zeros-behind (set l i 0) (suc i) k j (omega arith) ∙ getD-set-other l i j 0 0 (omega arith)
+
+pub zeros-at : (l : List ℕ) (i k j : ℕ) → i + k ≤ length l → j < k → getD (sets l i (replicate k 0)) (i + j) 0 ≡ 0
 zeros-at l i zero j r h = absurd (omega arith)
 zeros-at l i (suc k) zero r h =
     let e : i + 0 ≡ i = omega arith in

@@ -2,6 +2,8 @@
 // The table stands in one slice w from `base` on: n buckets, then three numbers for each of its m sides (specs/Table.antt).
 // A search looks at the sides of one bucket only, a constant number in the mean if there are as many buckets as sides; that it finds the right
 // place is proved for any function that puts sides into buckets.
+pub mod numbers;
+
 ghost use mathlib.Core.Path.{_≡_};
 ghost use mathlib.Core.Bool.{_&&_};
 ghost use mathlib.Core.List.{List};
@@ -27,18 +29,12 @@ pub struct Meetings {
     pub ca: usize,
 }
 
-fn wide(x: u32) -> usize
-    ensures { λ r. ⌜ r ≡ x ⌝ }
-{
-    x as usize
-}
-
 // The bucket of a side.
 fn slot(n: usize, a: u32, b: u32) -> usize
     requires { ⌜ (0 < n) × (n ≤ 2 ^ 32) ⌝ }
     ensures { λ r. ⌜ (r ≡ slotOf n a b) × (r < n) ⌝ }
 {
-    (wide(a) * 1640531527 + wide(b) * 1172981867) % 0x1_0000_0000 * n / 0x1_0000_0000
+    (mesh::index(a) * 1640531527 + mesh::index(b) * 1172981867) % 0x1_0000_0000 * n / 0x1_0000_0000
 }
 
 fn same_side(a: u32, b: u32, c: u32, d: u32) -> bool
@@ -47,10 +43,9 @@ fn same_side(a: u32, b: u32, c: u32, d: u32) -> bool
     a == c && b == d
 }
 
-// A table of n buckets with no sides.
-pub fn clear(w: &mut [u32], base: usize, n: usize)
-    requires { ⌜ ((0 < n) × (n ≤ 2 ^ 32)) × (base + n ≤ length (now w)) ⌝ }
-    ensures { λ _. ⌜ (now (w .exit) ≡ sets (now (w .entry)) base (replicate n 0)) × Held base n (now (w .exit)) 0 ⌝ }
+pub fn zeros(w: &mut [u32], base: usize, n: usize)
+    requires { ⌜ base + n ≤ length (now w) ⌝ }
+    ensures { λ _. ⌜ now (w .exit) ≡ sets (now (w .entry)) base (replicate n 0) ⌝ }
 {
     let mut i = 0;
     while i < n {
@@ -59,19 +54,27 @@ pub fn clear(w: &mut [u32], base: usize, n: usize)
     }
 }
 
+// A table of n buckets with no sides.
+pub fn clear(w: &mut [u32], base: usize, n: usize)
+    requires { ⌜ ((0 < n) × (n ≤ 2 ^ 32)) × (base + n ≤ length (now w)) ⌝ }
+    ensures { λ _. ⌜ (now (w .exit) ≡ sets (now (w .entry)) base (replicate n 0)) × Held base n (now (w .exit)) 0 ⌝ }
+{
+    zeros(w, base, n);
+}
+
 // One more than the number of the side a b among the first m, or 0.
 fn find(w: &[u32], base: usize, n: usize, m: usize, a: u32, b: u32) -> usize
     requires { ⌜ Held base n (now w) m ⌝ }
     ensures { λ r. ⌜ r ≡ seek (loOf base n (now (w .entry))) (hiOf base n (now (w .entry))) a b m ⌝ }
 {
     let h = base + slot(n, a, b);
-    let mut at = wide(w[h]);
+    let mut at = mesh::index(w[h]);
     while at != 0 {
         let k = base + n + 3 * (at - 1);
         if same_side(w[k], w[k + 1], a, b) {
             return at;
         }
-        at = wide(w[k + 2]);
+        at = mesh::index(w[k + 2]);
     }
     0
 }

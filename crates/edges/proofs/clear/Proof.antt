@@ -1,62 +1,21 @@
--- `edges::clear` meets its contract: the loop keeps what `Inv-loop` says, and what is left to do falls at each turn; the laws are in proofs/Stored.
+-- `edges::clear` meets its contract: each return follows from the tests and the calls on its way; the laws are in proofs/Stored.
 use borrow.Author.Needs.{needs}
-use Prim.Native.Nat.{ℕ, _+_, _-_, _≤_}
-use mathlib.Core.List.{List}
+use Prim.Native.Nat.{ℕ}
+use Rattle.edges.proofs.Stored.{empty-held}
 use Rattle.edges.specs.Table.{Held}
-use mathlib.Core.Path.{_≡_, refl, sym, ap, _∙_, subst}
-use native.Mathlib.Omega.{arith}
-use native.Mathlib.Numerals.{add-one}
-use lib.ListN.{length, replicate, set}
-use lib.Seq.{sets, length-sets}
-use Rattle.edges.proofs.Stored.{zeros-more, empty-held}
+use mathlib.Core.List.{List}
+use mathlib.Core.Path.{sym, subst}
 use Rattle.edges.proofs.clear.Statement.{statement}
 use Rattle.edges.proofs.clear.Tie as tie
 
-abbrev Inv-loop : tie.InvT-loop
-Inv-loop w₀ base n i₀ w i = (i ≤ n) × (w ≡ sets w₀ base (replicate i 0))
+zeros-requires : tie.Need-zeros-requires
+zeros-requires c κs = search needs
 
-abbrev μ-loop : tie.MeasureT-loop
-μ-loop w₀ base n i₀ w i = n - i
+same-length : tie.Need-same-length
+same-length c = search needs
 
-loop-holds : tie.Need-loop-holds Inv-loop μ-loop
-loop-holds c = (omega arith, refl)
-
-add-w : tie.Need-add-w Inv-loop μ-loop
-add-w c = search needs
-
-mul-w : tie.Need-mul-w Inv-loop μ-loop
-mul-w c = search needs
-
-slice-write-w : tie.Need-slice-write-w Inv-loop μ-loop
-slice-write-w c = omega (arith, ap length (c .before .loop .inv .1) ∙ length-sets (c .before .before .args .w .now) (c .before .before .args .base) (replicate (c .before .loop .i) 0))
-
-add-i : tie.Need-add-i Inv-loop μ-loop
-add-i c = search needs
-
-loop-less : tie.Need-loop-less Inv-loop μ-loop
-loop-less c = search needs
-
-loop-again : tie.Need-loop-again Inv-loop μ-loop
-loop-again c = (omega arith, rw (c .before .loop .inv .1, add-one) (zeros-more (c .before .before .args .w .now) (c .before .before .args .base) (c .before .loop .i)))
-
-same-length : tie.Need-same-length Inv-loop μ-loop
-same-length c = ap length (c .before .loop .inv .1) ∙ length-sets (c .before .before .args .w .now) (c .before .before .args .base) (replicate (c .before .loop .i) 0)
-
-returns : tie.Need-returns Inv-loop μ-loop
-returns c = let e : c .before .loop .i ≡ c .before .before .args .n = omega arith in let z = c .before .loop .inv .1 ∙ ap (λ (k : ℕ). sets (c .before .before .args .w .now) (c .before .before .args .base) (replicate k 0)) e in (z, subst (λ (l : List ℕ). Held (c .before .before .args .base) (c .before .before .args .n) l 0) (sym z) (empty-held _ _ _ (c .before .before .pre .0) (c .before .before .pre .1)))
+returns : tie.Need-returns
+returns c = (c .before .before .zeros .ensures, subst (λ (l : List ℕ). Held (c .before .before .before .before .before .args .base) (c .before .before .before .before .before .args .n) l 0) (sym (c .before .before .zeros .ensures)) (empty-held _ _ _ (c .before .before .before .before .before .pre .0) (c .before .before .before .before .before .pre .1)))
 
 pub clear-spec : {M : Type 1} → statement M
-clear-spec =
-    tie.close
-    (tie.spec
-    Inv-loop
-    μ-loop
-    loop-holds
-    add-w
-    mul-w
-    slice-write-w
-    add-i
-    loop-less
-    loop-again
-    same-length
-    returns)
+clear-spec = tie.close (tie.spec zeros-requires same-length returns)

@@ -1,7 +1,6 @@
 -- `edges::find` meets its contract: the loop keeps what `Inv-loop` says, and what is left to do falls at each turn; the laws are in proofs/Chain.
 use borrow.Author.Needs.{needs}
-use mathlib.Core.Path.{_≡_, sym, _∙_}
-use native.Mathlib.Omega.{arith}
+use mathlib.Core.Path.{sym, _∙_}
 use Rattle.edges.specs.Table.{Held, loOf, hiOf}
 use Rattle.edges.proofs.Chain.{Chase, chase-start, chase-step, chase-found, chase-none}
 use Rattle.edges.proofs.find.Statement.{statement}
@@ -19,17 +18,17 @@ slot-requires c κs = search needs
 add-h : tie.Need-add-h Inv-loop μ-loop
 add-h c = search needs
 
-mul-wide : tie.Need-mul-wide Inv-loop μ-loop
-mul-wide c = search needs
+mul-index : tie.Need-mul-index Inv-loop μ-loop
+mul-index c = search needs
 
-shared-slice-read-wide : tie.Need-shared-slice-read-wide Inv-loop μ-loop
-shared-slice-read-wide c = search needs
+shared-slice-read-index : tie.Need-shared-slice-read-index Inv-loop μ-loop
+shared-slice-read-index c = search needs
 
-wide-requires : tie.Need-wide-requires Inv-loop μ-loop
-wide-requires c κs = search needs
+index-requires : tie.Need-index-requires Inv-loop μ-loop
+index-requires c κs = search needs
 
 loop-holds : tie.Need-loop-holds Inv-loop μ-loop
-loop-holds c = (c .before .before .before .before .pre, chase-start (c .before .before .before .before .pre .table) (c .before .before .slot .ensures) (c .wide .ensures))
+loop-holds c = (c .before .before .before .before .pre, chase-start (c .before .before .before .before .pre .table) (c .before .before .slot .ensures) (c .index .ensures))
 
 add-k : tie.Need-add-k Inv-loop μ-loop
 add-k c = search needs
@@ -64,23 +63,23 @@ same-side-requires c κs = search needs
 returns : tie.Need-returns Inv-loop μ-loop
 returns c = chase-found (c .before .before .before .before .before .loop .inv .1) (c .before .before .before .before .loop-test .taken) (sym (c .before .same-side .ensures) ∙ c .if1 .taken)
 
-add-wide : tie.Need-add-wide Inv-loop μ-loop
-add-wide c = search needs
+add-index : tie.Need-add-index Inv-loop μ-loop
+add-index c = search needs
 
-mul-wide-2 : tie.Need-mul-wide-2 Inv-loop μ-loop
-mul-wide-2 c = search needs
+mul-index-2 : tie.Need-mul-index-2 Inv-loop μ-loop
+mul-index-2 c = search needs
 
-shared-slice-read-wide-2 : tie.Need-shared-slice-read-wide-2 Inv-loop μ-loop
-shared-slice-read-wide-2 c = search needs
+shared-slice-read-index-2 : tie.Need-shared-slice-read-index-2 Inv-loop μ-loop
+shared-slice-read-index-2 c = search needs
 
-wide-requires-2 : tie.Need-wide-requires-2 Inv-loop μ-loop
-wide-requires-2 c κs = search needs
+index-requires-2 : tie.Need-index-requires-2 Inv-loop μ-loop
+index-requires-2 c κs = search needs
 
 loop-less : tie.Need-loop-less Inv-loop μ-loop
-loop-less c = let i = c .before .before .before .before .before .before .before .loop .inv in chase-step (i .1) (c .before .before .before .before .before .before .loop-test .taken) (i .0 .table) (sym (c .before .before .before .same-side .ensures) ∙ c .before .before .if1 .left) (c .wide2 .ensures) .1
+loop-less c = let i = c .before .before .before .before .before .before .before .loop .inv in chase-step (i .1) (c .before .before .before .before .before .before .loop-test .taken) (i .0 .table) (sym (c .before .before .before .same-side .ensures) ∙ c .before .before .if1 .left) (c .index2 .ensures) .1
 
 loop-again : tie.Need-loop-again Inv-loop μ-loop
-loop-again c = let i = c .before .before .before .before .before .before .before .loop .inv in (i .0, chase-step (i .1) (c .before .before .before .before .before .before .loop-test .taken) (i .0 .table) (sym (c .before .before .before .same-side .ensures) ∙ c .before .before .if1 .left) (c .wide2 .ensures) .0)
+loop-again c = let i = c .before .before .before .before .before .before .before .loop .inv in (i .0, chase-step (i .1) (c .before .before .before .before .before .before .loop-test .taken) (i .0 .table) (sym (c .before .before .before .same-side .ensures) ∙ c .before .before .if1 .left) (c .index2 .ensures) .0)
 
 returns-2 : tie.Need-returns-2 Inv-loop μ-loop
 returns-2 c = chase-none (c .before .loop .inv .1) (c .loop-test .left)
@@ -93,9 +92,9 @@ find-spec =
     μ-loop
     slot-requires
     add-h
-    mul-wide
-    shared-slice-read-wide
-    wide-requires
+    mul-index
+    shared-slice-read-index
+    index-requires
     loop-holds
     add-k
     sub-k
@@ -108,10 +107,10 @@ find-spec =
     shared-slice-read-same-side-2
     same-side-requires
     returns
-    add-wide
-    mul-wide-2
-    shared-slice-read-wide-2
-    wide-requires-2
+    add-index
+    mul-index-2
+    shared-slice-read-index-2
+    index-requires-2
     loop-less
     loop-again
     returns-2)
