@@ -1,6 +1,6 @@
 -- The points and the sizes of a refined floor: the old ones, then each cut side's midpoint, in refine_once's operation order. Definitions only.
 use Prim.Native.Nat.{ℕ, _+_, _*_, _<_}
-use mathlib.Core.List.{List, [], _∷_, _++_}
+use mathlib.Core.List.{List, [], _∷_, _++_, map}
 use lib.ListN.{getD}
 use lib.Dec.{T}
 use lib.Ieee.{Float, nan}
@@ -38,8 +38,7 @@ abbrev pub midSize : List Float → Side → Float
 midSize sizes (side u v) = halfway (getD sizes u nan) (getD sizes v nan)
 
 unfoldable pub midSizes : List Float → List Side → List Float
-midSizes sizes [] = []
-midSizes sizes (s ∷ l) = midSize sizes s ∷ midSizes sizes l
+midSizes sizes l = map (midSize sizes) l
 
 unfoldable pub moreSizes : List Float → List Side → List Float
 moreSizes sizes l = sizes ++ midSizes sizes l

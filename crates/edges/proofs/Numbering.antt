@@ -11,14 +11,14 @@ use mathlib.Core.List.{List, [], _∷_, _++_}
 use mathlib.Core.Option.{Option, none, some}
 use borrow.Author.Tests.{eq-eqb, ne-eqb}
 use lib.Dec.{eqb}
-use lib.ListN.{length, getD, set, length-set, replicate}
+use lib.ListN.{length, getD, set, length-set, replicate, length-replicate}
 use lib.Seq.{getD-set-same, getD-set-other, sets, length-sets}
 use Rattle.mesh.specs.Mesh.{Side, side, key, Tri, tri, place, met, metAll, sides, sidesAfter, one}
 use Rattle.mesh.proofs.Theorem.{place-below}
 use Rattle.edges.specs.Table.{Table, slotOf, last, pairs, headOf, loOf, hiOf, linkOf, sidesIn, Held, Outside, MetTri, NumbersOf}
 use Rattle.edges.specs.Numbering.{triFrom, trisFrom, Plan, NumberStep, NumberedTo, occurs, Below, Counted}
 use Rattle.edges.proofs.Chain.{length-pairs}
-use Rattle.edges.proofs.Stored.{met-keeps, zeros-before, zeros-behind, zeros-at}
+use Rattle.edges.proofs.Stored.{met-keeps, sets-before, sets-behind, zeros-at}
 
 -- ---- a table in another slice with the same cells
 
@@ -60,18 +60,11 @@ module _ (o N : ℕ) (w w′ : List ℕ) (m : ℕ) (same : (j : ℕ) → o ≤ j
 -- ---- three numbers in a row
 
 module _ (l : List ℕ) (i p q r : ℕ) where
-  three : List ℕ
-  three = sets l i (p ∷ q ∷ r ∷ [])
-
   pub three-length : length (sets l i (p ∷ q ∷ r ∷ [])) ≡ length l
   three-length = length-sets l i (p ∷ q ∷ r ∷ [])
 
   pub three-else : (j : ℕ) → (j < i) ⊎ (i + 3 ≤ j) → getD (sets l i (p ∷ q ∷ r ∷ [])) j 0 ≡ getD l j 0
-  three-else j h =
-      let n₀ : j ≢ i = ⊎-elim (λ b. omega arith) (λ b. omega arith) h in
-      let n₁ : j ≢ suc i = ⊎-elim (λ b. omega arith) (λ b. omega arith) h in
-      let n₂ : j ≢ suc (suc i) = ⊎-elim (λ b. omega arith) (λ b. omega arith) h in
-      getD-set-other (set (set l i p) (suc i) q) (suc (suc i)) j r 0 n₂ ∙ getD-set-other (set l i p) (suc i) j q 0 n₁ ∙ getD-set-other l i j p 0 n₀
+  three-else j h = ⊎-elim (λ b. sets-before l i (p ∷ q ∷ r ∷ []) j 0 b) (λ b. sets-behind l i (p ∷ q ∷ r ∷ []) j 0 b) h
 
   pub three-first : i + 3 ≤ length l → getD (sets l i (p ∷ q ∷ r ∷ [])) i 0 ≡ p
   three-first h = getD-set-other (set (set l i p) (suc i) q) (suc (suc i)) i r 0 (omega arith) ∙ getD-set-other (set l i p) (suc i) i q 0 (omega arith) ∙ getD-set-same l i p 0 (omega arith)
@@ -202,7 +195,7 @@ counted-none e a m w {w₁} r z = record {
 
 -- the numbers are below m after that too
 pub below-still : (e k a m : ℕ) (w : List ℕ) {w₁ : List ℕ} → e + k ≤ a → w₁ ≡ sets w a (replicate m 0) → Below m e w k → Below m e w₁ k
-below-still e k a m w {w₁} r z h = λ j g. omega (arith, ap (λ (l : List ℕ). getD l (e + j) 0) z ∙ zeros-before w a m (e + j) (omega arith), h j g)
+below-still e k a m w {w₁} r z h = λ j g. omega (arith, ap (λ (l : List ℕ). getD l (e + j) 0) z ∙ sets-before w a (replicate m 0) (e + j) 0 (omega arith), h j g)
 
 -- there is room for one more
 pub count-room : {e k a m j : ℕ} {w₀ w : List ℕ} → ((e + k ≤ a) × (a + m ≤ length w₀)) × (k < 2 ^ 32) → Below m e w₀ k → j < k → Counted e j a m w₀ w
@@ -237,6 +230,14 @@ pub counted-done : {e k a m : ℕ} {w w₁ w₂ : List ℕ} → e + k ≤ a → 
 counted-done {e} {k} {a} {m} {w} {w₁} {w₂} r z c =
     record {
       same-length = c .same-length ∙ ap length z ∙ length-sets w a (replicate m 0);
-      counts = λ s h. c .counts s h ∙ occurs-same s e w w₁ k (λ j g. ap (λ (l : List ℕ). getD l (e + j) 0) z ∙ zeros-before w a m (e + j) (omega arith));
-      elsewhere = λ j h. c .elsewhere j h ∙ ap (λ (l : List ℕ). getD l j 0) z ∙ ⊎-elim (λ b. zeros-before w a m j b) (λ b. zeros-behind w a m j b) h;
+      counts = λ s h. c .counts s h ∙ occurs-same s e w w₁ k (λ j g. ap (λ (l : List ℕ). getD l (e + j) 0) z ∙ sets-before w a (replicate m 0) (e + j) 0 (omega arith));
+      elsewhere = λ j h. c .elsewhere j h ∙ ap (λ (l : List ℕ). getD l j 0) z ∙ ⊎-elim (λ b. sets-before w a (replicate m 0) j 0 b) (λ b. sets-behind w a (replicate m 0) j 0 (omega (arith, length-replicate {A = ℕ} m 0))) h;
     }
+
+-- ---- a run of stores behind a table
+
+pub held-within : (o N m at : ℕ) (w vs : List ℕ) {w′ : List ℕ} → o + N + 3 * m ≤ at → w′ ≡ sets w at vs → Held o N w m → Held o N w′ m × (sidesIn o N w′ m ≡ sidesIn o N w m)
+held-within o N m at w vs {w′} h e t = (held-same o N w w′ m cells (ap length e ∙ length-sets w at vs) t, sides-same o N w w′ m cells)
+  where
+    cells : (j : ℕ) → o ≤ j → j < o + N + 3 * m → getD w′ j 0 ≡ getD w j 0
+    cells j p q = ap (λ (l : List ℕ). getD l j 0) e ∙ sets-before w at vs j 0 (omega arith)

@@ -202,19 +202,20 @@ pub zeros-more : (l : List ℕ) (i k : ℕ) → set (sets l i (replicate k 0)) (
 zeros-more l i zero = let e : i + 0 ≡ i = omega arith in ap (λ (j : ℕ). set l j 0) e
 zeros-more l i (suc k) = let e : i + suc k ≡ suc i + k = omega arith in ap (λ (j : ℕ). set (sets (set l i 0) (suc i) (replicate k 0)) j 0) e ∙ zeros-more (set l i 0) (suc i) k
 
-pub zeros-before : (l : List ℕ) (i k j : ℕ) → j < i → getD (sets l i (replicate k 0)) j 0 ≡ getD l j 0
-zeros-before l i zero j h = refl
-zeros-before l i (suc k) j h = zeros-before (set l i 0) (suc i) k j (omega arith) ∙ getD-set-other l i j 0 0 (omega arith)
+-- a run of stores leaves what stands before and behind it
+pub sets-before : {A : Type 0} (l : List A) (i : ℕ) (vs : List A) (j : ℕ) (d : A) → j < i → getD (sets l i vs) j d ≡ getD l j d
+sets-before l i [] j d h = refl
+sets-before l i (v ∷ vs) j d h = sets-before (set l i v) (suc i) vs j d (omega arith) ∙ getD-set-other l i j v d (omega arith)
 
-pub zeros-behind : (l : List ℕ) (i k j : ℕ) → i + k ≤ j → getD (sets l i (replicate k 0)) j 0 ≡ getD l j 0
-zeros-behind l i zero j h = refl
-zeros-behind l i (suc k) j h = zeros-behind (set l i 0) (suc i) k j (omega arith) ∙ getD-set-other l i j 0 0 (omega arith)
+pub sets-behind : {A : Type 0} (l : List A) (i : ℕ) (vs : List A) (j : ℕ) (d : A) → i + length vs ≤ j → getD (sets l i vs) j d ≡ getD l j d
+sets-behind l i [] j d h = refl
+sets-behind l i (v ∷ vs) j d h = sets-behind (set l i v) (suc i) vs j d (omega arith) ∙ getD-set-other l i j v d (omega arith)
 
 pub zeros-at : (l : List ℕ) (i k j : ℕ) → i + k ≤ length l → j < k → getD (sets l i (replicate k 0)) (i + j) 0 ≡ 0
 zeros-at l i zero j r h = absurd (omega arith)
 zeros-at l i (suc k) zero r h =
     let e : i + 0 ≡ i = omega arith in
-    rw e (zeros-before (set l i 0) (suc i) k i (omega arith) ∙ getD-set-same l i 0 0 (omega arith))
+    rw e (sets-before (set l i 0) (suc i) (replicate k 0) i 0 (omega arith) ∙ getD-set-same l i 0 0 (omega arith))
 zeros-at l i (suc k) (suc j) r h =
     let e : i + suc j ≡ suc i + j = omega arith in
     rw e (zeros-at (set l i 0) (suc i) k j (omega (arith, length-set l i 0)) (omega arith))

@@ -43,6 +43,7 @@ fn same_side(a: u32, b: u32, c: u32, d: u32) -> bool
     a == c && b == d
 }
 
+// Zeros at n places from `base` on.
 pub fn zeros(w: &mut [u32], base: usize, n: usize)
     requires { ⌜ base + n ≤ length (now w) ⌝ }
     ensures { λ _. ⌜ now (w .exit) ≡ sets (now (w .entry)) base (replicate n 0) ⌝ }

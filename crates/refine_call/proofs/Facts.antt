@@ -8,11 +8,11 @@ use mathlib.Core.List.{List, [], _∷_, _++_}
 use mathlib.Core.Option.{Option}
 use borrow.Author.Tests.{eqb-true, ltb-false, leb-true}
 use lib.Dec.{T, eqb, ltb, leb}
-use lib.ListN.{length, length-append, replicate, length-replicate, getD-replicate}
+use lib.ListN.{length, length-append, length-map, replicate, length-replicate, getD-replicate}
 use lib.Seq.{sets}
 use lib.Ieee.{Float}
 use Rattle.mesh.specs.Mesh.{Tri, Side, mid, cuts, marked, refine, refined, pieces}
-use Rattle.areas.specs.Points.{midpoints, midSizes, morePoints, moreSizes}
+use Rattle.areas.specs.Points.{midpoints, midSize, midSizes, morePoints, moreSizes}
 use Rattle.edges.specs.Table.{Held, sidesIn, loOf, hiOf, last, pairs}
 use Rattle.edges.proofs.Chain.{length-pairs}
 use Rattle.floor.specs.declared.Refusal.{Refusal}
@@ -23,7 +23,7 @@ use Rattle.refinement.specs.Flag.{flaggedTri}
 use Rattle.refinement.specs.Floor.{tris, trisOf, cornersOf, endsOf, over, Refined, refinementOf}
 use Rattle.refinement.specs.Steps.{CutTo}
 use Rattle.refinement.proofs.Runs.{front}
-use Rattle.refine_floor.proofs.Parts.{four, corners-length, ends-length, mids-length, sizes-length}
+use Rattle.refine_floor.proofs.Parts.{four, corners-length, ends-length, mids-length}
 use Rattle.refine_call.specs.declared.Counts.{Counts}
 use Rattle.refine_call.specs.declared.Answer.{Answer}
 use Rattle.refine_call.specs.declared.Answer.the-variants.{Refinement}
@@ -145,8 +145,8 @@ unfolding morePoints
 points-length pts l = length-append pts (midpoints pts l) ∙ omega (arith, mids-length pts l)
 
 all-sizes : (zs : List Float) (l : List Side) → length (moreSizes zs l) ≡ length zs + length l
-unfolding moreSizes
-all-sizes zs l = length-append zs (midSizes zs l) ∙ omega (arith, sizes-length zs l)
+unfolding moreSizes midSizes
+all-sizes zs l = length-append zs (midSizes zs l) ∙ omega (arith, length-map l (midSize zs))
 
 counts-same : {p p′ k k′ c c′ m m′ : ℕ} → p ≡ p′ → k ≡ k′ → c ≡ c′ → m ≡ m′
     → _≡_ {A = Counts} (record { points = p; triangles = k; flagged = c; cut = m }) (record { points = p′; triangles = k′; flagged = c′; cut = m′ })

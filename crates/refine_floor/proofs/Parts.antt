@@ -3,16 +3,17 @@ use Prim.Native.Nat.{ℕ, zero, suc, _+_, _*_, _≤_, _<_}
 use native.Mathlib.Omega.{arith}
 use native.Mathlib.Numerals.{add-one}
 use mathlib.Core.Path.{_≡_, refl, sym, ap, _∙_, subst}
-use mathlib.Core.List.{List, [], _∷_, _++_, append-assoc, append-nil}
+use mathlib.Core.List.{List, [], _∷_, _++_, append-nil, map}
 use mathlib.Core.Option.{Option, none, some}
-use lib.ListN.{length, length-append, getD, set, take}
+use lib.ListN.{length, length-append, length-map, getD, set, take}
 use lib.Seq.{sets, length-sets}
 use lib.Ieee.{Float}
-use Rattle.mesh.specs.Mesh.{Tri, tri, Side, side, split, pieces, refined}
+use Rattle.mesh.specs.Mesh.{Tri, tri, Side, side, mid, split, pieces, refined}
 use Rattle.mesh.proofs.Theorem.{refined-append}
-use Rattle.areas.specs.Points.{midpoint, midpoints, midSize, midSizes, morePoints, moreSizes}
-use Rattle.edges.specs.Table.{pairs, sidesIn, loOf, hiOf}
+use Rattle.areas.specs.Points.{midpoint, midpoints}
+use Rattle.edges.specs.Table.{pairs, sidesIn, loOf, hiOf, Held}
 use Rattle.edges.proofs.Chain.{length-pairs}
+use Rattle.edges.proofs.Numbering.{held-within}
 use Rattle.refinement.specs.Floor.{tris, triAt, cornersOf, endsOf}
 use Rattle.refinement.specs.Steps.{Rows}
 use Rattle.refinement.proofs.Runs.{sets-append, copy-more}
@@ -33,28 +34,29 @@ unfolding cornersOf
 corners-length [] = refl
 corners-length (tri a b c ∷ s) = omega (arith, corners-length s)
 
-pub pieces-put : {ts : List Tri} {count : ℕ} {rows out′ : List ℕ} (out : List ℕ) (k : ℕ) → Rows ts count rows → out′ ≡ sets out (3 * k) (take (3 * count) rows)
-    → (out′ ≡ sets out (3 * k) (cornersOf ts)) × (k + count ≡ k + length ts)
-pieces-put out k h e = (e ∙ ap (sets out (3 * k)) (h .corners), omega (arith, h .many))
+pub pieces-put : {ts : List Tri} {count : ℕ} {rows out′ : List ℕ} (out : List ℕ) (a k : ℕ) → Rows ts count rows → out′ ≡ sets out a (take (3 * count) rows)
+    → (out′ ≡ sets out a (cornersOf ts)) × (k + count ≡ k + length ts)
+pieces-put out a k h e = (e ∙ ap (sets out a) (h .corners), omega (arith, h .many))
 
-pub refined-none : (m : ℕ → ℕ → Option ℕ) (l out : List ℕ) → (out ≡ sets out 0 (cornersOf (refined m (tris l 0)))) × (0 ≡ length (refined m (tris l 0)))
+pub refined-none : (m : ℕ → ℕ → Option ℕ) (l out : List ℕ) (at : ℕ) → (out ≡ sets out at (cornersOf (refined m (tris l 0)))) × (0 ≡ length (refined m (tris l 0)))
 unfolding tris cornersOf
-refined-none m l out = (refl, refl)
+refined-none m l out at = (refl, refl)
 
 one-more : (m : ℕ → ℕ → Option ℕ) (l : List ℕ) (i : ℕ) → refined m (tris l (i + 1)) ≡ refined m (tris l i) ++ pieces m (triAt l i)
 unfolding tris
 one-more m l i = rw (add-one i) (refined-append m (tris l i) (triAt l i ∷ []) ∙ ap (λ (r : List Tri). refined m (tris l i) ++ r) (append-nil (pieces m (triAt l i))))
 
-pub refined-again : (m : ℕ → ℕ → Option ℕ) (l out₀ : List ℕ) {out out′ : List ℕ} (i : ℕ) {k k′ : ℕ}
-    → (out ≡ sets out₀ 0 (cornersOf (refined m (tris l i)))) × (k ≡ length (refined m (tris l i)))
-    → (out′ ≡ sets out (3 * k) (cornersOf (pieces m (triAt l i)))) × (k′ ≡ k + length (pieces m (triAt l i)))
-    → (out′ ≡ sets out₀ 0 (cornersOf (refined m (tris l (i + 1))))) × (k′ ≡ length (refined m (tris l (i + 1))))
-refined-again m l out₀ {out} {out′} i {k} {k′} h s =
+-- the pieces stand from `at` on; those of triangle i go to the place a behind them
+pub refined-again : (m : ℕ → ℕ → Option ℕ) (l out₀ : List ℕ) {out out′ : List ℕ} (at i : ℕ) {a k k′ : ℕ} → a ≡ at + 3 * k
+    → (out ≡ sets out₀ at (cornersOf (refined m (tris l i)))) × (k ≡ length (refined m (tris l i)))
+    → (out′ ≡ sets out a (cornersOf (pieces m (triAt l i)))) × (k′ ≡ k + length (pieces m (triAt l i)))
+    → (out′ ≡ sets out₀ at (cornersOf (refined m (tris l (i + 1))))) × (k′ ≡ length (refined m (tris l (i + 1))))
+refined-again m l out₀ {out} {out′} at i {a} {k} {k′} z h s =
     let old = refined m (tris l i) in
     let new = pieces m (triAt l i) in
-    let at : 3 * k ≡ 0 + length (cornersOf old) = omega (arith, corners-length old, h .1) in
+    let here : a ≡ at + length (cornersOf old) = omega (arith, corners-length old, h .1) in
     rw (one-more m l i) (
-      s .0 ∙ rw (at, h .0) (sets-append out₀ 0 (cornersOf old) (cornersOf new)) ∙ ap (sets out₀ 0) (sym (corners-append old new)),
+      s .0 ∙ rw (here, h .0) (sets-append out₀ at (cornersOf old) (cornersOf new)) ∙ ap (sets out₀ at) (sym (corners-append old new)),
       s .1 ∙ rw (length-append old new) (omega (arith, h .1)),
     )
 
@@ -71,6 +73,31 @@ four m (tri a b c) = rows (m a b) (m b c) (m c a)
     rows (some p) none (some r) = omega arith
     rows (some p) (some q) none = omega arith
     rows (some p) (some q) (some r) = omega arith
+
+-- ---- triangles in the slice that has the table
+
+-- what stands there after the first i triangles of l: k pieces, from `at` on
+pub record Within (n o N m : ℕ) (l w₀ : List ℕ) (at i : ℕ) (w : List ℕ) (k : ℕ) : Type 0 where
+  pub stands : (w ≡ sets w₀ at (cornersOf (refined (mid n (sidesIn o N w₀ m)) (tris l i)))) × (k ≡ length (refined (mid n (sidesIn o N w₀ m)) (tris l i)))
+  pub few : k ≤ 4 * i
+  pub held : Held o N w m
+  pub same-length : length w ≡ length w₀
+
+pub within-none : (n o N m : ℕ) (l w : List ℕ) (at : ℕ) → Held o N w m → Within n o N m l w at 0 w 0
+within-none n o N m l w at h = record { stands = refined-none (mid n (sidesIn o N w m)) l w at; few = omega arith; held = h; same-length = refl }
+
+pub within-again : {n o N m : ℕ} {l w₀ : List ℕ} {at i : ℕ} {w w′ : List ℕ} {k k′ : ℕ} → o + N + 3 * m ≤ at → Held o N w₀ m → Within n o N m l w₀ at i w k
+    → (w′ ≡ sets w (at + 3 * k) (cornersOf (pieces (mid n (sidesIn o N w m)) (triAt l i)))) × (k′ ≡ k + length (pieces (mid n (sidesIn o N w m)) (triAt l i)))
+    → Within n o N m l w₀ at (i + 1) w′ k′
+within-again {n} {o} {N} {m} {l} {w₀} {at} {i} {w} {w′} {k} {k′} behind h t s =
+    let old = held-within o N m at w₀ (cornersOf (refined (mid n (sidesIn o N w₀ m)) (tris l i))) behind (t .stands .0) h in
+    let new = refined-again (mid n (sidesIn o N w₀ m)) l w₀ at i refl (t .stands) (rw (old .1) at s) in
+    record {
+      stands = new;
+      few = omega (arith, t .few, s .1, four (mid n (sidesIn o N w m)) (triAt l i));
+      held = held-within o N m at w₀ (cornersOf (refined (mid n (sidesIn o N w₀ m)) (tris l (i + 1)))) behind (new .0) h .0;
+      same-length = ap length (new .0) ∙ length-sets w₀ at (cornersOf (refined (mid n (sidesIn o N w₀ m)) (tris l (i + 1))));
+    }
 
 -- ---- ends
 
@@ -129,35 +156,24 @@ module _ (pts : List Float) (o N : ℕ) (w : List ℕ) where
       let e = side (loOf o N w k) (hiOf o N w k) ∷ [] in
       s ∙ rw (i, h) (sets-append out₀ at (midpoints pts (sidesIn o N w k)) (midpoints pts e)) ∙ ap (sets out₀ at) (sym (mids-append pts (sidesIn o N w k) e) ∙ ap (midpoints pts) (sym (sides-more o N w k)))
 
-  pub points-done : (out₀ : List Float) {out out′ : List Float} (m n : ℕ) → n ≡ length pts → out ≡ sets out₀ 0 pts → out′ ≡ sets out n (midpoints pts (sidesIn o N w m)) → out′ ≡ sets out₀ 0 (morePoints pts (sidesIn o N w m))
-  unfolding morePoints
-  points-done out₀ m n z h s = let i : n ≡ 0 + length pts = omega arith in s ∙ rw (i, h) (sets-append out₀ 0 pts (midpoints pts (sidesIn o N w m)))
+-- ---- one number for each side, as sizes and angles are
 
--- ---- sizes
+each-append : (g : Side → Float) (s t : List Side) → map g (s ++ t) ≡ map g s ++ map g t
+each-append g [] t = refl
+each-append g (x ∷ s) t = ap (λ (l : List Float). g x ∷ l) (each-append g s t)
 
-sizes-append : (zs : List Float) (s t : List Side) → midSizes zs (s ++ t) ≡ midSizes zs s ++ midSizes zs t
-unfolding midSizes
-sizes-append zs [] t = refl
-sizes-append zs (x ∷ s) t = ap (λ (l : List Float). midSize zs x ∷ l) (sizes-append zs s t)
+module _ (g : Side → Float) (o N : ℕ) (w : List ℕ) where
+  pub each-none : (out : List Float) (at : ℕ) → out ≡ sets out at (map g (sidesIn o N w 0))
+  unfolding pairs
+  each-none out at = refl
 
-pub sizes-length : (zs : List Float) (s : List Side) → length (midSizes zs s) ≡ length s
-unfolding midSizes
-sizes-length zs [] = refl
-sizes-length zs (x ∷ s) = omega (arith, sizes-length zs s)
-
-module _ (zs : List Float) (o N : ℕ) (w : List ℕ) where
-  pub sizes-none : (out : List Float) (at : ℕ) → out ≡ sets out at (midSizes zs (sidesIn o N w 0))
-  unfolding pairs midSizes
-  sizes-none out at = refl
-
-  pub sizes-again : (out₀ : List Float) {out out′ : List Float} (at k : ℕ) → out ≡ sets out₀ at (midSizes zs (sidesIn o N w k))
-      → out′ ≡ sets out (at + k) (midSize zs (side (loOf o N w k) (hiOf o N w k)) ∷ []) → out′ ≡ sets out₀ at (midSizes zs (sidesIn o N w (k + 1)))
-  unfolding midSizes
-  sizes-again out₀ {out} {out′} at k h s =
-      let i : at + k ≡ at + length (midSizes zs (sidesIn o N w k)) = omega (arith, sizes-length zs (sidesIn o N w k), sides-length o N w k) in
+  pub each-again : (out₀ : List Float) {out out′ : List Float} (at k : ℕ) → out ≡ sets out₀ at (map g (sidesIn o N w k)) → out′ ≡ sets out (at + k) (g (side (loOf o N w k) (hiOf o N w k)) ∷ [])
+      → out′ ≡ sets out₀ at (map g (sidesIn o N w (k + 1)))
+  each-again out₀ {out} {out′} at k h s =
+      let i : at + k ≡ at + length (map g (sidesIn o N w k)) = omega (arith, length-map (sidesIn o N w k) g, sides-length o N w k) in
       let e = side (loOf o N w k) (hiOf o N w k) ∷ [] in
-      s ∙ rw (i, h) (sets-append out₀ at (midSizes zs (sidesIn o N w k)) (midSizes zs e)) ∙ ap (sets out₀ at) (sym (sizes-append zs (sidesIn o N w k) e) ∙ ap (midSizes zs) (sym (sides-more o N w k)))
+      s ∙ rw (i, h) (sets-append out₀ at (map g (sidesIn o N w k)) (map g e)) ∙ ap (sets out₀ at) (sym (each-append g (sidesIn o N w k) e) ∙ ap (map g) (sym (sides-more o N w k)))
 
-  pub sizes-done : (out₀ : List Float) {out out′ : List Float} (m n : ℕ) → n ≡ length zs → out ≡ sets out₀ 0 zs → out′ ≡ sets out n (midSizes zs (sidesIn o N w m)) → out′ ≡ sets out₀ 0 (moreSizes zs (sidesIn o N w m))
-  unfolding moreSizes
-  sizes-done out₀ m n z h s = let i : n ≡ 0 + length zs = omega arith in s ∙ rw (i, h) (sets-append out₀ 0 zs (midSizes zs (sidesIn o N w m)))
+-- the old numbers, and then those of the cut sides
+pub more-done : (zs new out₀ : List Float) {out out′ : List Float} (n : ℕ) → n ≡ length zs → out ≡ sets out₀ 0 zs → out′ ≡ sets out n new → out′ ≡ sets out₀ 0 (zs ++ new)
+more-done zs new out₀ n z h s = let i : n ≡ 0 + length zs = omega arith in s ∙ rw (i, h) (sets-append out₀ 0 zs new)

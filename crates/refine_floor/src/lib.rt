@@ -1,4 +1,4 @@
-// The slices of a refined floor: its triangles, the ends of its cut sides, its points and sizes, each as a run of stores into a lent slice.
+// The slices of a refined floor: its triangles, the ends of its cut sides, its points, sizes and guidance, each as a run of stores into a lent slice.
 // The refinement call (crate refine_call) puts them together.
 ghost use mathlib.Core.Path.{_≡_};
 ghost use mathlib.Core.Bool.{Bool, not};
@@ -10,6 +10,7 @@ ghost use Rattle.mesh.specs.Mesh.{side, mid, pieces, refined};
 ghost use Rattle.areas.specs.Points.{xOf, yOf, midpoint, midpoints, midSize, midSizes, morePoints, moreSizes};
 ghost use Rattle.edges.specs.Table.{Held, sidesIn, loOf, hiOf};
 ghost use Rattle.refinement.specs.Floor.{tris, triAt, cornersOf, endsOf};
+ghost use Rattle.refine_floor.specs.Guidance.{midAngleOn, midAngles, moreAngles};
 
 // ---- triangles
 
@@ -54,6 +55,52 @@ pub fn refine_triangles(
     let mut i = 0;
     while i < t {
         k = refine_triangle(l, i, n, w, base, nb, m, out, k);
+        i += 1;
+    }
+    k
+}
+
+// The same where the slice that has the table takes the triangles too, from `at` on: those of triangle i.
+fn refine_triangle_within(
+    l: &[u32],
+    i: usize,
+    n: usize,
+    w: &mut [u32],
+    base: usize,
+    nb: usize,
+    m: usize,
+    at: usize,
+    k: usize,
+) -> usize
+    requires { ⌜ Held base nb (now w) m ⌝ }
+    requires { ⌜ (3 * i + 3 ≤ length (now l)) × ((n + m < 2 ^ 32) × (at + 3 * k + 12 ≤ length (now w))) ⌝ }
+    ensures { λ r. ⌜ (now (w .exit) ≡ sets (now (w .entry)) (at + 3 * k) (cornersOf (pieces (mid n (sidesIn base nb (now (w .entry)) m)) (triAt (now (l .entry)) i)))) × (r ≡ k + length (pieces (mid n (sidesIn base nb (now (w .entry)) m)) (triAt (now (l .entry)) i))) ⌝ }
+{
+    let p = refinement::pieces_of(l, i, n, w, base, nb, m);
+    let rows = p.rows;
+    refinement::put_rows(w, at + 3 * k, rows, 3 * p.count);
+    k + p.count
+}
+
+// The pieces of the first t triangles, in the slice that has the table, from `at` on. How many there are.
+pub fn refine_triangles_within(
+    l: &[u32],
+    t: usize,
+    n: usize,
+    w: &mut [u32],
+    base: usize,
+    nb: usize,
+    m: usize,
+    at: usize,
+) -> usize
+    requires { ⌜ Held base nb (now w) m ⌝ }
+    requires { ⌜ ((3 * t ≤ length (now l)) × (n + m < 2 ^ 32)) × ((base + nb + 3 * m ≤ at) × (at + 12 * t ≤ length (now w))) ⌝ }
+    ensures { λ r. ⌜ (now (w .exit) ≡ sets (now (w .entry)) at (cornersOf (refined (mid n (sidesIn base nb (now (w .entry)) m)) (tris (now (l .entry)) t)))) × (r ≡ length (refined (mid n (sidesIn base nb (now (w .entry)) m)) (tris (now (l .entry)) t))) ⌝ }
+{
+    let mut k = 0;
+    let mut i = 0;
+    while i < t {
+        k = refine_triangle_within(l, i, n, w, base, nb, m, at, k);
         i += 1;
     }
     k
@@ -204,4 +251,54 @@ pub fn put_sizes(sizes: &[f64], w: &[u32], base: usize, nb: usize, m: usize, out
 {
     copy(sizes, out);
     put_mid_sizes(sizes, w, base, nb, m, out, sizes.len());
+}
+
+// ---- guidance
+
+// The angle at the midpoint of side k.
+fn put_mid_angle(
+    angles: &[f64],
+    w: &[u32],
+    base: usize,
+    nb: usize,
+    m: usize,
+    k: usize,
+    out: &mut [f64],
+    at: usize,
+)
+    requires { ⌜ (base + nb + 3 * m ≤ length (now w)) × ((k < m) × (at < length (now out))) ⌝ }
+    ensures { λ _. ⌜ now (out .exit) ≡ sets (now (out .entry)) at (midAngleOn (now (angles .entry)) (side (loOf base nb (now (w .entry)) k) (hiOf base nb (now (w .entry)) k)) ∷ []) ⌝ }
+{
+    let e = base + nb + 3 * k;
+    let u = floor::read(angles, mesh::index(w[e]));
+    let v = floor::read(angles, mesh::index(w[e + 1]));
+    out[at] = guidance::mid_angle(u, v);
+}
+
+fn put_mid_angles(
+    angles: &[f64],
+    w: &[u32],
+    base: usize,
+    nb: usize,
+    m: usize,
+    out: &mut [f64],
+    at: usize,
+)
+    requires { ⌜ (base + nb + 3 * m ≤ length (now w)) × (at + m ≤ length (now out)) ⌝ }
+    ensures { λ _. ⌜ now (out .exit) ≡ sets (now (out .entry)) at (midAngles (now (angles .entry)) (sidesIn base nb (now (w .entry)) m)) ⌝ }
+{
+    let mut k = 0;
+    while k < m {
+        put_mid_angle(angles, w, base, nb, m, k, out, at + k);
+        k += 1;
+    }
+}
+
+// The guidance of the refined floor: the Rust's extend_guidance.
+pub fn extend_guidance(angles: &[f64], w: &[u32], base: usize, nb: usize, m: usize, out: &mut [f64])
+    requires { ⌜ (base + nb + 3 * m ≤ length (now w)) × (length (now angles) + m ≤ length (now out)) ⌝ }
+    ensures { λ _. ⌜ now (out .exit) ≡ sets (now (out .entry)) 0 (moreAngles (now (angles .entry)) (sidesIn base nb (now (w .entry)) m)) ⌝ }
+{
+    copy(angles, out);
+    put_mid_angles(angles, w, base, nb, m, out, angles.len());
 }

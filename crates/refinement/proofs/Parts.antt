@@ -12,7 +12,6 @@ use lib.ListN.{length, getD, take, length-append}
 use lib.Ieee.{Float, nan}
 use Rattle.mesh.specs.Mesh.{Tri, tri, Side, side, key, sides, met, metAll, place, above, mid, sidesAfter, cuts, marked, one, split, pieces, refined}
 use Rattle.mesh.proofs.Theorem.{refined-append}
-use Rattle.areas.specs.Points.{midpoint, midpoints, midSize, midSizes}
 use Rattle.edges.specs.Table.{Held, Outside, sidesIn, MetTri, pairs, plus, unplus}
 use Rattle.refinement.specs.Flag.{flaggedTri}
 use Rattle.refinement.specs.Floor.{tris, triAt, cornersOf, endsOf}

@@ -1,12 +1,11 @@
 -- `refine_floor::copy` meets its contract: the loop keeps what `Inv-loop` says, and what is left to do falls at each turn; the laws are in proofs/Parts.
 use borrow.Author.Needs.{needs}
 use lib.Ieee.{nan}
-use Prim.Native.Nat.{_+_, _-_, _*_, _≤_}
-use mathlib.Core.Path.{_≡_, refl, sym, ap, _∙_}
+use Prim.Native.Nat.{_-_, _≤_}
+use mathlib.Core.Path.{_≡_, refl, _∙_}
 use native.Mathlib.Omega.{arith}
-use native.Mathlib.Numerals.{add-one}
 use lib.ListN.{length, take, length-set}
-use lib.Seq.{sets, length-sets, take-length}
+use lib.Seq.{sets, take-length}
 use Rattle.refine_floor.proofs.Parts.{copy-again}
 use Rattle.refine_floor.proofs.copy.Statement.{statement}
 use Rattle.refine_floor.proofs.copy.Tie as tie

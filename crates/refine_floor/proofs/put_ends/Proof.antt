@@ -1,16 +1,13 @@
 -- `refine_floor::put_ends` meets its contract: the loop keeps what `Inv-loop` says, and what is left to do falls at each turn; the laws are in proofs/Parts.
 use borrow.Author.Needs.{needs}
-use Prim.Native.Nat.{_+_, _-_, _*_, _≤_}
-use mathlib.Core.Path.{_≡_, refl, sym, ap, _∙_}
+use Prim.Native.Nat.{_-_, _≤_}
+use mathlib.Core.Path.{_≡_, refl, ap, _∙_}
 use native.Mathlib.Omega.{arith}
-use native.Mathlib.Numerals.{add-one}
-use lib.ListN.{length, take, length-set}
-use lib.Seq.{sets, length-sets, take-length}
-use Rattle.refine_floor.proofs.Parts.{pieces-put, refined-none, refined-again, ends-none, ends-again, mids-none, mids-again, points-done, sizes-none, sizes-again, sizes-done}
+use lib.ListN.{length, length-set}
+use lib.Seq.{sets}
+use Rattle.refine_floor.proofs.Parts.{ends-none, ends-again}
 use Rattle.edges.specs.Table.{sidesIn}
-use Rattle.mesh.specs.Mesh.{mid, refined}
-use Rattle.areas.specs.Points.{midpoints, midSizes}
-use Rattle.refinement.specs.Floor.{tris, cornersOf, endsOf}
+use Rattle.refinement.specs.Floor.{endsOf}
 use Rattle.refine_floor.proofs.put_ends.Statement.{statement}
 use Rattle.refine_floor.proofs.put_ends.Tie as tie
 

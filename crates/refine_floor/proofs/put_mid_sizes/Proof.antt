@@ -1,16 +1,13 @@
 -- `refine_floor::put_mid_sizes` meets its contract: the loop keeps what `Inv-loop` says, and what is left to do falls at each turn; the laws are in proofs/Parts.
 use borrow.Author.Needs.{needs}
-use Prim.Native.Nat.{_+_, _-_, _*_, _≤_}
-use mathlib.Core.Path.{_≡_, refl, sym, ap, _∙_}
+use Prim.Native.Nat.{_-_, _≤_}
+use mathlib.Core.Path.{_≡_, refl, ap, _∙_}
 use native.Mathlib.Omega.{arith}
-use native.Mathlib.Numerals.{add-one}
-use lib.ListN.{length, take, length-set}
-use lib.Seq.{sets, length-sets, take-length}
-use Rattle.refine_floor.proofs.Parts.{pieces-put, refined-none, refined-again, ends-none, ends-again, mids-none, mids-again, points-done, sizes-none, sizes-again, sizes-done}
+use lib.ListN.{length, length-set}
+use lib.Seq.{sets}
+use Rattle.refine_floor.proofs.Parts.{each-none, each-again}
 use Rattle.edges.specs.Table.{sidesIn}
-use Rattle.mesh.specs.Mesh.{mid, refined}
-use Rattle.areas.specs.Points.{midpoints, midSizes}
-use Rattle.refinement.specs.Floor.{tris, cornersOf, endsOf}
+use Rattle.areas.specs.Points.{midSize, midSizes}
 use Rattle.refine_floor.proofs.put_mid_sizes.Statement.{statement}
 use Rattle.refine_floor.proofs.put_mid_sizes.Tie as tie
 
@@ -21,7 +18,8 @@ abbrev μ-loop : tie.MeasureT-loop
 μ-loop sizes w base nb m out₀ at k₀ out k = m - k
 
 loop-holds : tie.Need-loop-holds Inv-loop μ-loop
-loop-holds c = (omega arith, (refl, sizes-none (c .before .before .before .args .sizes .now) (c .before .before .before .args .base) (c .before .before .before .args .nb) (c .before .before .before .args .w .now) (c .before .before .before .args .out .now) (c .before .before .before .args .at)))
+unfolding midSizes
+loop-holds c = (omega arith, (refl, each-none (midSize (c .before .before .before .args .sizes .now)) (c .before .before .before .args .base) (c .before .before .before .args .nb) (c .before .before .before .args .w .now) (c .before .before .before .args .out .now) (c .before .before .before .args .at)))
 
 add-put-mid-size : tie.Need-add-put-mid-size Inv-loop μ-loop
 add-put-mid-size c = search needs
@@ -36,7 +34,8 @@ loop-less : tie.Need-loop-less Inv-loop μ-loop
 loop-less c = search needs
 
 loop-again : tie.Need-loop-again Inv-loop μ-loop
-loop-again c = let e = sizes-again (c .before .before .before .before .before .before .before .before .before .args .sizes .now) (c .before .before .before .before .before .before .before .before .before .args .base) (c .before .before .before .before .before .before .before .before .before .args .nb) (c .before .before .before .before .before .before .before .before .before .args .w .now) (c .before .before .before .before .before .before .before .before .before .args .out .now) (c .before .before .before .before .before .before .before .before .before .args .at) (c .before .before .before .before .before .loop .k) (c .before .before .before .before .before .loop .inv .1 .1) (c .before .before .put-mid-size .ensures) in (omega arith, (ap length (c .before .before .put-mid-size .ensures) ∙ simp length-set (c .before .before .before .before .before .loop .inv .1 .0), e))
+unfolding midSizes
+loop-again c = let e = each-again (midSize (c .before .before .before .before .before .before .before .before .before .args .sizes .now)) (c .before .before .before .before .before .before .before .before .before .args .base) (c .before .before .before .before .before .before .before .before .before .args .nb) (c .before .before .before .before .before .before .before .before .before .args .w .now) (c .before .before .before .before .before .before .before .before .before .args .out .now) (c .before .before .before .before .before .before .before .before .before .args .at) (c .before .before .before .before .before .loop .k) (c .before .before .before .before .before .loop .inv .1 .1) (c .before .before .put-mid-size .ensures) in (omega arith, (ap length (c .before .before .put-mid-size .ensures) ∙ simp length-set (c .before .before .before .before .before .loop .inv .1 .0), e))
 
 same-length : tie.Need-same-length Inv-loop μ-loop
 same-length c = c .before .loop .inv .1 .0

@@ -1,11 +1,10 @@
 -- `refine_floor::put_midpoint` meets its contract: each return opens the definition and rewrites it by the tests and the calls on its way.
 use borrow.Author.Needs.{needs}
-use Prim.Native.Nat.{_+_, _-_, _*_, _≤_}
-use mathlib.Core.Path.{_≡_, refl, sym, ap, _∙_}
+use Prim.Native.Nat.{_+_, _-_}
+use mathlib.Core.Path.{_≡_}
 use native.Mathlib.Omega.{arith}
 use native.Mathlib.Numerals.{add-one}
-use lib.ListN.{length, take, length-set}
-use lib.Seq.{sets, length-sets, take-length}
+use lib.ListN.{length-set}
 use Rattle.refine_floor.proofs.put_midpoint.Statement.{statement}
 use Rattle.refine_floor.proofs.put_midpoint.Tie as tie
 

@@ -1,12 +1,7 @@
 -- `refine_floor::refine_triangle` meets its contract: each return opens the definition and rewrites it by the tests and the calls on its way; the laws are in proofs/Parts.
 use borrow.Author.Needs.{needs}
-use Prim.Native.Nat.{_+_, _-_, _*_, _≤_}
-use mathlib.Core.Path.{_≡_, refl, sym, ap, _∙_}
-use native.Mathlib.Omega.{arith}
-use native.Mathlib.Numerals.{add-one}
-use lib.ListN.{length, take, length-set}
-use lib.Seq.{sets, length-sets, take-length}
-use Rattle.refine_floor.proofs.Parts.{pieces-put, refined-none, refined-again, ends-none, ends-again, mids-none, mids-again, points-done, sizes-none, sizes-again, sizes-done}
+use Prim.Native.Nat.{_-_}
+use Rattle.refine_floor.proofs.Parts.{pieces-put}
 use Rattle.refine_floor.proofs.refine_triangle.Statement.{statement}
 use Rattle.refine_floor.proofs.refine_triangle.Tie as tie
 
@@ -29,7 +24,7 @@ same-length : tie.Need-same-length
 same-length c = search needs
 
 returns : tie.Need-returns
-returns c = pieces-put (c .before .before .before .before .before .before .before .before .before .before .before .args .out .now) (c .before .before .before .before .before .before .before .before .before .before .before .args .k) (c .before .before .before .before .before .before .before .pieces-of .ensures) (c .before .before .before .put-rows .ensures)
+returns c = pieces-put (c .before .before .before .before .before .before .before .before .before .before .before .args .out .now) _ (c .before .before .before .before .before .before .before .before .before .before .before .args .k) (c .before .before .before .before .before .before .before .pieces-of .ensures) (c .before .before .before .put-rows .ensures)
 
 pub refine-triangle-spec : {M : Type 1} → statement M
 refine-triangle-spec =

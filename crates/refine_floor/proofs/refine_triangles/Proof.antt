@@ -1,16 +1,14 @@
 -- `refine_floor::refine_triangles` meets its contract: the loop keeps what `Inv-loop` says, and what is left to do falls at each turn; the laws are in proofs/Parts.
 use borrow.Author.Needs.{needs}
-use Prim.Native.Nat.{_+_, _-_, _*_, _≤_}
-use mathlib.Core.Path.{_≡_, refl, sym, ap, _∙_}
+use Prim.Native.Nat.{_-_, _*_, _≤_}
+use mathlib.Core.Path.{_≡_, refl, ap, _∙_}
 use native.Mathlib.Omega.{arith}
-use native.Mathlib.Numerals.{add-one}
-use lib.ListN.{length, take, length-set}
-use lib.Seq.{sets, length-sets, take-length}
-use Rattle.refine_floor.proofs.Parts.{four, pieces-put, refined-none, refined-again, ends-none, ends-again, mids-none, mids-again, points-done, sizes-none, sizes-again, sizes-done}
+use lib.ListN.{length}
+use lib.Seq.{sets, length-sets}
+use Rattle.refine_floor.proofs.Parts.{four, refined-none, refined-again}
 use Rattle.edges.specs.Table.{sidesIn}
 use Rattle.mesh.specs.Mesh.{mid, refined}
-use Rattle.areas.specs.Points.{midpoints, midSizes}
-use Rattle.refinement.specs.Floor.{tris, triAt, cornersOf, endsOf}
+use Rattle.refinement.specs.Floor.{tris, triAt, cornersOf}
 use Rattle.refine_floor.proofs.refine_triangles.Statement.{statement}
 use Rattle.refine_floor.proofs.refine_triangles.Tie as tie
 
@@ -21,7 +19,7 @@ abbrev μ-loop : tie.MeasureT-loop
 μ-loop l t n w base nb m out₀ k₀ i₀ out k i = t - i
 
 loop-holds : tie.Need-loop-holds Inv-loop μ-loop
-loop-holds c = (omega arith, ((refl, omega arith), refined-none (mid (c .before .before .before .args .n) (sidesIn (c .before .before .before .args .base) (c .before .before .before .args .nb) (c .before .before .before .args .w .now) (c .before .before .before .args .m))) (c .before .before .before .args .l .now) (c .before .before .before .args .out .now)))
+loop-holds c = (omega arith, ((refl, omega arith), refined-none (mid (c .before .before .before .args .n) (sidesIn (c .before .before .before .args .base) (c .before .before .before .args .nb) (c .before .before .before .args .w .now) (c .before .before .before .args .m))) (c .before .before .before .args .l .now) (c .before .before .before .args .out .now) 0))
 
 refine-triangle-requires : tie.Need-refine-triangle-requires Inv-loop μ-loop
 refine-triangle-requires c κs = search needs
@@ -33,7 +31,7 @@ loop-less : tie.Need-loop-less Inv-loop μ-loop
 loop-less c = search needs
 
 loop-again : tie.Need-loop-again Inv-loop μ-loop
-loop-again c = let e = refined-again (mid (c .before .before .before .before .before .before .before .before .before .args .n) (sidesIn (c .before .before .before .before .before .before .before .before .before .args .base) (c .before .before .before .before .before .before .before .before .before .args .nb) (c .before .before .before .before .before .before .before .before .before .args .w .now) (c .before .before .before .before .before .before .before .before .before .args .m))) (c .before .before .before .before .before .before .before .before .before .args .l .now) (c .before .before .before .before .before .before .before .before .before .args .out .now) (c .before .before .before .before .before .loop .i) (c .before .before .before .before .before .loop .inv .1 .1) (c .before .before .refine-triangle .ensures) in (omega arith, ((ap length (c .before .before .refine-triangle .ensures .0) ∙ simp length-sets (c .before .before .before .before .before .loop .inv .1 .0 .0), omega (arith, c .before .before .refine-triangle .ensures .1, four (mid (c .before .before .before .before .before .before .before .before .before .args .n) (sidesIn (c .before .before .before .before .before .before .before .before .before .args .base) (c .before .before .before .before .before .before .before .before .before .args .nb) (c .before .before .before .before .before .before .before .before .before .args .w .now) (c .before .before .before .before .before .before .before .before .before .args .m))) (triAt (c .before .before .before .before .before .before .before .before .before .args .l .now) (c .before .before .before .before .before .loop .i)), c .before .before .before .before .before .loop .inv .1 .0 .1)), e))
+loop-again c = let e = refined-again (mid (c .before .before .before .before .before .before .before .before .before .args .n) (sidesIn (c .before .before .before .before .before .before .before .before .before .args .base) (c .before .before .before .before .before .before .before .before .before .args .nb) (c .before .before .before .before .before .before .before .before .before .args .w .now) (c .before .before .before .before .before .before .before .before .before .args .m))) (c .before .before .before .before .before .before .before .before .before .args .l .now) (c .before .before .before .before .before .before .before .before .before .args .out .now) 0 (c .before .before .before .before .before .loop .i) (omega arith) (c .before .before .before .before .before .loop .inv .1 .1) (c .before .before .refine-triangle .ensures) in (omega arith, ((ap length (c .before .before .refine-triangle .ensures .0) ∙ simp length-sets (c .before .before .before .before .before .loop .inv .1 .0 .0), omega (arith, c .before .before .refine-triangle .ensures .1, four (mid (c .before .before .before .before .before .before .before .before .before .args .n) (sidesIn (c .before .before .before .before .before .before .before .before .before .args .base) (c .before .before .before .before .before .before .before .before .before .args .nb) (c .before .before .before .before .before .before .before .before .before .args .w .now) (c .before .before .before .before .before .before .before .before .before .args .m))) (triAt (c .before .before .before .before .before .before .before .before .before .args .l .now) (c .before .before .before .before .before .loop .i)), c .before .before .before .before .before .loop .inv .1 .0 .1)), e))
 
 same-length : tie.Need-same-length Inv-loop μ-loop
 same-length c = c .before .loop .inv .1 .0 .0

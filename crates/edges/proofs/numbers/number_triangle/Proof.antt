@@ -45,13 +45,13 @@ add-put-three : tie.Need-add-put-three
 add-put-three c = search needs
 
 cast-put-three : tie.Need-cast-put-three
-cast-put-three c = record { fits = omega (arith, numbers-below (c .before .before .before .before .meet-triangle .ensures) .0, c .before .before .before .before .meet-triangle .ensures .more, c .before .before .before .before .before .before .before .before .before .before .pre .0 .narrow, c .before .before .before .before .before .before .before .before .before .before .pre .1 .1) }
+cast-put-three c = record { fits = omega (arith, numbers-below (c .before .before .before .before .meet-triangle .ensures) .0, numbers-below (c .before .before .before .before .meet-triangle .ensures) .1, numbers-below (c .before .before .before .before .meet-triangle .ensures) .2, c .before .before .before .before .meet-triangle .ensures .more, c .before .before .before .before .before .before .before .before .before .before .pre .0 .narrow, c .before .before .before .before .before .before .before .before .before .before .pre .1 .1) }
 
 cast-put-three-2 : tie.Need-cast-put-three-2
-cast-put-three-2 c = record { fits = omega (arith, numbers-below (c .before .before .before .before .before .meet-triangle .ensures) .1, c .before .before .before .before .before .meet-triangle .ensures .more, c .before .before .before .before .before .before .before .before .before .before .before .pre .0 .narrow, c .before .before .before .before .before .before .before .before .before .before .before .pre .1 .1) }
+cast-put-three-2 c = record { fits = omega (arith, numbers-below (c .before .before .before .before .before .meet-triangle .ensures) .0, numbers-below (c .before .before .before .before .before .meet-triangle .ensures) .1, numbers-below (c .before .before .before .before .before .meet-triangle .ensures) .2, c .before .before .before .before .before .meet-triangle .ensures .more, c .before .before .before .before .before .before .before .before .before .before .before .pre .0 .narrow, c .before .before .before .before .before .before .before .before .before .before .before .pre .1 .1) }
 
 cast-put-three-3 : tie.Need-cast-put-three-3
-cast-put-three-3 c = record { fits = omega (arith, numbers-below (c .before .before .before .before .before .before .meet-triangle .ensures) .2, c .before .before .before .before .before .before .meet-triangle .ensures .more, c .before .before .before .before .before .before .before .before .before .before .before .before .pre .0 .narrow, c .before .before .before .before .before .before .before .before .before .before .before .before .pre .1 .1) }
+cast-put-three-3 c = record { fits = omega (arith, numbers-below (c .before .before .before .before .before .before .meet-triangle .ensures) .0, numbers-below (c .before .before .before .before .before .before .meet-triangle .ensures) .1, numbers-below (c .before .before .before .before .before .before .meet-triangle .ensures) .2, c .before .before .before .before .before .before .meet-triangle .ensures .more, c .before .before .before .before .before .before .before .before .before .before .before .before .pre .0 .narrow, c .before .before .before .before .before .before .before .before .before .before .before .before .pre .1 .1) }
 
 put-three-requires : tie.Need-put-three-requires
 put-three-requires c κs = search needs

@@ -1,0 +1,49 @@
+-- `refine_floor::refine_triangles_within` meets its contract: the loop keeps what `Inv-loop` says, and what is left to do falls at each turn; the laws are in proofs/Parts.
+use borrow.Author.Needs.{needs}
+use Rattle.refine_floor.proofs.Parts.{Within, within-none, within-again}
+use Prim.Native.Nat.{_-_, _≤_}
+use mathlib.Core.Path.{_≡_}
+use native.Mathlib.Omega.{arith}
+use Rattle.refine_floor.proofs.refine_triangles_within.Statement.{statement}
+use Rattle.refine_floor.proofs.refine_triangles_within.Tie as tie
+
+abbrev Inv-loop : tie.InvT-loop
+Inv-loop l t n w₀ base nb m at k₀ i₀ w k i = (i ≤ t) × Within n base nb m l w₀ at i w k
+
+abbrev μ-loop : tie.MeasureT-loop
+μ-loop l t n w₀ base nb m at k₀ i₀ w k i = t - i
+
+loop-holds : tie.Need-loop-holds Inv-loop μ-loop
+loop-holds c = (omega arith, within-none _ _ _ _ _ _ _ (c .before .before .pre .0))
+
+refine-triangle-within-requires : tie.Need-refine-triangle-within-requires Inv-loop μ-loop
+refine-triangle-within-requires c κs = (c .before .before .loop .inv .1 .held, (omega arith, (c .before .before .before .before .before .pre .1 .0 .1, omega (arith, c .before .before .loop .inv .1 .few, c .before .before .loop .inv .1 .same-length))))
+
+add-i : tie.Need-add-i Inv-loop μ-loop
+add-i c = search needs
+
+loop-less : tie.Need-loop-less Inv-loop μ-loop
+loop-less c = search needs
+
+loop-again : tie.Need-loop-again Inv-loop μ-loop
+loop-again c = (omega arith, within-again (c .before .before .before .before .before .before .before .before .pre .1 .1 .0) (c .before .before .before .before .before .before .before .before .pre .0) (c .before .before .before .before .before .loop .inv .1) (c .before .before .refine-triangle-within .ensures))
+
+same-length : tie.Need-same-length Inv-loop μ-loop
+same-length c = c .before .loop .inv .1 .same-length
+
+returns : tie.Need-returns Inv-loop μ-loop
+returns c = let e : c .before .loop .i ≡ c .before .before .before .before .args .t = omega arith in rw e at (c .before .loop .inv .1 .stands)
+
+pub refine-triangles-within-spec : {M : Type 1} → statement M
+refine-triangles-within-spec =
+    tie.close
+    (tie.spec
+    Inv-loop
+    μ-loop
+    loop-holds
+    refine-triangle-within-requires
+    add-i
+    loop-less
+    loop-again
+    same-length
+    returns)
