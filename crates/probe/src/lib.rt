@@ -159,19 +159,13 @@ fn visit_points(alpha: &[f64], points: &[f64], at: Pair, i: usize, j: usize, k: 
     Visit::Passed
 }
 
-fn wide(x: u32) -> usize
-    ensures { λ r. ⌜ r ≡ x ⌝ }
-{
-    x as usize
-}
-
 fn visit_triangle(alpha: &[f64], points: &[f64], tris: &[u32], at: Pair, t: usize) -> Visit
     requires { ⌜ (3 * length (now alpha) ≤ length (now points)) × (3 * t + 2 < length (now tris)) ⌝ }
     ensures { λ r. ⌜ r ≡ visitAt (now (alpha .entry)) (now (points .entry)) (now (tris .entry)) at t ⌝ }
 {
-    let i = wide(tris[3 * t]);
-    let j = wide(tris[3 * t + 1]);
-    let k = wide(tris[3 * t + 2]);
+    let i = mesh::index(tris[3 * t]);
+    let j = mesh::index(tris[3 * t + 1]);
+    let k = mesh::index(tris[3 * t + 2]);
     visit_points(alpha, points, at, i, j, k)
 }
 

@@ -4,51 +4,16 @@ ghost use Prim.Native.Nat.{_+_, _<_, _≤_};
 ghost use lib.ListN.{length};
 use refine_call::Answer;
 use refine_call::Counts;
+use replay::rows::corners;
+use replay::rows::count;
+use replay::rows::double;
+use replay::rows::doubles;
+use replay::rows::same;
 
 // What the result slices hold before the call.
 const MARK: f64 = -7.5;
 
 const MARK_U32: u32 = 0xdead_beef;
-
-// The double that is word k of the row at `at`.
-pub fn double(text: &[u8], at: usize, k: usize) -> f64
-    requires { ⌜ (at < 0x1000_0000_0000_0000) × (k < 512) ⌝ }
-{
-    float::from_bits(replay::word(text, at + k))
-}
-
-pub fn same(answer: f64, recorded: f64) -> bool {
-    replay::same_double(float::bits(answer), float::bits(recorded))
-}
-
-// Doubles out of the row's words k, k + 1, ..
-fn doubles(text: &[u8], at: usize, k: usize, out: &mut [f64])
-    requires { ⌜ (at < 0x1000_0000_0000_0000) × (k + length (now out) ≤ 512) ⌝ }
-{
-    for i in 0..out.len() {
-        out[i] = double(text, at, k + i);
-    }
-}
-
-// Corners likewise.
-fn corners(text: &[u8], at: usize, k: usize, out: &mut [u32])
-    requires { ⌜ (at < 0x1000_0000_0000_0000) × (k + length (now out) ≤ 512) ⌝ }
-{
-    for i in 0..out.len() {
-        out[i] = (replay::word(text, at + (k + i)) % 0x1_0000_0000) as u32;
-    }
-}
-
-// A count out of the row, at most `most`.
-fn count(text: &[u8], at: usize, most: usize) -> usize
-    ensures { λ r. ⌜ r ≤ most ⌝ }
-{
-    let n = replay::word(text, at);
-    if n < most as u64 {
-        return n as usize;
-    }
-    most
-}
 
 // Whether a slice starts with `front` doubles as recorded from word k on, and holds the mark from there to its end.
 fn same_doubles(text: &[u8], at: usize, k: usize, front: usize, out: &[f64]) -> bool

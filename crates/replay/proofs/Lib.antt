@@ -1,1 +1,2 @@
 mod Spell
+pub mod Fill

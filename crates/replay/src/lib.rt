@@ -2,7 +2,10 @@
 // and one byte that parts it from the next (a blank or a line feed), read in pieces of whole words.
 //
 // A program opens its file by `open`, fills a `chunk` by `io::read_full` again and again, takes the
-// words out by `word`, compares by `same_double`, and prints its counts by `report`.
+// words out by `word`, compares by `same_double`, and prints its counts by `report`. Module `rows` has
+// what rows of doubles and corners need, and the tally of a list.
+pub mod rows;
+
 ghost use mathlib.Core.Path.{_≡_};
 ghost use Prim.Native.Nat.{_<_};
 ghost use lib.ListN.{length, getD};

@@ -1,37 +1,12 @@
 // Rows that hold a small floor: counts first, then the answer, the angles, the points and the corners, each at its own place.
-ghost use Prim.Native.Nat.{_+_, _<_, _≤_};
-ghost use lib.ListN.{length};
+ghost use Prim.Native.Nat.{_<_};
 use probe::Probe;
+use replay::rows::corners;
+use replay::rows::count;
+use replay::rows::double;
+use replay::rows::doubles;
+use replay::rows::same;
 use singularities::Singularities;
-
-// Doubles out of the row's words k, k + 1, ..
-fn doubles(text: &[u8], at: usize, k: usize, out: &mut [f64])
-    requires { ⌜ (at < 0x1000_0000_0000_0000) × (k + length (now out) ≤ 64) ⌝ }
-{
-    for i in 0..out.len() {
-        out[i] = crate::rows::double(text, at, k + i);
-    }
-}
-
-// Corners likewise.
-fn corners(text: &[u8], at: usize, k: usize, out: &mut [u32])
-    requires { ⌜ (at < 0x1000_0000_0000_0000) × (k + length (now out) ≤ 64) ⌝ }
-{
-    for i in 0..out.len() {
-        out[i] = (replay::word(text, at + (k + i)) % 0x1_0000_0000) as u32;
-    }
-}
-
-// A count out of the row, at most `most`.
-fn count(text: &[u8], at: usize, most: usize) -> usize
-    ensures { λ r. ⌜ r ≤ most ⌝ }
-{
-    let n = replay::word(text, at);
-    if n < most as u64 {
-        return n as usize;
-    }
-    most
-}
 
 // Whether the answer is the one recorded: 1 not of whole triples, 2 no angle, 3 too large, or 4 and the angle.
 fn same_probe(text: &[u8], at: usize, answer: Probe) -> bool
@@ -44,7 +19,7 @@ fn same_probe(text: &[u8], at: usize, answer: Probe) -> bool
         Probe::TooLarge => kind == 3,
         Probe::Angle(angle) => {
             if kind == 4 {
-                crate::rows::same(angle, crate::rows::double(text, at, 6))
+                same(angle, double(text, at, 6))
             } else {
                 false
             }
@@ -59,8 +34,8 @@ fn ask_probe(text: &[u8], at: usize, alpha: &[f64], points: &[f64], tris: &[u32]
     let n = count(text, at, alpha.len());
     let p = count(text, at + 1, points.len());
     let t = count(text, at + 2, tris.len());
-    let x = crate::rows::double(text, at, 3);
-    let y = crate::rows::double(text, at, 4);
+    let x = double(text, at, 3);
+    let y = double(text, at, 4);
     same_probe(
         text,
         at,

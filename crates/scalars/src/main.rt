@@ -1,20 +1,11 @@
 // Replays the reference's answers on the scalars of a pass, on the probe and on the count of singularities.
 // data/README.md says how the lists were made. Prints a line for each list: how many answers, and how many differ.
 mod floors;
-mod rows;
+mod numbers;
 
+use replay::rows;
+use replay::rows::Tally;
 ghost use Prim.Native.Nat.{_<_, _≤_};
-
-// What a file has shown so far, and whether it may hold more.
-struct Tally {
-    more: bool,
-    recorded: u64,
-    differ: u64,
-}
-
-fn one_more(n: u64) -> u64 {
-    std::num::wrapping_add_u64(n, 1)
-}
 
 // The words of a row of each list.
 fn width(list: u64) -> usize
@@ -36,35 +27,16 @@ fn holds(text: &[u8], at: usize, list: u64) -> bool
     requires { ⌜ at < 0x1000_0000_0000_0000 ⌝ }
 {
     match list {
-        0 => rows::mass(text, at),
-        1 => rows::dirichlet(text, at),
-        2 => rows::diagonal(text, at),
-        3 => rows::cross(text, at),
-        4 => rows::wrap(text, at),
-        5 => rows::weight(text, at),
-        6 => rows::triangle(text, at),
-        7 => rows::transport(text, at),
+        0 => numbers::mass(text, at),
+        1 => numbers::dirichlet(text, at),
+        2 => numbers::diagonal(text, at),
+        3 => numbers::cross(text, at),
+        4 => numbers::wrap(text, at),
+        5 => numbers::weight(text, at),
+        6 => numbers::triangle(text, at),
+        7 => numbers::transport(text, at),
         8 => floors::probe(text, at),
         _ => floors::singular(text, at),
-    }
-}
-
-fn row(text: &[u8], at: usize, list: u64, seen: Tally) -> Tally
-    requires { ⌜ at < 0x1000_0000_0000_0000 ⌝ }
-{
-    let recorded = one_more(seen.recorded);
-    let differ = seen.differ;
-    if holds(text, at, list) {
-        return Tally {
-            more: true,
-            recorded,
-            differ,
-        };
-    }
-    Tally {
-        more: true,
-        recorded,
-        differ: one_more(differ),
     }
 }
 
@@ -72,14 +44,10 @@ fn row(text: &[u8], at: usize, list: u64, seen: Tally) -> Tally
 fn rows_of(text: &[u8], list: u64, start: Tally) -> Tally {
     let words = text.len() / replay::WORD;
     let step = width(list);
-    let mut seen = Tally {
-        more: false,
-        recorded: start.recorded,
-        differ: start.differ,
-    };
+    let mut seen = rows::paused(start);
     let mut at: usize = 0;
     while at < words {
-        seen = row(text, at, list, seen);
+        seen = rows::judged(seen, holds(text, at, list));
         at += step;
     }
     seen
@@ -95,11 +63,7 @@ fn some(fd: i32, list: u64, seen: Tally) -> Tally {
 // The whole file. The turns only fall so that the loop is known to end.
 fn all_of(name: &[u8], list: u64) {
     let fd = replay::open(name);
-    let mut seen = Tally {
-        more: true,
-        recorded: 0,
-        differ: 0,
-    };
+    let mut seen = rows::unseen();
     let mut turns = u64::MAX;
     while turns > 0 && seen.more {
         seen = some(fd, list, seen);

@@ -32,12 +32,6 @@ pub fn triangle_charge(a: f64, b: f64, c: f64) -> i64
     0
 }
 
-fn wide(x: u32) -> usize
-    ensures { λ r. ⌜ r ≡ x ⌝ }
-{
-    x as usize
-}
-
 // The charge of the corners i, j, k: 0 where one of them has no angle, or one that is not finite.
 fn charge_of(alpha: &[f64], i: usize, j: usize, k: usize) -> i64
     ensures { λ r. ⌜ r ≡ chargeOf (now (alpha .entry)) i j k ⌝ }
@@ -59,9 +53,9 @@ pub fn charge_at(alpha: &[f64], tris: &[u32], t: usize) -> i64
     requires { ⌜ 3 * t + 2 < length (now tris) ⌝ }
     ensures { λ r. ⌜ r ≡ chargeAt (now (alpha .entry)) (now (tris .entry)) t ⌝ }
 {
-    let i = wide(tris[3 * t]);
-    let j = wide(tris[3 * t + 1]);
-    let k = wide(tris[3 * t + 2]);
+    let i = mesh::index(tris[3 * t]);
+    let j = mesh::index(tris[3 * t + 1]);
+    let k = mesh::index(tris[3 * t + 2]);
     charge_of(alpha, i, j, k)
 }
 

@@ -12,6 +12,9 @@ abbrev μ-loop : tie.MeasureT-loop
 open-requires : tie.Need-open-requires Inv-loop μ-loop
 open-requires c κs = search needs
 
+unseen-requires : tie.Need-unseen-requires Inv-loop μ-loop
+unseen-requires c κs = search needs
+
 loop-holds : tie.Need-loop-holds Inv-loop μ-loop
 loop-holds c = search needs
 
@@ -43,6 +46,7 @@ all-of-spec =
     Inv-loop
     μ-loop
     open-requires
+    unseen-requires
     loop-holds
     some-requires
     sub-turns

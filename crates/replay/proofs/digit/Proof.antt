@@ -1,5 +1,5 @@
 -- `replay::digit` meets its contract: each return is the arm of `digitOf` that its tests choose. Assumes nothing.
-use borrow.Author.Tests.{lt-ltb, le-ltb, eq-eqb, ne-eqb}
+use borrow.Author.Tests.{lt-ltb, le-ltb}
 use native.Mathlib.Omega.{arith}
 use borrow.Author.Needs.{needs}
 use Rattle.replay.specs.Words.{digitOf}

@@ -6,17 +6,8 @@ use geometry::Geometry;
 use geometry::Transport;
 use geometry::TriangleGeometry;
 use plane::Pair;
-
-// The double that is word k of the row at `at`.
-pub fn double(text: &[u8], at: usize, k: usize) -> f64
-    requires { ⌜ (at < 0x1000_0000_0000_0000) × (k < 64) ⌝ }
-{
-    float::from_bits(replay::word(text, at + k))
-}
-
-pub fn same(answer: f64, recorded: f64) -> bool {
-    replay::same_double(float::bits(answer), float::bits(recorded))
-}
+use replay::rows::double;
+use replay::rows::same;
 
 fn same_complex(answer: Complex, re: f64, im: f64) -> bool {
     if same(answer.re, re) {

@@ -1,0 +1,20 @@
+-- `replay::rows::judged` meets its contract: each return follows from the tests and the calls on its way.
+use borrow.Author.Needs.{needs}
+use Rattle.replay.proofs.rows.judged.Statement.{statement}
+use Rattle.replay.proofs.rows.judged.Tie as tie
+
+wrapping-add-u64-requires : tie.Need-wrapping-add-u64-requires
+wrapping-add-u64-requires c κs = search needs
+
+returns : tie.Need-returns
+returns c = simp (c .before .wrapping-add-u64 .ensures, c .if1 .taken)
+
+wrapping-add-u64-requires-2 : tie.Need-wrapping-add-u64-requires-2
+wrapping-add-u64-requires-2 c κs = search needs
+
+returns-2 : tie.Need-returns-2
+returns-2 c = simp (c .wrapping-add-u642 .ensures, c .before .before .wrapping-add-u64 .ensures, c .before .if1 .left)
+
+pub judged-spec : {M : Type 1} → statement M
+judged-spec =
+    tie.close (tie.spec wrapping-add-u64-requires returns wrapping-add-u64-requires-2 returns-2)

@@ -1,0 +1,36 @@
+-- Rows of recorded words: doubles, corners and counts, and what has been seen of a list of rows. Definitions only.
+use Prim.Native.Nat.{ℕ, zero, suc, _+_, _%_, _^_}
+use mathlib.Core.Bool.{Bool, true, false, cond}
+use mathlib.Core.List.{List, [], _∷_, _++_}
+use lib.Dec.{ltb}
+use lib.Ieee.{Float, binary64, ofBits, toBits}
+use Rattle.replay.specs.Words.{wordAt, sameDouble}
+use Rattle.replay.specs.declared.rows.Tally.{Tally}
+
+-- f 0, f 1, .. , as many as are asked for
+unfoldable pub upTo : {A : Type 0} → (ℕ → A) → ℕ → List A
+upTo f zero = []
+upTo f (suc i) = upTo f i ++ (f i ∷ [])
+
+-- word k as a double, and as the number of a point
+abbrev pub doubleAt : List ℕ → ℕ → Float
+doubleAt text k = ofBits binary64 (wordAt text k)
+
+abbrev pub cornerAt : List ℕ → ℕ → ℕ
+cornerAt text k = wordAt text k % 2 ^ 32
+
+-- a count, and the most that there is room for where the count is above it
+abbrev pub atMost : ℕ → ℕ → ℕ
+atMost most n = cond (ltb n most) n most
+
+-- two doubles are the same, where all NaNs are one
+abbrev pub sameAs : Float → Float → Bool
+sameAs x y = sameDouble (toBits binary64 x) (toBits binary64 y)
+
+-- one more, as a counter of 64 bits has it
+abbrev pub next : ℕ → ℕ
+next n = (n + 1) % 2 ^ 64
+
+-- a row more, which holds or differs
+abbrev pub judgedBy : Bool → Tally → Tally
+judgedBy b t = record { more = true; recorded = next (t .recorded); differ = cond b (t .differ) (next (t .differ)) }
