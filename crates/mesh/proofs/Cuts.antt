@@ -160,13 +160,13 @@ place-end s (x ∷ l) h = go (place-end s l) (side-discrete s x)
 
 -- ---- a side that is met
 
-pub met-old : (l : List Side) (s : Side) (k : ℕ) → place s l ≡ some k → met l s ≡ l
-unfolding met
-met-old l s k h = rw h
-
 pub met-new : (l : List Side) (s : Side) → place s l ≡ none → met l s ≡ l ++ (s ∷ [])
 unfolding met
 met-new l s h = rw h
+
+pub met-old : (l : List Side) (s : Side) (k : ℕ) → place s l ≡ some k → met l s ≡ l
+unfolding met
+met-old l s k h = rw h
 
 -- in the list, or not
 pub data Found (s : Side) (l : List Side) : Type 0 where
