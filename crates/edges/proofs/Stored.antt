@@ -12,6 +12,7 @@ use lib.ListN.{length, getD, set, length-set, length-append, replicate}
 use lib.Seq.{getD-set-same, getD-set-other, sets, length-sets}
 use Rattle.mesh.specs.Mesh.{Side, side, key, tri, place, met, metAll}
 use Rattle.mesh.proofs.Theorem.{place-below}
+use Rattle.mesh.proofs.Runs.{sets-before}
 use Rattle.mesh.proofs.Cuts.{key-either, place-keep, place-end, met-old, met-new, met-numbered, Found, found, missing, find}
 use Rattle.edges.specs.Table.{Table, slotOf, seek, last, pairs, headOf, loOf, hiOf, linkOf, sidesIn, Held, Outside, Met, MetTri, plus}
 use Rattle.edges.proofs.Chain.{Added, table-more, new-pairs, length-pairs, seek-none, seek-some}
@@ -201,15 +202,6 @@ found-key′ u v h t e = rw (⊎-elim (λ p. absurd (omega (arith, p .1))) (λ p
 pub zeros-more : (l : List ℕ) (i k : ℕ) → set (sets l i (replicate k 0)) (i + k) 0 ≡ sets l i (replicate (suc k) 0)
 zeros-more l i zero = let e : i + 0 ≡ i = omega arith in ap (λ (j : ℕ). set l j 0) e
 zeros-more l i (suc k) = let e : i + suc k ≡ suc i + k = omega arith in ap (λ (j : ℕ). set (sets (set l i 0) (suc i) (replicate k 0)) j 0) e ∙ zeros-more (set l i 0) (suc i) k
-
--- a run of stores leaves what stands before and behind it
-pub sets-before : {A : Type 0} (l : List A) (i : ℕ) (vs : List A) (j : ℕ) (d : A) → j < i → getD (sets l i vs) j d ≡ getD l j d
-sets-before l i [] j d h = refl
-sets-before l i (v ∷ vs) j d h = sets-before (set l i v) (suc i) vs j d (omega arith) ∙ getD-set-other l i j v d (omega arith)
-
-pub sets-behind : {A : Type 0} (l : List A) (i : ℕ) (vs : List A) (j : ℕ) (d : A) → i + length vs ≤ j → getD (sets l i vs) j d ≡ getD l j d
-sets-behind l i [] j d h = refl
-sets-behind l i (v ∷ vs) j d h = sets-behind (set l i v) (suc i) vs j d (omega arith) ∙ getD-set-other l i j v d (omega arith)
 
 pub zeros-at : (l : List ℕ) (i k j : ℕ) → i + k ≤ length l → j < k → getD (sets l i (replicate k 0)) (i + j) 0 ≡ 0
 zeros-at l i zero j r h = absurd (omega arith)

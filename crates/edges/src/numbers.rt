@@ -8,7 +8,8 @@ ghost use lib.Seq.{sets};
 ghost use Rattle.edges.specs.Table.{Held};
 ghost use Rattle.edges.specs.Numbering.{Plan, NumberStep, NumberedTo, Below, Counted};
 
-fn put_three(w: &mut [u32], at: usize, p: u32, q: u32, r: u32)
+// Three numbers in a row.
+pub fn put_three(w: &mut [u32], at: usize, p: u32, q: u32, r: u32)
     requires { ⌜ at + 3 ≤ length (now w) ⌝ }
     ensures { λ _. ⌜ now (w .exit) ≡ sets (now (w .entry)) at (p ∷ q ∷ r ∷ []) ⌝ }
 {

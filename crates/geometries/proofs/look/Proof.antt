@@ -1,0 +1,50 @@
+-- `geometries::look` meets its contract: each return follows from the tests and the calls on its way; the laws are in proofs/Steps.
+use borrow.Author.Needs.{needs}
+use Rattle.geometries.proofs.Steps.{corners-fit, looked-none, looked-kept}
+use Rattle.geometries.proofs.look.Statement.{statement}
+use Rattle.geometries.proofs.look.Tie as tie
+
+geometry-at-requires : tie.Need-geometry-at-requires
+geometry-at-requires c κs = search needs
+
+enum-known-found : tie.Need-enum-known-found
+enum-known-found c = search needs
+
+enum-told : tie.Need-enum-told
+enum-told c = search needs
+
+same-length : tie.Need-same-length
+same-length c = search needs
+
+same-length-2 : tie.Need-same-length-2
+same-length-2 c = search needs
+
+returns : tie.Need-returns
+returns c = looked-none _ _ _ (c .before .before .geometry-at .ensures) (c .enum-told .given .1)
+
+keep-requires : tie.Need-keep-requires
+keep-requires c κs = ((c .before .before .before .before .before .before .before .before .before .before .pre .0 .1 .0, c .before .before .before .before .before .before .before .before .before .before .pre .0 .1 .1 .1), corners-fit (c .before .before .before .before .before .before .before .before .before .before .args .x) (c .before .before .before .before .before .before .before .before .before .before .args .y) (c .before .before .before .before .before .before .before .before .before .before .args .n) (c .before .before .before .before .before .before .before .before .before .before .args .c) (c .before .before .before .before .before .before .before .before .before .before .args .w .now) (c .before .before .before .before .before .before .before .before .before .before .args .u .now) (c .before .before .before .before .before .before .before .before .before .before .args .t) _ (c .before .before .before .before .before .before .before .before .before .before .pre .1 .0) (c .before .before .before .before .before .before .before .before .before .before .pre .1 .1) (c .before .before .before .before .before .geometry-at .ensures) (c .before .before .before .found .given .1))
+
+same-length-3 : tie.Need-same-length-3
+same-length-3 c = search needs
+
+same-length-4 : tie.Need-same-length-4
+same-length-4 c = search needs
+
+returns-2 : tie.Need-returns-2
+returns-2 c = looked-kept _ _ _ (c .before .before .before .before .before .before .before .before .before .before .geometry-at .ensures) (c .before .before .before .before .before .before .before .before .found .given .1) (c .before .before .before .before .keep .ensures)
+
+pub look-spec : {M : Type 1} → statement M
+look-spec =
+    tie.close
+    (tie.spec
+    geometry-at-requires
+    enum-known-found
+    enum-told
+    same-length
+    same-length-2
+    returns
+    keep-requires
+    same-length-3
+    same-length-4
+    returns-2)

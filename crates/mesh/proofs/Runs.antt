@@ -1,0 +1,31 @@
+-- Runs of stores into a list: one behind another, one more number, and what stands before and behind a run. Assumes nothing.
+use Prim.Native.Nat.{ℕ, zero, suc, _+_, _≤_, _<_}
+use native.Mathlib.Omega.{arith}
+use native.Mathlib.Numerals.{add-one}
+use mathlib.Core.Path.{_≡_, refl, sym, ap, _∙_, subst}
+use mathlib.Core.List.{List, [], _∷_, _++_}
+use lib.ListN.{length, getD, set, take}
+use lib.Seq.{sets, getD-set-other, take-suc, length-take-le}
+
+module _ {ℓ} {A : Type ℓ} where
+  pub sets-append : (l : List A) (i : ℕ) (xs ys : List A) → sets (sets l i xs) (i + length xs) ys ≡ sets l i (xs ++ ys)
+  sets-append l i [] ys = let e : i + 0 ≡ i = omega arith in ap (λ (j : ℕ). sets l j ys) e
+  sets-append l i (x ∷ xs) ys =
+      let e : i + suc (length xs) ≡ suc i + length xs = omega arith in
+      ap (λ (j : ℕ). sets (sets (set l i x) (suc i) xs) j ys) e ∙ sets-append (set l i x) (suc i) xs ys
+
+  -- the next number of a copy
+  pub copy-more : (l : List A) (i : ℕ) (s : List A) (j : ℕ) (d : A) → j < length s → set (sets l i (take j s)) (i + j) (getD s j d) ≡ sets l i (take (j + 1) s)
+  copy-more l i s j d h =
+      let n : length (take j s) ≡ j = length-take-le j s (omega arith) in
+      let z : take (j + 1) s ≡ take j s ++ (getD s j d ∷ []) = rw add-one (take-suc s j d h) in
+      subst (λ (k : ℕ). set (sets l i (take j s)) (i + k) (getD s j d) ≡ sets l i (take (j + 1) s)) n
+      (sets-append l i (take j s) (getD s j d ∷ []) ∙ ap (sets l i) (sym z))
+
+  pub sets-before : (l : List A) (i : ℕ) (vs : List A) (j : ℕ) (d : A) → j < i → getD (sets l i vs) j d ≡ getD l j d
+  sets-before l i [] j d h = refl
+  sets-before l i (v ∷ vs) j d h = sets-before (set l i v) (suc i) vs j d (omega arith) ∙ getD-set-other l i j v d (omega arith)
+
+  pub sets-behind : (l : List A) (i : ℕ) (vs : List A) (j : ℕ) (d : A) → i + length vs ≤ j → getD (sets l i vs) j d ≡ getD l j d
+  sets-behind l i [] j d h = refl
+  sets-behind l i (v ∷ vs) j d h = sets-behind (set l i v) (suc i) vs j d (omega arith) ∙ getD-set-other l i j v d (omega arith)
