@@ -14,7 +14,7 @@ ghost use Rattle.geometry.specs.Triangle.{at};
 ghost use Rattle.geometries.specs.Geometries.{geometryOn, coordsFrom, Room, Looked, Kept};
 
 // Point v.
-fn position(w: &[f64], x: usize, y: usize, v: usize) -> Pair
+pub fn position(w: &[f64], x: usize, y: usize, v: usize) -> Pair
     requires { ⌜ (x + v < length (now w)) × (y + v < length (now w)) ⌝ }
     ensures { λ r. ⌜ r ≡ at (coordsFrom (now (w .entry)) x) (coordsFrom (now (w .entry)) y) v ⌝ }
 {
