@@ -64,14 +64,15 @@ unfolding scan
 size-scan l zero = omega arith
 size-scan l (suc i) = omega (arith, size-scan l i, size-step (scan l i) (getD l i 0), pow-suc 10 i)
 
-pub few : (l : List ℕ) (i : ℕ) → i < 6 → sizeOf (scan l i) < 1000000
+pub few : (l : List ℕ) (i : ℕ) → i ≤ 6 → sizeOf (scan l i) < 1000000
 few l zero h = omega (arith, size-scan l 0)
 few l (suc zero) h = omega (arith, size-scan l 1)
 few l (suc (suc zero)) h = omega (arith, size-scan l 2)
 few l (suc (suc (suc zero))) h = omega (arith, size-scan l 3)
 few l (suc (suc (suc (suc zero)))) h = omega (arith, size-scan l 4)
 few l (suc (suc (suc (suc (suc zero))))) h = omega (arith, size-scan l 5)
-few l (suc (suc (suc (suc (suc (suc i)))))) h = absurd (omega arith)
+few l (suc (suc (suc (suc (suc (suc zero)))))) h = omega (arith, size-scan l 6)
+few l (suc (suc (suc (suc (suc (suc (suc i))))))) h = absurd (omega arith)
 
 pub scan-none : (l : List ℕ) → Blank ≡ scan l 0
 unfolding scan
