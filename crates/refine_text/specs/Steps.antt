@@ -1,0 +1,29 @@
+-- Definitions for the steps below `answer`: a line of the writer, and the bytes of a call by what its check found.
+use Prim.Native.Nat.{ℕ, _+_, _*_, _/_, _≤_}
+use mathlib.Core.Path.{_≡_}
+use mathlib.Core.List.{List, [], _∷_}
+use lib.ListN.{getD}
+use Rattle.floor.specs.declared.Check.{Check}
+use Rattle.floor.specs.declared.Check.the-variants.{Sound, Refused}
+use Rattle.refinement.specs.Floor.{Refined}
+use Rattle.columns.specs.Columns.{lineOf}
+use Rattle.refine_text.specs.Printed.{written, refusedLine, longest}
+
+abbrev pub lineAt : List ℕ → ℕ → List ℕ
+lineAt l i = lineOf (getD l (3 * i) 0 ∷ getD l (3 * i + 1) 0 ∷ getD l (3 * i + 2) 0 ∷ [])
+
+abbrev pub sideAt : List ℕ → ℕ → List ℕ
+sideAt l i = lineOf (getD l (2 * i) 0 ∷ getD l (2 * i + 1) 0 ∷ [])
+
+abbrev pub bytesOf : Check → Refined → List ℕ
+bytesOf Sound r = written r
+bytesOf (Refused x) r = refusedLine
+
+-- at most 256 triangles, four result slices that hold any refinement of 256 points and 256 triangles, and room for the longest answer
+pub record Sized (corners op os ot oe out : ℕ) : Type 0 where
+  pub few : corners / 3 ≤ 256
+  pub in-points : op ≡ 3072
+  pub in-sizes : os ≡ 1024
+  pub in-triangles : ot ≡ 3072
+  pub in-ends : oe ≡ 2048
+  pub roomy : longest ≤ out
