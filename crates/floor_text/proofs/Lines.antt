@@ -95,17 +95,17 @@ three-stores l i a b c =
     rw (e₁, e₂) refl
 
 module _ (s : List ℕ) where
-  points-length : (n : ℕ) → length (pointsUpTo s n) ≡ 3 * n
+  pub points-length : (n : ℕ) → length (pointsUpTo s n) ≡ 3 * n
   unfolding pointsUpTo
   points-length zero = refl
   points-length (suc n) = length-append (pointsUpTo s n) _ ∙ omega (arith, points-length n)
 
-  angles-length : (n : ℕ) → length (anglesUpTo s n) ≡ n
+  pub angles-length : (n : ℕ) → length (anglesUpTo s n) ≡ n
   unfolding anglesUpTo
   angles-length zero = refl
   angles-length (suc n) = length-append (anglesUpTo s n) _ ∙ omega (arith, angles-length n)
 
-  corners-length : (n t : ℕ) → length (cornersUpTo s n t) ≡ 3 * t
+  pub corners-length : (n t : ℕ) → length (cornersUpTo s n t) ≡ 3 * t
   unfolding cornersUpTo
   corners-length n zero = refl
   corners-length n (suc t) = length-append (cornersUpTo s n t) _ ∙ omega (arith, corners-length n t)
