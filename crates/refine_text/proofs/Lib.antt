@@ -1,3 +1,3 @@
 mod Lines
 mod Call
-mod Whole
+pub mod Whole

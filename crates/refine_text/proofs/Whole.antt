@@ -4,7 +4,8 @@ use native.Mathlib.Omega.{arith}
 use mathlib.Core.Path.{_≡_, refl, sym, ap, _∙_, subst}
 use mathlib.Core.Bool.{Bool, true, false, not, cond, _&&_}
 use mathlib.Core.List.{List, [], _∷_, _++_}
-use borrow.Author.Tests.{lt-leb, le-leb}
+use borrow.Author.Tests.{lt-leb, le-leb, leb-true}
+use lib.Dec.{leb}
 use lib.ListN.{length, take, drop, replicate, length-replicate}
 use lib.Seq.{sets, sets-eq, take-at}
 use lib.Ieee.{Float}
@@ -109,3 +110,11 @@ answer-long s out h e =
     let k : 0 + length (printed s) ≤ length out = omega (arith, printed-fits s) in
     let z : 0 + length (printed s) ≡ length (printed s) = omega arith in
     (e .0 ∙ rw (le-leb longest (length out) h) (sets-eq (printed s) out 0 k ∙ ap (λ (i : ℕ). printed s ++ drop i out) z), e .1 ∙ rw (le-leb longest (length out) h) refl)
+
+-- what is written never passes the slice's end
+pub count-fits : (s out : List ℕ) → countBy s out ≤ length out
+count-fits s out = go (leb longest (length out)) refl
+  where
+    go : (b : Bool) → leb longest (length out) ≡ b → cond b (length (printed s)) 0 ≤ length out
+    go true e = omega (arith, printed-fits s, leb-true longest (length out) e)
+    go false e = omega arith
