@@ -20,9 +20,10 @@ use Rattle.refinement.specs.Floor.{Refined, refinementOf, tris, trisOf, corners
 use Rattle.refine_call.specs.declared.Answer.{Answer}
 use Rattle.refine_call.specs.declared.Answer.the-variants.{Refinement}
 use Rattle.refine_call.specs.Call.{badThreshold, short, andThen, checkRest, checkCall, countsOf, answerOf, left, Called}
-use Rattle.refine_text.specs.Printed.{longest, refusedLine, written, linesOf, sidesUpTo, isSound, bytesFor, Holds}
+use Rattle.refine_lines.specs.Lines.{refusedLine, linesOf, sidesUpTo, bytesFor, Holds}
+use Rattle.refine_lines.proofs.Lines.{tris-length, tris-of, sides-of}
+use Rattle.refine_text.specs.Printed.{longest, written, isSound}
 use Rattle.refine_text.specs.Steps.{bytesOf, Sized}
-use Rattle.refine_text.proofs.Lines.{tris-length, tris-of, sides-of}
 
 -- ---- how many
 

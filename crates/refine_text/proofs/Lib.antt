@@ -1,3 +1,3 @@
-mod Lines
 mod Call
 pub mod Whole
+pub mod Listing

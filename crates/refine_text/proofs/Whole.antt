@@ -17,9 +17,10 @@ use Rattle.floor_text.specs.declared.Read.{Read}
 use Rattle.floor_text.specs.declared.Read.the-variants.{Floor, Other}
 use Rattle.floor_text.specs.Text.{isText, pointCount, triangleCount, pointsIn, anglesIn, cornersIn, sizesIn, thresholdIn, readOf, ReadTo}
 use Rattle.floor_text.proofs.Lines.{Known, known, points-length, angles-length, corners-length}
-use Rattle.refine_text.specs.Printed.{longest, refusedLine, written, accepted, printed, isSound, filledBy, countBy}
+use Rattle.refine_text.specs.Printed.{longest, written, accepted, printed, isSound, filledBy, countBy}
 use Rattle.refine_text.specs.Steps.{bytesOf, bytesFrom}
-use Rattle.refine_text.proofs.Lines.{lines-long}
+use Rattle.refine_lines.specs.Lines.{refusedLine}
+use Rattle.refine_lines.proofs.Lines.{lines-long}
 use Rattle.refine_text.proofs.Call.{Few, few, check-is, bytes-by}
 
 -- ---- what was read

@@ -1,21 +1,15 @@
--- Definitions for the steps below `answer`: a line of the writer, and the bytes of a call by what its check found.
-use Prim.Native.Nat.{ℕ, _+_, _*_, _/_, _≤_}
+-- Definitions for the steps below `answer`: the bytes of a call of refinement by what its check found, and the slices that it is lent.
+use Prim.Native.Nat.{ℕ, _/_, _≤_}
 use mathlib.Core.Path.{_≡_}
-use mathlib.Core.List.{List, [], _∷_}
-use lib.ListN.{length, getD}
+use mathlib.Core.List.{List}
+use lib.ListN.{length}
 use lib.Ieee.{Float}
 use Rattle.floor.specs.declared.Check.{Check}
 use Rattle.floor.specs.declared.Check.the-variants.{Sound, Refused}
 use Rattle.refinement.specs.Floor.{Refined, refinementOf, trisOf}
 use Rattle.refine_call.specs.Call.{checkCall}
-use Rattle.columns.specs.Columns.{lineOf}
-use Rattle.refine_text.specs.Printed.{written, refusedLine, longest}
-
-abbrev pub lineAt : List ℕ → ℕ → List ℕ
-lineAt l i = lineOf (getD l (3 * i) 0 ∷ getD l (3 * i + 1) 0 ∷ getD l (3 * i + 2) 0 ∷ [])
-
-abbrev pub sideAt : List ℕ → ℕ → List ℕ
-sideAt l i = lineOf (getD l (2 * i) 0 ∷ getD l (2 * i + 1) 0 ∷ [])
+use Rattle.refine_lines.specs.Lines.{refusedLine}
+use Rattle.refine_text.specs.Printed.{written, longest}
 
 abbrev pub bytesOf : Check → Refined → List ℕ
 bytesOf Sound r = written r

@@ -1,4 +1,4 @@
--- `refine_text::write_answer` meets its contract: each arm is the clause of `bytesFor`. Assumes nothing.
+-- `refine_lines::write_answer` meets its contract: each arm is the clause of `bytesFor`. Assumes nothing.
 use borrow.Author.Needs.{needs}
 use native.Mathlib.Omega.{arith}
 use mathlib.Core.Path.{_≡_, refl, sym, ap, _∙_, subst}
@@ -7,9 +7,9 @@ use lib.ListN.{length, take, drop, getD, length-set}
 use lib.Seq.{sets, length-sets}
 use mathlib.Core.List.{List}
 use Rattle.refine_call.specs.declared.Answer.{Answer}
-use Rattle.refine_text.specs.Printed.{bytesFor, Holds}
-use Rattle.refine_text.proofs.write_answer.Statement.{statement}
-use Rattle.refine_text.proofs.write_answer.Tie as tie
+use Rattle.refine_lines.specs.Lines.{bytesFor, Holds}
+use Rattle.refine_lines.proofs.write_answer.Statement.{statement}
+use Rattle.refine_lines.proofs.write_answer.Tie as tie
 
 enum-known-answer : tie.Need-enum-known-answer
 enum-known-answer c = search needs

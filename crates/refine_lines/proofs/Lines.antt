@@ -12,8 +12,8 @@ use Rattle.refine_call.specs.declared.Counts.{Counts}
 use Rattle.columns.specs.Columns.{lineOf}
 use Rattle.columns.proofs.Columns.{line-length}
 use Rattle.columns.proofs.Stores.{sets-behind}
-use Rattle.refine_text.specs.Printed.{triangleLines, sideLines, linesOf, sidesUpTo}
-use Rattle.refine_text.specs.Steps.{lineAt, sideAt}
+use Rattle.refine_lines.specs.Lines.{triangleLines, sideLines, linesOf, sidesUpTo}
+use Rattle.refine_lines.specs.Lines.{lineAt, sideAt}
 
 -- ---- triangles
 

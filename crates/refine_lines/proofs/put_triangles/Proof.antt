@@ -1,4 +1,4 @@
--- `refine_text::put_triangles` meets its contract: after i turns the lines of the first i are written; the laws are in proofs/Lines. Assumes nothing.
+-- `refine_lines::put_triangles` meets its contract: after i turns the lines of the first i are written; the laws are in proofs/Lines. Assumes nothing.
 use borrow.Author.Needs.{needs}
 use native.Mathlib.Omega.{arith}
 use mathlib.Core.Path.{_≡_, refl, sym, ap, _∙_, subst}
@@ -6,10 +6,10 @@ use Prim.Native.Nat.{ℕ, _+_, _-_, _*_, _≤_, _<_}
 use lib.ListN.{length, take, drop, getD, length-set}
 use lib.Seq.{sets, length-sets}
 use Rattle.refinement.specs.Floor.{tris}
-use Rattle.refine_text.specs.Printed.{triangleLines, sideLines, sidesUpTo}
-use Rattle.refine_text.proofs.Lines.{triangles-none, triangles-again}
-use Rattle.refine_text.proofs.put_triangles.Statement.{statement}
-use Rattle.refine_text.proofs.put_triangles.Tie as tie
+use Rattle.refine_lines.specs.Lines.{triangleLines, sideLines, sidesUpTo}
+use Rattle.refine_lines.proofs.Lines.{triangles-none, triangles-again}
+use Rattle.refine_lines.proofs.put_triangles.Statement.{statement}
+use Rattle.refine_lines.proofs.put_triangles.Tie as tie
 
 abbrev Inv-loop : tie.InvT-loop
 Inv-loop ot k out₀ at i₀ out i = (i ≤ k) × ((length out ≡ length out₀) × (out ≡ sets out₀ at (triangleLines (tris ot i))))

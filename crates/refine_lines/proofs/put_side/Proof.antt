@@ -1,8 +1,8 @@
--- `refine_text::put_side` meets its contract: the line of its row. Assumes nothing.
+-- `refine_lines::put_side` meets its contract: the line of its row. Assumes nothing.
 use borrow.Author.Needs.{needs}
 use mathlib.Core.Path.{_≡_, refl, sym, ap, _∙_, subst}
-use Rattle.refine_text.proofs.put_side.Statement.{statement}
-use Rattle.refine_text.proofs.put_side.Tie as tie
+use Rattle.refine_lines.proofs.put_side.Statement.{statement}
+use Rattle.refine_lines.proofs.put_side.Tie as tie
 
 mul-wide : tie.Need-mul-wide
 mul-wide c = search needs
