@@ -3,17 +3,17 @@ use Prim.Native.Nat.{ℕ, zero, suc, _+_, _-_, _*_, _/_, _%_, _^_, _≤_, _<_}
 use native.Mathlib.Omega.{arith}
 use native.Mathlib.Nat.{pow-suc}
 use native.Mathlib.Numerals.{add-one}
-use mathlib.Core.Path.{_≡_, refl, sym, ap, _∙_, subst}
+use mathlib.Core.Path.{_≡_, refl, sym, ap, _∙_}
 use mathlib.Core.Bool.{Bool, true, false, cond, _&&_}
 use mathlib.Core.List.{List, [], _∷_, _++_, append-assoc, append-nil}
 use borrow.Author.Tests.{eqb-true, ltb-true}
 use lib.Dec.{eqb, ltb}
-use lib.ListN.{length, getD, take, replicate, length-append, length-replicate, replicate-append-replicate}
+use lib.ListN.{length, getD, take, replicate, length-append, replicate-append-replicate}
 use lib.Seq.{sets, take-suc, length-take-le}
 use Rattle.columns.specs.declared.Scan.{Scan}
 use Rattle.columns.specs.declared.Scan.the-variants.{Blank, Minus, Zero, Whole, Negative, Bad}
-use Rattle.columns.specs.Columns.{mark, lead, inSix, columnOf, columnsOf, lineOf, place, isLead, isDigit, afterBlank, afterMinus, step, scan, sizeOf}
-use Rattle.columns.proofs.Stores.{sets-append, sets-behind}
+use Rattle.columns.specs.Columns.{lead, inSix, columnOf, columnsOf, lineOf, place, isLead, isDigit, afterBlank, afterMinus, step, scan, sizeOf}
+use Rattle.columns.proofs.Stores.{sets-behind}
 
 -- ---- tests
 

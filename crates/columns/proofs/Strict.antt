@@ -7,9 +7,9 @@ use native.Mathlib.Numerals.{add-one}
 use mathlib.Core.Path.{_≡_, refl, sym, ap, _∙_, subst}
 use mathlib.Core.Bool.{Bool, true, false, cond}
 use mathlib.Core.List.{List, [], _∷_, _++_}
-use borrow.Author.Tests.{eqb-true, eqb-false, eq-eqb, ne-eqb, lt-ltb, le-ltb}
+use borrow.Author.Tests.{eqb-true, ne-eqb, lt-ltb}
 use lib.Dec.{eqb, ltb}
-use lib.IntN.{ℤ, pos, negsuc, negℤ}
+use lib.IntN.{ℤ, pos, negsuc}
 use lib.Ieee.{Format, binary64, prec, emax, low, inf, size, nearest, odd, units, round, neg, ofInt, ofBits}
 use Rattle.float.specs.Double.{lit}
 use lib.ListN.{length, getD, take, replicate, length-append, length-replicate, getD-replicate, replicate-append-replicate, List·getD-append}

@@ -2,9 +2,9 @@
 use Prim.Native.Nat.{ℕ, zero, suc, _+_, _-_, _*_, _≤_, _<_}
 use native.Mathlib.Omega.{arith}
 use native.Mathlib.Numerals.{add-one}
-use mathlib.Core.Path.{_≡_, refl, sym, ap, _∙_, subst}
-use mathlib.Core.Bool.{Bool, true, false, not, cond, _&&_}
-use mathlib.Core.List.{List, [], _∷_, _++_}
+use mathlib.Core.Path.{_≡_, refl, sym, _∙_}
+use mathlib.Core.Bool.{Bool, true, false, not, _&&_}
+use mathlib.Core.List.{List, [], _∷_}
 use borrow.Author.Tests.{eqb-true, leb-true, ne-eqb}
 use lib.Dec.{eqb, leb}
 use lib.ListN.{length, length-append, length-take, take, drop, set}
@@ -14,7 +14,7 @@ use Rattle.float.specs.Double.{lit}
 use Rattle.columns.specs.Columns.{isWhole, sizeOf, doubleOf}
 use Rattle.columns.proofs.Columns.{few, and-both}
 use Rattle.columns.proofs.Stores.{sets-behind}
-use Rattle.floor_text.specs.Text.{columnAt, first, second, third, isLine, isCorners, every, pointCount, triangleCount, isHead, isText, radians, pointsUpTo, anglesUpTo, cornersUpTo, thresholdIn, ReadTo}
+use Rattle.floor_text.specs.Text.{columnAt, first, second, third, isLine, every, pointCount, triangleCount, isHead, isText, radians, pointsUpTo, anglesUpTo, cornersUpTo, thresholdIn, ReadTo}
 use Rattle.floor_text.specs.declared.Read.the-variants.{Floor, Other}
 
 -- a column has at most six digits

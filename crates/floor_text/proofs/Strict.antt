@@ -2,7 +2,7 @@
 use Prim.Native.Nat.{ℕ, zero, suc, _+_, _-_, _*_, _/_, _%_, _≤_, _<_}
 use native.Mathlib.Omega.{arith}
 use mathlib.Core.Path.{_≡_, refl, sym, ap, _∙_, subst}
-use mathlib.Core.Bool.{Bool, true, false, _&&_}
+use mathlib.Core.Bool.{Bool, true, false}
 use mathlib.Core.List.{List}
 use borrow.Author.Tests.{eqb-true, ltb-true, ltb-false}
 use lib.Dec.{eqb, ltb}
@@ -11,11 +11,11 @@ use lib.ListN.{length, getD, take, drop, length-drop}
 use lib.Seq.{ext-getD, getD-take, getD-drop, length-take-le}
 use Rattle.columns.specs.declared.Scan.{Scan}
 use Rattle.columns.specs.declared.Scan.the-variants.{Blank, Minus, Zero, Whole, Negative, Bad}
-use Rattle.columns.specs.Columns.{shown, isNumber, isWhole, sizeOf, valueOf}
+use Rattle.columns.specs.Columns.{isNumber, isWhole, sizeOf, valueOf}
 use Rattle.columns.proofs.Columns.{and-both}
 use Rattle.columns.proofs.Strict.{alike}
 use Rattle.floor_text.specs.Text.{columnAt, first, second, third, isLine, isCorners, every, pointCount, triangleCount, isHead, isText}
-use Rattle.floor_text.proofs.Lines.{Known, known}
+use Rattle.floor_text.proofs.Lines.{known}
 
 -- ---- every line of a text is a line of numbers
 

@@ -1,26 +1,23 @@
 -- The refinement call on slices of full size: how many triangles and cut sides there can be, that row 18 does not come up, and that the lines of its
 -- answer are those of the refined floor. Assumes nothing.
-use Prim.Native.Nat.{ℕ, zero, suc, _+_, _*_, _/_, _%_, _≤_, _<_}
+use Prim.Native.Nat.{ℕ, suc, _+_, _*_, _/_, _%_, _≤_}
 use native.Mathlib.Omega.{arith}
-use mathlib.Core.Path.{_≡_, refl, sym, ap, _∙_, subst}
-use mathlib.Core.Bool.{Bool, true, false, not, cond, _&&_, _||_}
+use mathlib.Core.Path.{_≡_, refl, ap, _∙_, subst}
+use mathlib.Core.Bool.{Bool, true, false, not, cond, _&&_}
 use mathlib.Core.List.{List, [], _∷_, _++_}
 use mathlib.Core.Option.{Option, none, some}
 use borrow.Author.Tests.{eq-eqb, le-ltb, le-leb}
-use lib.Dec.{eqb, ltb, leb}
 use lib.ListN.{length, length-append, drop}
 use lib.Ieee.{Float}
-use Rattle.mesh.specs.Mesh.{Tri, tri, Side, side, sides, place, isNone, met, metAll, sidesAfter, marked, cuts, mid, split, pieces, refined, refine}
-use Rattle.floor.specs.declared.Refusal.{Refusal}
+use Rattle.mesh.specs.Mesh.{Tri, tri, Side, sides, place, isNone, met, metAll, sidesAfter, marked, cuts, mid, split, pieces, refined, refine}
 use Rattle.floor.specs.declared.Check.{Check}
 use Rattle.floor.specs.declared.Check.the-variants.{Sound, Refused}
 use Rattle.floor.specs.Checks.{row, wellFormed, checkFloor}
 use Rattle.refinement.specs.Flag.{flaggedTri}
-use Rattle.refinement.specs.Floor.{Refined, refinementOf, tris, trisOf, cornersOf, endsOf, over}
+use Rattle.refinement.specs.Floor.{Refined, refinementOf, trisOf, cornersOf, endsOf}
 use Rattle.refine_call.specs.declared.Answer.{Answer}
-use Rattle.refine_call.specs.declared.Answer.the-variants.{Refinement}
-use Rattle.refine_call.specs.Call.{badThreshold, short, andThen, checkRest, checkCall, countsOf, answerOf, left, Called}
-use Rattle.refine_lines.specs.Lines.{refusedLine, linesOf, sidesUpTo, bytesFor, Holds}
+use Rattle.refine_call.specs.Call.{badThreshold, short, andThen, checkRest, checkCall, answerOf, Called}
+use Rattle.refine_lines.specs.Lines.{refusedLine, bytesFor, Holds}
 use Rattle.refine_lines.proofs.Lines.{tris-length, tris-of, sides-of}
 use Rattle.refine_text.specs.Printed.{longest, written, isSound}
 use Rattle.refine_text.specs.Steps.{bytesOf, Sized}

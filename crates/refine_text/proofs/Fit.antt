@@ -2,22 +2,20 @@
 -- crates/columns/proofs/Strict.antt each printed column reads as its number. Assumes nothing.
 use Prim.Native.Nat.{ℕ, zero, suc, _+_, _*_, _/_, _≤_, _<_}
 use native.Mathlib.Omega.{arith}
-use mathlib.Core.Path.{_≡_, refl, sym, ap, _∙_, subst}
+use mathlib.Core.Path.{_≡_, refl}
 use mathlib.Core.Bool.{Bool, true, false, cond}
 use mathlib.Core.List.{List, [], _∷_, _++_}
 use mathlib.Core.Option.{Option, none, some}
 use lib.Dec.{ltb}
-use lib.ListN.{length, length-append, getD}
-use lib.Ieee.{Float}
+use lib.ListN.{length, getD}
 use Rattle.mesh.specs.Mesh.{Tri, tri, Side, side, key, sides, place, isNone, met, metAll, sidesAfter, marked, cuts, mid, split, pieces, refined, refine, All}
 use Rattle.mesh.proofs.Theorem.{place-below}
 use Rattle.mesh.proofs.Cuts.{above-some, marked-all}
-use Rattle.areas.specs.Points.{midpoints, morePoints}
 use Rattle.refinement.specs.Flag.{flaggedTri}
-use Rattle.refinement.specs.Floor.{Refined, refinementOf, tris, trisOf, triAt}
-use Rattle.floor_text.specs.Text.{isText, first, second, third, pointCount, triangleCount, cornersUpTo, pointsIn, anglesIn, cornersIn, sizesIn, thresholdIn}
-use Rattle.floor_text.proofs.Lines.{Known, known, small-column, points-length, corners-length}
-use Rattle.refine_text.proofs.Call.{Few, few}
+use Rattle.refinement.specs.Floor.{Refined, refinementOf, tris, trisOf}
+use Rattle.floor_text.specs.Text.{isText, pointCount, triangleCount, cornersUpTo, pointsIn, anglesIn, cornersIn, sizesIn, thresholdIn}
+use Rattle.floor_text.proofs.Lines.{known, small-column, points-length, corners-length}
+use Rattle.refine_text.proofs.Call.{few}
 
 abbrev Small : ℕ → Type 0
 Small n = n < 1000000

@@ -12,7 +12,7 @@ use Rattle.refinement.specs.Floor.{tris, refinementOf}
 use Rattle.refine_call.specs.Call.{badThreshold}
 use Rattle.columns.specs.Columns.{lead, inSix, columnsOf, lineOf, isLead, isDigit, afterBlank, afterMinus, step, scan}
 use Rattle.floor_text.specs.Text.{isLine, isCorners, every, isHead, isText, pointsUpTo, anglesUpTo, cornersUpTo}
-use Rattle.refine_lines.specs.Lines.{triangleLines, sideLines, linesOf, refusedLine}
+use Rattle.refine_lines.specs.Lines.{triangleLines, sideLines, linesOf}
 use Rattle.refine_text.specs.Printed.{accepted, printed}
 
 -- its lines, the line feed of each at the end

@@ -1,27 +1,27 @@
 -- From a text to what it prints: the slices that were read are the text's floor, so that the refinement call's lines are `printed`, and they fit. Assumes nothing.
-use Prim.Native.Nat.{ℕ, zero, suc, _+_, _-_, _*_, _/_, _≤_, _<_}
+use Prim.Native.Nat.{ℕ, zero, suc, _+_, _*_, _/_, _≤_, _<_}
 use native.Mathlib.Omega.{arith}
-use mathlib.Core.Path.{_≡_, refl, sym, ap, _∙_, subst}
+use mathlib.Core.Path.{_≡_, refl, sym, ap, _∙_}
 use mathlib.Core.Bool.{Bool, true, false, not, cond, _&&_}
-use mathlib.Core.List.{List, [], _∷_, _++_}
+use mathlib.Core.List.{List, _∷_, _++_}
 use borrow.Author.Tests.{lt-leb, le-leb, leb-true}
 use lib.Dec.{leb}
-use lib.ListN.{length, take, drop, replicate, length-replicate}
+use lib.ListN.{length, take, drop, replicate}
 use lib.Seq.{sets, sets-eq, take-at}
 use lib.Ieee.{Float}
 use Rattle.float.specs.Double.{lit}
 use Rattle.floor.specs.Checks.{checkFloor}
-use Rattle.refinement.specs.Floor.{Refined, refinementOf, trisOf, over}
-use Rattle.refine_call.specs.Call.{badThreshold, checkCall, countsOf}
+use Rattle.refinement.specs.Floor.{refinementOf, trisOf}
+use Rattle.refine_call.specs.Call.{badThreshold, countsOf}
 use Rattle.floor_text.specs.declared.Read.{Read}
 use Rattle.floor_text.specs.declared.Read.the-variants.{Floor, Other}
 use Rattle.floor_text.specs.Text.{isText, pointCount, triangleCount, pointsIn, anglesIn, cornersIn, sizesIn, thresholdIn, readOf, ReadTo}
-use Rattle.floor_text.proofs.Lines.{Known, known, points-length, angles-length, corners-length}
+use Rattle.floor_text.proofs.Lines.{known, points-length, angles-length, corners-length}
 use Rattle.refine_text.specs.Printed.{longest, written, accepted, printed, isSound, filledBy, countBy}
-use Rattle.refine_text.specs.Steps.{bytesOf, bytesFrom}
+use Rattle.refine_text.specs.Steps.{bytesFrom}
 use Rattle.refine_lines.specs.Lines.{refusedLine}
 use Rattle.refine_lines.proofs.Lines.{lines-long}
-use Rattle.refine_text.proofs.Call.{Few, few, check-is, bytes-by}
+use Rattle.refine_text.proofs.Call.{few, check-is, bytes-by}
 
 -- ---- what was read
 

@@ -1,8 +1,8 @@
 -- `columns::after_blank` meets its contract: each return is the arm of `afterBlank` that its tests choose. Assumes nothing.
 use borrow.Author.Needs.{needs}
 use native.Mathlib.Omega.{arith}
-use mathlib.Core.Path.{_≡_, refl, sym, ap, _∙_}
-use borrow.Author.Tests.{lt-ltb, le-ltb, eq-eqb, ne-eqb}
+use mathlib.Core.Path.{sym, _∙_}
+use borrow.Author.Tests.{eq-eqb, ne-eqb}
 use Rattle.columns.specs.Columns.{afterBlank}
 use Rattle.columns.proofs.Columns.{lead-range}
 use Rattle.columns.proofs.after_blank.Statement.{statement}

@@ -1,7 +1,7 @@
 -- `columns::after_minus` meets its contract: the arms of `afterMinus`. Assumes nothing.
 use borrow.Author.Needs.{needs}
 use native.Mathlib.Omega.{arith}
-use mathlib.Core.Path.{_≡_, refl, sym, ap, _∙_}
+use mathlib.Core.Path.{sym, _∙_}
 use Rattle.columns.specs.Columns.{afterMinus}
 use Rattle.columns.proofs.Columns.{lead-range}
 use Rattle.columns.proofs.after_minus.Statement.{statement}

@@ -1,7 +1,7 @@
 -- `columns::after_negative` meets its contract: the arms of `step` after `Negative`. Assumes nothing.
 use borrow.Author.Needs.{needs}
 use native.Mathlib.Omega.{arith}
-use mathlib.Core.Path.{_≡_, refl, sym, ap, _∙_}
+use mathlib.Core.Path.{sym, _∙_}
 use Rattle.columns.specs.Columns.{step}
 use Rattle.columns.proofs.Columns.{digit-range}
 use Rattle.columns.proofs.after_negative.Statement.{statement}

@@ -1,7 +1,7 @@
 -- `columns::double` meets its contract: each arm is the clause of `doubleOf`. Assumes nothing.
 use borrow.Author.Needs.{needs}
-use mathlib.Core.Path.{_≡_, refl, sym, ap, _∙_}
-use lib.Ieee.{Float, neg}
+use mathlib.Core.Path.{sym, ap, _∙_}
+use lib.Ieee.{neg}
 use Rattle.columns.specs.Columns.{doubleOf}
 use Rattle.columns.proofs.double.Statement.{statement}
 use Rattle.columns.proofs.double.Tie as tie

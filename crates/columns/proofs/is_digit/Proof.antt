@@ -1,6 +1,5 @@
 -- `columns::is_digit` meets its contract: the two tests of `isDigit`. Assumes nothing.
-use borrow.Author.Needs.{needs}
-use borrow.Author.Tests.{lt-ltb, le-ltb, eq-eqb, ne-eqb}
+use borrow.Author.Tests.{lt-ltb, le-ltb}
 use Rattle.columns.specs.Columns.{isDigit}
 use Rattle.columns.proofs.is_digit.Statement.{statement}
 use Rattle.columns.proofs.is_digit.Tie as tie

@@ -1,6 +1,5 @@
 -- `columns::is_lead` meets its contract: the two tests of `isLead`. Assumes nothing.
-use borrow.Author.Needs.{needs}
-use borrow.Author.Tests.{lt-ltb, le-ltb, eq-eqb, ne-eqb}
+use borrow.Author.Tests.{lt-ltb, le-ltb}
 use Rattle.columns.specs.Columns.{isLead}
 use Rattle.columns.proofs.is_lead.Statement.{statement}
 use Rattle.columns.proofs.is_lead.Tie as tie

@@ -1,6 +1,6 @@
 -- `columns::place_of` meets its contract: the arms of `place`. Assumes nothing.
 use borrow.Author.Needs.{needs}
-use borrow.Author.Tests.{lt-ltb, le-ltb, eq-eqb, ne-eqb}
+use borrow.Author.Tests.{eq-eqb, ne-eqb}
 use Rattle.columns.specs.Columns.{place}
 use Rattle.columns.proofs.place_of.Statement.{statement}
 use Rattle.columns.proofs.place_of.Tie as tie

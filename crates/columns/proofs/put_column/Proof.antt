@@ -1,6 +1,6 @@
 -- `columns::put_column` meets its contract: the six places of a column. Assumes nothing.
 use borrow.Author.Needs.{needs}
-use mathlib.Core.Path.{_≡_, refl, sym, ap, _∙_, subst}
+use mathlib.Core.Path.{refl, _∙_}
 use Rattle.columns.proofs.Columns.{places}
 use Rattle.columns.proofs.put_column.Statement.{statement}
 use Rattle.columns.proofs.put_column.Tie as tie

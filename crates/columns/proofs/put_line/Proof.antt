@@ -1,9 +1,6 @@
 -- `columns::put_line` meets its contract: the columns, and the line feed behind them. Assumes nothing.
 use borrow.Author.Needs.{needs}
-use native.Mathlib.Omega.{arith}
-use mathlib.Core.Path.{_≡_, refl, sym, ap, _∙_, subst}
-use lib.ListN.{length, take, getD, length-set}
-use lib.Seq.{sets, length-sets, take-length}
+use mathlib.Core.Path.{refl}
 use Rattle.columns.proofs.Columns.{line-done}
 use Rattle.columns.proofs.put_line.Statement.{statement}
 use Rattle.columns.proofs.put_line.Tie as tie

@@ -1,7 +1,7 @@
 -- `columns::put_six` meets its contract: six stores in a row. Assumes nothing.
 use borrow.Author.Needs.{needs}
 use native.Mathlib.Omega.{arith}
-use lib.ListN.{length, take, getD, length-set}
+use lib.ListN.{length-set}
 use Rattle.columns.proofs.Stores.{six-stores}
 use Rattle.columns.proofs.put_six.Statement.{statement}
 use Rattle.columns.proofs.put_six.Tie as tie

@@ -1,9 +1,9 @@
 -- `columns::scan_column` meets its contract: after i turns the state is what the first i bytes show. Assumes nothing.
 use borrow.Author.Needs.{needs}
 use native.Mathlib.Omega.{arith}
-use mathlib.Core.Path.{_≡_, refl, sym, ap, _∙_, subst}
-use Prim.Native.Nat.{ℕ, _+_, _-_, _*_, _≤_, _<_}
-use lib.ListN.{length, take, getD, length-set}
+use mathlib.Core.Path.{_≡_, sym, ap, _∙_, subst}
+use Prim.Native.Nat.{_-_, _≤_, _<_}
+use lib.ListN.{length}
 use Rattle.columns.specs.Columns.{scan, sizeOf}
 use Rattle.columns.specs.declared.Scan.{Scan}
 use Rattle.columns.proofs.Columns.{few, scan-none, scan-again}

@@ -1,8 +1,7 @@
 -- `columns::step_on` meets its contract: each arm is the clause of `step`. Assumes nothing.
 use borrow.Author.Needs.{needs}
-use native.Mathlib.Omega.{arith}
-use mathlib.Core.Path.{_≡_, refl, sym, ap, _∙_}
-use Prim.Native.Nat.{ℕ, _<_}
+use mathlib.Core.Path.{refl}
+use Prim.Native.Nat.{_<_}
 use mathlib.Core.Path.{subst}
 use Rattle.columns.specs.Columns.{step, sizeOf}
 use Rattle.columns.specs.declared.Scan.{Scan}

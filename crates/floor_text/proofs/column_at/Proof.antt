@@ -1,9 +1,9 @@
 -- `floor_text::column_at` meets its contract: six bytes of the text. Assumes nothing.
 use borrow.Author.Needs.{needs}
 use native.Mathlib.Omega.{arith}
-use mathlib.Core.Path.{_≡_, refl, sym, ap, _∙_, subst}
-use Prim.Native.Nat.{ℕ, _+_, _-_, _*_, _≤_, _<_}
-use lib.ListN.{length, take, drop, getD, length-set}
+use mathlib.Core.Path.{_≡_, ap, _∙_}
+use Prim.Native.Nat.{ℕ, _+_, _-_}
+use lib.ListN.{take, drop}
 use Rattle.columns.specs.Columns.{shown}
 use Rattle.floor_text.proofs.column_at.Statement.{statement}
 use Rattle.floor_text.proofs.column_at.Tie as tie

@@ -1,13 +1,8 @@
 -- `floor_text::corner_at` meets its contract: a column's number has at most six digits. Assumes nothing.
 use borrow.Author.Needs.{needs}
 use native.Mathlib.Omega.{arith}
-use mathlib.Core.Path.{_≡_, refl, sym, ap, _∙_, subst}
-use Prim.Native.Nat.{ℕ, _+_, _-_, _*_, _≤_, _<_}
-use lib.ListN.{length, take, drop, getD, length-set}
-use lib.ListN.{length-take}
-use mir.Val.{Fits}
-use Rattle.columns.specs.Columns.{sizeOf, shown}
-use Rattle.columns.proofs.Columns.{few}
+use mathlib.Core.Path.{ap, _∙_}
+use Rattle.columns.specs.Columns.{sizeOf}
 use Rattle.floor_text.proofs.Lines.{small-column}
 use Rattle.floor_text.proofs.corner_at.Statement.{statement}
 use Rattle.floor_text.proofs.corner_at.Tie as tie

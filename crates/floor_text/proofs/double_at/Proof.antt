@@ -1,6 +1,6 @@
 -- `floor_text::double_at` meets its contract: `doubleOf` of the column. Assumes nothing.
 use borrow.Author.Needs.{needs}
-use mathlib.Core.Path.{_≡_, refl, sym, ap, _∙_, subst}
+use mathlib.Core.Path.{ap, _∙_}
 use Rattle.columns.specs.Columns.{doubleOf}
 use Rattle.floor_text.proofs.double_at.Statement.{statement}
 use Rattle.floor_text.proofs.double_at.Tie as tie

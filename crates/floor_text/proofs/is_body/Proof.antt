@@ -1,8 +1,6 @@
 -- `floor_text::is_body` meets its contract: each return is `isText` by the tests on its way. Assumes nothing.
 use borrow.Author.Needs.{needs}
-use native.Mathlib.Omega.{arith}
-use mathlib.Core.Path.{_≡_, refl, sym, ap, _∙_, subst}
-use borrow.Author.Tests.{lt-ltb, le-ltb, eq-eqb, ne-eqb, le-leb, lt-leb}
+use borrow.Author.Tests.{eq-eqb, ne-eqb}
 use Rattle.floor_text.specs.Text.{isText}
 use Rattle.floor_text.proofs.Lines.{not-true, not-false}
 use Rattle.floor_text.proofs.is_body.Statement.{statement}

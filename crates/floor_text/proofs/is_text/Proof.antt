@@ -1,7 +1,7 @@
 -- `floor_text::is_text` meets its contract: fewer bytes than a line are no text, and neither is one whose line 0 is wrong. Assumes nothing.
 use borrow.Author.Needs.{needs}
 use native.Mathlib.Omega.{arith}
-use mathlib.Core.Path.{_≡_, refl, sym, ap, _∙_, subst}
+use mathlib.Core.Path.{sym, _∙_}
 use Rattle.floor_text.proofs.Lines.{not-true, not-false, head-small, short-text, no-head}
 use Rattle.floor_text.proofs.is_text.Statement.{statement}
 use Rattle.floor_text.proofs.is_text.Tie as tie

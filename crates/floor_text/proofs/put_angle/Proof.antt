@@ -1,8 +1,6 @@
 -- `floor_text::put_angle` meets its contract: one store. Assumes nothing.
 use borrow.Author.Needs.{needs}
-use native.Mathlib.Omega.{arith}
-use mathlib.Core.Path.{_≡_, refl, sym, ap, _∙_, subst}
-use lib.ListN.{length, take, drop, getD, length-set}
+use mathlib.Core.Path.{refl}
 use Rattle.floor_text.proofs.put_angle.Statement.{statement}
 use Rattle.floor_text.proofs.put_angle.Tie as tie
 

@@ -1,9 +1,6 @@
 -- `floor_text::put_floor` meets its contract: the three slices, and the counts; the laws are in proofs/Lines. Assumes nothing.
 use borrow.Author.Needs.{needs}
 use native.Mathlib.Omega.{arith}
-use mathlib.Core.Path.{_≡_, refl, sym, ap, _∙_, subst}
-use lib.ListN.{length, take, drop, getD, length-set}
-use lib.Seq.{sets, length-sets}
 use Rattle.floor_text.proofs.Lines.{known, read-done}
 use Rattle.floor_text.proofs.put_floor.Statement.{statement}
 use Rattle.floor_text.proofs.put_floor.Tie as tie

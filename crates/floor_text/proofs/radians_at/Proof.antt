@@ -1,7 +1,7 @@
 -- `floor_text::radians_at` meets its contract: the quotient by 1,024. Assumes nothing.
 use borrow.Author.Needs.{needs}
-use mathlib.Core.Path.{_≡_, refl, sym, ap, _∙_, subst}
-use lib.Ieee.{Float, binary64, div, ofBits}
+use mathlib.Core.Path.{refl}
+use lib.Ieee.{div, ofBits}
 use Rattle.floor_text.proofs.radians_at.Statement.{statement}
 use Rattle.floor_text.proofs.radians_at.Tie as tie
 

@@ -1,6 +1,6 @@
 -- `floor_text::read_floor` meets its contract: the floor of a text, or nothing. Assumes nothing.
 use borrow.Author.Needs.{needs}
-use mathlib.Core.Path.{_≡_, refl, sym, ap, _∙_, subst}
+use mathlib.Core.Path.{sym, _∙_}
 use Rattle.floor_text.proofs.Lines.{read-other}
 use Rattle.floor_text.proofs.read_floor.Statement.{statement}
 use Rattle.floor_text.proofs.read_floor.Tie as tie

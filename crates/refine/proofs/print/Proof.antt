@@ -1,9 +1,9 @@
 -- `refine::print` is safe: what is printed fits the array that it is written to. Assumes nothing.
 use borrow.Author.Needs.{needs}
 use native.Mathlib.Omega.{arith}
-use Prim.Native.Nat.{ℕ, _≤_}
+use Prim.Native.Nat.{ℕ}
 use mathlib.Core.Path.{sym}
-use lib.ListN.{length, replicate, length-replicate}
+use lib.ListN.{replicate, length-replicate}
 use lib.Seq.{length-take-le}
 use Rattle.refine_text.proofs.Whole.{count-fits}
 use Rattle.refine.proofs.print.Statement.{statement}

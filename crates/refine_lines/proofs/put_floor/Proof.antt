@@ -1,9 +1,5 @@
 -- `refine_lines::put_floor` meets its contract: the counts, the triangles and the sides, one behind another. Assumes nothing.
 use borrow.Author.Needs.{needs}
-use native.Mathlib.Omega.{arith}
-use mathlib.Core.Path.{_≡_, refl, sym, ap, _∙_, subst}
-use lib.ListN.{length, take, drop, getD, length-set}
-use lib.Seq.{sets, length-sets}
 use Rattle.refine_lines.proofs.Lines.{lines-put}
 use Rattle.refine_lines.proofs.put_floor.Statement.{statement}
 use Rattle.refine_lines.proofs.put_floor.Tie as tie

@@ -1,8 +1,8 @@
 -- `refine_lines::put_refused` meets its contract: eight stores. Assumes nothing.
 use borrow.Author.Needs.{needs}
 use native.Mathlib.Omega.{arith}
-use mathlib.Core.Path.{_≡_, refl, sym, ap, _∙_, subst}
-use lib.ListN.{length, take, drop, getD, length-set}
+use mathlib.Core.Path.{refl}
+use lib.ListN.{length-set}
 use Rattle.refine_lines.specs.Lines.{refusedLine}
 use Rattle.refine_lines.proofs.put_refused.Statement.{statement}
 use Rattle.refine_lines.proofs.put_refused.Tie as tie

@@ -1,6 +1,6 @@
 -- `refine_lines::put_side` meets its contract: the line of its row. Assumes nothing.
 use borrow.Author.Needs.{needs}
-use mathlib.Core.Path.{_≡_, refl, sym, ap, _∙_, subst}
+use mathlib.Core.Path.{refl, _∙_}
 use Rattle.refine_lines.proofs.put_side.Statement.{statement}
 use Rattle.refine_lines.proofs.put_side.Tie as tie
 

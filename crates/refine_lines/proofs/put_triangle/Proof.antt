@@ -1,6 +1,6 @@
 -- `refine_lines::put_triangle` meets its contract: the line of its row. Assumes nothing.
 use borrow.Author.Needs.{needs}
-use mathlib.Core.Path.{_≡_, refl, sym, ap, _∙_, subst}
+use mathlib.Core.Path.{refl, _∙_}
 use Rattle.refine_lines.proofs.put_triangle.Statement.{statement}
 use Rattle.refine_lines.proofs.put_triangle.Tie as tie
 

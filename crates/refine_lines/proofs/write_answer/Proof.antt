@@ -1,13 +1,9 @@
 -- `refine_lines::write_answer` meets its contract: each arm is the clause of `bytesFor`. Assumes nothing.
 use borrow.Author.Needs.{needs}
-use native.Mathlib.Omega.{arith}
-use mathlib.Core.Path.{_≡_, refl, sym, ap, _∙_, subst}
-use Prim.Native.Nat.{ℕ, _+_, _-_, _*_, _≤_, _<_}
-use lib.ListN.{length, take, drop, getD, length-set}
-use lib.Seq.{sets, length-sets}
-use mathlib.Core.List.{List}
+use mathlib.Core.Path.{subst}
+use lib.ListN.{length}
 use Rattle.refine_call.specs.declared.Answer.{Answer}
-use Rattle.refine_lines.specs.Lines.{bytesFor, Holds}
+use Rattle.refine_lines.specs.Lines.{Holds}
 use Rattle.refine_lines.proofs.write_answer.Statement.{statement}
 use Rattle.refine_lines.proofs.write_answer.Tie as tie
 

@@ -1,7 +1,5 @@
 -- `refine_text::answer` meets its contract: a slice that is too short stays, and any other has room; the laws are in proofs/Whole. Assumes nothing.
 use borrow.Author.Needs.{needs}
-use native.Mathlib.Omega.{arith}
-use mathlib.Core.Path.{_≡_, refl, sym, ap, _∙_, subst}
 use Rattle.refine_text.proofs.Whole.{answer-short, answer-long}
 use Rattle.refine_text.proofs.answer.Statement.{statement}
 use Rattle.refine_text.proofs.answer.Tie as tie

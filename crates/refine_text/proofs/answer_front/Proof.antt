@@ -1,9 +1,9 @@
 -- `refine_text::answer_front` meets its contract: the lines of the four fronts. Assumes nothing.
 use borrow.Author.Needs.{needs}
 use native.Mathlib.Omega.{arith}
-use mathlib.Core.Path.{_≡_, refl, sym, ap, _∙_, subst}
-use Prim.Native.Nat.{ℕ, _+_, _-_, _*_, _≤_, _<_}
-use lib.ListN.{length, take, drop, replicate, length-take, length-replicate}
+use mathlib.Core.Path.{_≡_}
+use Prim.Native.Nat.{_-_, _*_}
+use lib.ListN.{length-take}
 use Rattle.refine_text.proofs.answer_front.Statement.{statement}
 use Rattle.refine_text.proofs.answer_front.Tie as tie
 

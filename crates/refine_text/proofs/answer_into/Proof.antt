@@ -1,11 +1,9 @@
 -- `refine_text::answer_into` meets its contract: the lines of the call's answer are those of the refined floor; the laws are in proofs/Call. Assumes nothing.
 use borrow.Author.Needs.{needs}
-use native.Mathlib.Omega.{arith}
-use mathlib.Core.Path.{_≡_, refl, sym, ap, _∙_, subst}
-use Prim.Native.Nat.{ℕ, _+_, _-_, _*_, _≤_, _<_}
-use lib.ListN.{length, take, drop, getD, length-set}
-use lib.Seq.{sets, length-sets}
-use mathlib.Core.List.{List}
+use mathlib.Core.Path.{ap, _∙_}
+use Prim.Native.Nat.{ℕ}
+use lib.ListN.{length}
+use lib.Seq.{sets}
 use mathlib.Core.List.{List}
 use Rattle.refine_text.proofs.Call.{few, holds, call-lines}
 use Rattle.refine_text.proofs.answer_into.Statement.{statement}

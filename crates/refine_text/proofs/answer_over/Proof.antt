@@ -1,10 +1,10 @@
 -- `refine_text::answer_over` meets its contract: what was read is the text's floor, or the text is refused; the laws are in proofs/Whole. Assumes nothing.
 use borrow.Author.Needs.{needs}
 use native.Mathlib.Omega.{arith}
-use mathlib.Core.Path.{_≡_, refl, sym, ap, _∙_, subst}
-use Prim.Native.Nat.{ℕ, _+_, _-_, _*_, _≤_, _<_}
-use lib.ListN.{length, take, drop, replicate, length-take, length-replicate}
-use lib.Seq.{sets, length-sets}
+use mathlib.Core.Path.{sym, ap, _∙_}
+use Prim.Native.Nat.{ℕ}
+use lib.ListN.{length, length-replicate}
+use lib.Seq.{sets}
 use mathlib.Core.List.{List}
 use lib.Ieee.{Float}
 use Rattle.float.specs.Double.{lit}
