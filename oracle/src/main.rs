@@ -1,7 +1,7 @@
 //! The reference as judge: records its answers, over the proved sine, cosine and arctangent, as lists that the
 //! programs of crates/ replay.
 //!
-//!     oracle record LAYER COUNT SEED FOLDER     layers: scalars, refinement, linear
+//!     oracle record LAYER COUNT SEED FOLDER     layers: scalars, refinement, linear, texts
 
 #[allow(dead_code)]
 mod leaves;
@@ -9,6 +9,7 @@ mod linear;
 mod random;
 mod refinement;
 mod scalars;
+mod texts;
 mod words;
 
 #[allow(dead_code)]
@@ -45,6 +46,7 @@ fn main() {
         "scalars" => scalars::record(seed, count, folder),
         "linear" => linear::record(seed, count, folder),
         "refinement" => refinement::record(seed, count, folder),
+        "texts" => texts::record(seed, count, folder),
         _ => usage(),
     }
 }

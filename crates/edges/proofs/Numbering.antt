@@ -15,7 +15,7 @@ use lib.ListN.{length, getD, set, length-set, replicate, length-replicate}
 use lib.Seq.{getD-set-same, getD-set-other, sets, length-sets}
 use Rattle.mesh.specs.Mesh.{Side, side, key, Tri, tri, place, met, metAll, sides, sidesAfter, one}
 use Rattle.mesh.proofs.Theorem.{place-below}
-use Rattle.mesh.proofs.Runs.{sets-before, sets-behind}
+use Rattle.runs.proofs.Runs.{sets-before, sets-behind}
 use Rattle.edges.specs.Table.{Table, slotOf, last, pairs, headOf, loOf, hiOf, linkOf, sidesIn, Held, Outside, MetTri, NumbersOf}
 use Rattle.edges.specs.Numbering.{triFrom, trisFrom, Plan, NumberStep, NumberedTo, occurs, Below, Counted}
 use Rattle.edges.proofs.Chain.{length-pairs}

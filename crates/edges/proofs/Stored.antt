@@ -12,7 +12,7 @@ use lib.ListN.{length, getD, set, length-set, length-append, replicate}
 use lib.Seq.{getD-set-same, getD-set-other, sets, length-sets}
 use Rattle.mesh.specs.Mesh.{Side, side, key, tri, place, met, metAll}
 use Rattle.mesh.proofs.Theorem.{place-below}
-use Rattle.mesh.proofs.Runs.{sets-before}
+use Rattle.runs.proofs.Runs.{sets-before}
 use Rattle.mesh.proofs.Cuts.{key-either, place-keep, place-end, met-old, met-new, met-numbered, Found, found, missing, find}
 use Rattle.edges.specs.Table.{Table, slotOf, seek, last, pairs, headOf, loOf, hiOf, linkOf, sidesIn, Held, Outside, Met, MetTri, plus}
 use Rattle.edges.proofs.Chain.{Added, table-more, new-pairs, length-pairs, seek-none, seek-some}

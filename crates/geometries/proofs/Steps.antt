@@ -13,7 +13,7 @@ use Rattle.float.specs.Double.{lit}
 use Rattle.plane.specs.declared.Pair.{Pair}
 use Rattle.mesh.specs.Mesh.{Tri, tri}
 use Rattle.edges.specs.Numbering.{triFrom, Below}
-use Rattle.mesh.proofs.Runs.{sets-before, sets-append}
+use Rattle.runs.proofs.Runs.{sets-before, sets-append}
 use Rattle.floor.specs.Checks.{lowest}
 use Rattle.floor.proofs.Lowest.{lowest-none, lowest-again, lowest-found}
 use Rattle.geometry.specs.declared.TriangleGeometry.{TriangleGeometry}

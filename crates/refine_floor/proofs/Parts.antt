@@ -16,7 +16,7 @@ use Rattle.edges.proofs.Chain.{length-pairs}
 use Rattle.edges.proofs.Numbering.{held-within}
 use Rattle.refinement.specs.Floor.{tris, triAt, cornersOf, endsOf}
 use Rattle.refinement.specs.Steps.{Rows}
-use Rattle.mesh.proofs.Runs.{sets-append, copy-more}
+use Rattle.runs.proofs.Runs.{sets-append, copy-more}
 
 -- the next number of a copy to the front
 pub copy-again : {A : Type 0} (l s : List A) (j : ℕ) (d : A) → j < length s → set (sets l 0 (take j s)) j (getD s j d) ≡ sets l 0 (take (j + 1) s)

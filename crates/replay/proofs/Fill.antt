@@ -4,15 +4,12 @@ use native.Mathlib.Omega.{arith}
 use native.Mathlib.Numerals.{add-one}
 use mathlib.Core.Path.{_≡_, refl, sym, ap, _∙_}
 use mathlib.Core.List.{List, [], _∷_, _++_}
-use lib.ListN.{length, length-append, set, length-set}
+use lib.ListN.{length, length-append, set}
 use lib.Seq.{sets, length-sets}
+use Rattle.runs.proofs.Runs.{sets-append}
 use Rattle.replay.specs.Rows.{upTo}
 
 module _ {A : Type 0} where
-  stores : (l : List A) (i : ℕ) (xs : List A) (y : A) → set (sets l i xs) (i + length xs) y ≡ sets l i (xs ++ (y ∷ []))
-  stores l i [] y = let e : i + 0 ≡ i = omega arith in ap (λ (j : ℕ). set l j y) e
-  stores l i (x ∷ xs) y = let e : i + suc (length xs) ≡ suc i + length xs = omega arith in ap (λ (j : ℕ). set (sets (set l i x) (suc i) xs) j y) e ∙ stores (set l i x) (suc i) xs y
-
   upTo-length : (f : ℕ → A) (i : ℕ) → length (upTo f i) ≡ i
   unfolding upTo
   upTo-length f zero = refl
@@ -26,7 +23,7 @@ module _ {A : Type 0} where
   unfolding upTo
   fill-more f l i {y} h e s =
       let n : i ≡ 0 + length (upTo f i) = omega (arith, upTo-length f i) in
-      s ∙ rw (h, e, add-one i) (ap (λ (k : ℕ). set (sets l 0 (upTo f i)) k (f i)) n ∙ stores l 0 (upTo f i) (f i))
+      s ∙ rw (h, e, add-one i) (ap (λ (k : ℕ). set (sets l 0 (upTo f i)) k (f i)) n ∙ sets-append l 0 (upTo f i) (f i ∷ []))
 
   pub fill-length : (f : ℕ → A) (l : List A) {out : List A} (i : ℕ) → out ≡ sets l 0 (upTo f i) → length out ≡ length l
   fill-length f l i h = ap length h ∙ length-sets l 0 (upTo f i)

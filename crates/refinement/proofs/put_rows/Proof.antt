@@ -1,11 +1,11 @@
--- `refinement::put_rows` meets its contract: the loop keeps what `Inv-loop` says, and what is left to do falls at each turn; the laws are in crate mesh, proofs/Runs.
+-- `refinement::put_rows` meets its contract: the loop keeps what `Inv-loop` says, and what is left to do falls at each turn; the laws are in crate runs, proofs/Runs.
 use borrow.Author.Needs.{needs}
 use mathlib.Core.Path.{_≡_, refl, sym, ap, _∙_}
 use native.Mathlib.Omega.{arith}
 use Prim.Native.Nat.{_-_, _≤_}
 use lib.ListN.{length, take}
 use lib.Seq.{sets, length-sets}
-use Rattle.mesh.proofs.Runs.{copy-more}
+use Rattle.runs.proofs.Runs.{copy-more}
 use Rattle.refinement.proofs.put_rows.Statement.{statement}
 use Rattle.refinement.proofs.put_rows.Tie as tie
 

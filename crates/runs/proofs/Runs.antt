@@ -14,6 +14,10 @@ module _ {ℓ} {A : Type ℓ} where
       let e : i + suc (length xs) ≡ suc i + length xs = omega arith in
       ap (λ (j : ℕ). sets (sets (set l i x) (suc i) xs) j ys) e ∙ sets-append (set l i x) (suc i) xs ys
 
+  -- the second run's place given as a number
+  pub sets-next : (l : List A) (i j : ℕ) (xs ys : List A) → j ≡ i + length xs → sets (sets l i xs) j ys ≡ sets l i (xs ++ ys)
+  sets-next l i j xs ys e = ap (λ (k : ℕ). sets (sets l i xs) k ys) e ∙ sets-append l i xs ys
+
   -- the next number of a copy
   pub copy-more : (l : List A) (i : ℕ) (s : List A) (j : ℕ) (d : A) → j < length s → set (sets l i (take j s)) (i + j) (getD s j d) ≡ sets l i (take (j + 1) s)
   copy-more l i s j d h =

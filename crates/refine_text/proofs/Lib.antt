@@ -1,0 +1,4 @@
+mod Call
+pub mod Whole
+pub mod Listing
+pub mod Fit

@@ -1,0 +1,61 @@
+-- `texts::main` is safe and ends: the turns fall. Assumes nothing.
+use borrow.Author.Needs.{needs}
+use Rattle.texts.proofs.main.Statement.{statement}
+use Rattle.texts.proofs.main.Tie as tie
+
+abbrev Inv-loop : tie.InvT-loop
+Inv-loop fd seen₀ turns₀ t5 seen turns = Unit {0}
+
+abbrev μ-loop : tie.MeasureT-loop
+μ-loop fd seen₀ turns₀ t5 seen turns = turns
+
+slice-aggregate-open : tie.Need-slice-aggregate-open Inv-loop μ-loop
+slice-aggregate-open c = search needs
+
+open-requires : tie.Need-open-requires Inv-loop μ-loop
+open-requires c κs = search needs
+
+loop-holds : tie.Need-loop-holds Inv-loop μ-loop
+loop-holds c = search needs
+
+some-requires : tie.Need-some-requires Inv-loop μ-loop
+some-requires c κs = search needs
+
+sub-turns : tie.Need-sub-turns Inv-loop μ-loop
+sub-turns c = search needs
+
+loop-less : tie.Need-loop-less Inv-loop μ-loop
+loop-less c = search needs
+
+loop-again : tie.Need-loop-again Inv-loop μ-loop
+loop-again c = search needs
+
+slice-aggregate-report : tie.Need-slice-aggregate-report Inv-loop μ-loop
+slice-aggregate-report c = search needs
+
+report-requires : tie.Need-report-requires Inv-loop μ-loop
+report-requires c κs = search needs
+
+close-requires : tie.Need-close-requires Inv-loop μ-loop
+close-requires c κs = search needs
+
+returns : tie.Need-returns Inv-loop μ-loop
+returns c = search needs
+
+pub main-spec : {M : Type 1} → statement M
+main-spec =
+    tie.close
+    (tie.spec
+    Inv-loop
+    μ-loop
+    slice-aggregate-open
+    open-requires
+    loop-holds
+    some-requires
+    sub-turns
+    loop-less
+    loop-again
+    slice-aggregate-report
+    report-requires
+    close-requires
+    returns)

@@ -1,0 +1,123 @@
+// Replays texts of refine.in, good and damaged, with what they must print. data/README.md says how the list was made.
+// Prints how many there are, and how many differ.
+ghost use Prim.Native.Nat.{_≤_};
+ghost use lib.ListN.{length};
+
+// What the bytes behind the answer hold before and after.
+const MARK: u8 = 170;
+
+// What the list has shown so far, and whether it may hold more.
+struct Tally {
+    more: bool,
+    recorded: u64,
+    differ: u64,
+}
+
+fn one_more(n: u64) -> u64 {
+    std::num::wrapping_add_u64(n, 1)
+}
+
+// A length out of a column, at most `most`.
+fn length_in(column: &[u8], most: usize) -> usize
+    requires { ⌜ length (now column) ≤ 6 ⌝ }
+    ensures { λ r. ⌜ r ≤ most ⌝ }
+{
+    let n = columns::size(columns::scan_column(column)) as usize;
+    if n < most {
+        return n;
+    }
+    most
+}
+
+// Whether a slice holds the mark from n on.
+fn marked(out: &[u8], n: usize) -> bool {
+    let mut i = n;
+    while i < out.len() {
+        if out[i] != MARK {
+            return false;
+        }
+        i += 1;
+    }
+    true
+}
+
+// Whether the text prints what it must, and nothing behind it.
+fn prints(text: &[u8], must: &[u8]) -> bool {
+    let mut out = [MARK; 29500];
+    let n = refine_text::answer(text, &mut out);
+    if check::same(&out[..n], must) {
+        return marked(&out, n);
+    }
+    false
+}
+
+// An entry of so many bytes each, over slices for the text and what it must print.
+fn entry_over(fd: i32, text: usize, must: usize, a: &mut [u8], b: &mut [u8]) -> bool
+    requires { ⌜ (text ≤ length (now a)) × (must ≤ length (now b)) ⌝ }
+{
+    let n = io::read_full(fd, &mut a[0..text]);
+    let m = io::read_full(fd, &mut b[0..must]);
+    if n != text {
+        return false;
+    }
+    if m != must {
+        return false;
+    }
+    let given: &[u8] = a;
+    let printed: &[u8] = b;
+    prints(&given[0..text], &printed[0..must])
+}
+
+fn entry(fd: i32, text: usize, must: usize) -> bool
+    requires { ⌜ (text ≤ 20000) × (must ≤ 29500) ⌝ }
+{
+    let mut a = [0u8; 20000];
+    let mut b = [0u8; 29500];
+    entry_over(fd, text, must, &mut a, &mut b)
+}
+
+// The next entry: a line with its two lengths, the text, what it must print.
+fn some(fd: i32, seen: Tally) -> Tally {
+    let mut head = [0u8; 13];
+    let n = io::read_full(fd, &mut head);
+    let recorded = seen.recorded;
+    let differ = seen.differ;
+    if n != 13 {
+        return Tally {
+            more: false,
+            recorded,
+            differ: if n == 0 { differ } else { one_more(differ) },
+        };
+    }
+    let text = length_in(&head[0..6], 20000);
+    let must = length_in(&head[6..12], 29500);
+    if entry(fd, text, must) {
+        return Tally {
+            more: true,
+            recorded: one_more(recorded),
+            differ,
+        };
+    }
+    Tally {
+        more: true,
+        recorded: one_more(recorded),
+        differ: one_more(differ),
+    }
+}
+
+// The whole list. The turns only fall so that the loop is known to end.
+fn main() {
+    let fd = replay::open(b"texts");
+    let mut seen = Tally {
+        more: true,
+        recorded: 0,
+        differ: 0,
+    };
+    let mut turns = u64::MAX;
+    while turns > 0 && seen.more {
+        seen = some(fd, seen);
+        turns -= 1;
+    }
+    replay::report(b"texts", seen.recorded, seen.differ);
+    libc::close(fd);
+}
