@@ -23,7 +23,8 @@ use Rattle.refinement.specs.Flag.{flaggedTri}
 use Rattle.refinement.specs.Floor.{tris, trisOf, cornersOf, endsOf, over, Refined, refinementOf}
 use Rattle.refinement.specs.Steps.{CutTo}
 use Rattle.refinement.proofs.Runs.{front}
-use Rattle.refine_floor.proofs.Parts.{four, corners-length, ends-length, mids-length}
+use Rattle.refinement.proofs.Parts.{tris-length, refined-most}
+use Rattle.refine_floor.proofs.Parts.{corners-length, ends-length, mids-length}
 use Rattle.refine_call.specs.declared.Counts.{Counts}
 use Rattle.refine_call.specs.declared.Answer.{Answer}
 use Rattle.refine_call.specs.declared.Answer.the-variants.{Refinement}
@@ -130,15 +131,6 @@ roomy points triangles sizes angles threshold op os ot oe e =
     }
 
 -- ---- lengths
-
-tris-length : (l : List ℕ) (i : ℕ) → length (tris l i) ≡ i
-unfolding tris
-tris-length l zero = refl
-tris-length l (suc i) = length-append (tris l i) _ ∙ omega (arith, tris-length l i)
-
-refined-most : (m : ℕ → ℕ → Option ℕ) (ts : List Tri) → length (refined m ts) ≤ 4 * length ts
-refined-most m [] = omega arith
-refined-most m (t ∷ ts) = omega (arith, length-append (pieces m t) (refined m ts), four m t, refined-most m ts)
 
 points-length : (pts : List Float) (l : List Side) → length (morePoints pts l) ≡ length pts + 3 * length l
 unfolding morePoints

@@ -4,11 +4,11 @@ use native.Mathlib.Omega.{arith}
 use native.Mathlib.Numerals.{add-one}
 use mathlib.Core.Path.{_≡_, refl, sym, ap, _∙_, subst}
 use mathlib.Core.List.{List, [], _∷_, _++_, append-nil, map}
-use mathlib.Core.Option.{Option, none, some}
+use mathlib.Core.Option.{Option}
 use lib.ListN.{length, length-append, length-map, getD, set, take}
 use lib.Seq.{sets, length-sets}
 use lib.Ieee.{Float}
-use Rattle.mesh.specs.Mesh.{Tri, tri, Side, side, mid, split, pieces, refined}
+use Rattle.mesh.specs.Mesh.{Tri, tri, Side, side, mid, pieces, refined}
 use Rattle.mesh.proofs.Theorem.{refined-append}
 use Rattle.areas.specs.Points.{midpoint, midpoints}
 use Rattle.edges.specs.Table.{pairs, sidesIn, loOf, hiOf, Held}
@@ -16,6 +16,7 @@ use Rattle.edges.proofs.Chain.{length-pairs}
 use Rattle.edges.proofs.Numbering.{held-within}
 use Rattle.refinement.specs.Floor.{tris, triAt, cornersOf, endsOf}
 use Rattle.refinement.specs.Steps.{Rows}
+use Rattle.refinement.proofs.Parts.{four}
 use Rattle.runs.proofs.Runs.{sets-append, copy-more}
 
 -- the next number of a copy to the front
@@ -59,20 +60,6 @@ refined-again m l out₀ {out} {out′} at i {a} {k} {k′} z h s =
       s .0 ∙ rw (here, h .0) (sets-append out₀ at (cornersOf old) (cornersOf new)) ∙ ap (sets out₀ at) (sym (corners-append old new)),
       s .1 ∙ rw (length-append old new) (omega (arith, h .1)),
     )
-
--- a triangle has at most four pieces
-pub four : (m : ℕ → ℕ → Option ℕ) (t : Tri) → length (pieces m t) ≤ 4
-four m (tri a b c) = rows (m a b) (m b c) (m c a)
-  where
-    rows : (p q r : Option ℕ) → length (split a b c p q r) ≤ 4
-    rows none none none = omega arith
-    rows none none (some r) = omega arith
-    rows none (some q) none = omega arith
-    rows none (some q) (some r) = omega arith
-    rows (some p) none none = omega arith
-    rows (some p) none (some r) = omega arith
-    rows (some p) (some q) none = omega arith
-    rows (some p) (some q) (some r) = omega arith
 
 -- ---- triangles in the slice that has the table
 

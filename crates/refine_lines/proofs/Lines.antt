@@ -8,6 +8,7 @@ use lib.ListN.{length, length-append, getD}
 use lib.Seq.{sets}
 use Rattle.mesh.specs.Mesh.{Tri, tri, Side, side}
 use Rattle.refinement.specs.Floor.{tris, triAt, cornersOf, endsOf}
+use Rattle.refinement.proofs.Parts.{tris-length}
 use Rattle.refine_call.specs.declared.Counts.{Counts}
 use Rattle.columns.specs.Columns.{lineOf}
 use Rattle.columns.proofs.Columns.{line-length}
@@ -30,11 +31,6 @@ triangles-append (tri a b c ∷ s) t = ap (λ (l : List ℕ). lineOf (a ∷ b �
 one-triangle : (a b c : ℕ) → triangleLines (tri a b c ∷ []) ≡ lineOf (a ∷ b ∷ c ∷ [])
 unfolding triangleLines
 one-triangle a b c = append-nil (lineOf (a ∷ b ∷ c ∷ []))
-
-pub tris-length : (l : List ℕ) (i : ℕ) → length (tris l i) ≡ i
-unfolding tris
-tris-length l zero = refl
-tris-length l (suc i) = length-append (tris l i) _ ∙ omega (arith, tris-length l i)
 
 pub triangles-none : (l out : List ℕ) (at : ℕ) → out ≡ sets out at (triangleLines (tris l 0))
 unfolding tris triangleLines

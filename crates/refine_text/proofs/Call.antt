@@ -9,7 +9,7 @@ use mathlib.Core.Option.{Option, none, some}
 use borrow.Author.Tests.{eq-eqb, le-ltb, le-leb}
 use lib.ListN.{length, length-append, drop}
 use lib.Ieee.{Float}
-use Rattle.mesh.specs.Mesh.{Tri, tri, Side, sides, place, isNone, met, metAll, sidesAfter, marked, cuts, mid, split, pieces, refined, refine}
+use Rattle.mesh.specs.Mesh.{Tri, tri, Side, sides, place, isNone, met, metAll, sidesAfter, marked, cuts, mid, refined, refine}
 use Rattle.floor.specs.declared.Check.{Check}
 use Rattle.floor.specs.declared.Check.the-variants.{Sound, Refused}
 use Rattle.floor.specs.Checks.{row, wellFormed, checkFloor}
@@ -18,29 +18,12 @@ use Rattle.refinement.specs.Floor.{Refined, refinementOf, trisOf, cornersOf, en
 use Rattle.refine_call.specs.declared.Answer.{Answer}
 use Rattle.refine_call.specs.Call.{badThreshold, short, andThen, checkRest, checkCall, answerOf, Called}
 use Rattle.refine_lines.specs.Lines.{refusedLine, bytesFor, Holds}
-use Rattle.refine_lines.proofs.Lines.{tris-length, tris-of, sides-of}
+use Rattle.refinement.proofs.Parts.{tris-length, refined-most}
+use Rattle.refine_lines.proofs.Lines.{tris-of, sides-of}
 use Rattle.refine_text.specs.Printed.{longest, written, isSound}
 use Rattle.refine_text.specs.Steps.{bytesOf, Sized}
 
 -- ---- how many
-
--- a triangle has at most four pieces
-four : (m : ℕ → ℕ → Option ℕ) (t : Tri) → length (pieces m t) ≤ 4
-four m (tri a b c) = rows (m a b) (m b c) (m c a)
-  where
-    rows : (p q r : Option ℕ) → length (split a b c p q r) ≤ 4
-    rows none none none = omega arith
-    rows none none (some r) = omega arith
-    rows none (some q) none = omega arith
-    rows none (some q) (some r) = omega arith
-    rows (some p) none none = omega arith
-    rows (some p) none (some r) = omega arith
-    rows (some p) (some q) none = omega arith
-    rows (some p) (some q) (some r) = omega arith
-
-refined-most : (m : ℕ → ℕ → Option ℕ) (ts : List Tri) → length (refined m ts) ≤ 4 * length ts
-refined-most m [] = omega arith
-refined-most m (t ∷ ts) = omega (arith, length-append (pieces m t) (refined m ts), four m t, refined-most m ts)
 
 -- a triangle cuts at most three sides
 met-most : (l : List Side) (s : Side) → length (met l s) ≤ length l + 1

@@ -130,3 +130,28 @@ rows-of m {p} {q} {r} {count} {rows} a b c e₁ e₂ e₃ h =
     subst (λ (o : Option ℕ). Rows (split a b c (m a b) (m b c) o) count rows) (ap unplus e₃ ∙ unplus-plus (m c a))
     (subst (λ (o : Option ℕ). Rows (split a b c (m a b) o (unplus r)) count rows) (ap unplus e₂ ∙ unplus-plus (m b c))
     (subst (λ (o : Option ℕ). Rows (split a b c o (unplus q) (unplus r)) count rows) (ap unplus e₁ ∙ unplus-plus (m a b)) h))
+
+-- ---- how many
+
+pub tris-length : (l : List ℕ) (i : ℕ) → length (tris l i) ≡ i
+unfolding tris
+tris-length l zero = refl
+tris-length l (suc i) = length-append (tris l i) _ ∙ omega (arith, tris-length l i)
+
+-- a triangle has at most four pieces
+pub four : (m : ℕ → ℕ → Option ℕ) (t : Tri) → length (pieces m t) ≤ 4
+four m (tri a b c) = rows (m a b) (m b c) (m c a)
+  where
+    rows : (p q r : Option ℕ) → length (split a b c p q r) ≤ 4
+    rows none none none = omega arith
+    rows none none (some r) = omega arith
+    rows none (some q) none = omega arith
+    rows none (some q) (some r) = omega arith
+    rows (some p) none none = omega arith
+    rows (some p) none (some r) = omega arith
+    rows (some p) (some q) none = omega arith
+    rows (some p) (some q) (some r) = omega arith
+
+pub refined-most : (m : ℕ → ℕ → Option ℕ) (ts : List Tri) → length (refined m ts) ≤ 4 * length ts
+refined-most m [] = omega arith
+refined-most m (t ∷ ts) = omega (arith, length-append (pieces m t) (refined m ts), four m t, refined-most m ts)

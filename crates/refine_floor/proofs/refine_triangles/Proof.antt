@@ -5,7 +5,8 @@ use mathlib.Core.Path.{_≡_, refl, ap, _∙_}
 use native.Mathlib.Omega.{arith}
 use lib.ListN.{length}
 use lib.Seq.{sets, length-sets}
-use Rattle.refine_floor.proofs.Parts.{four, refined-none, refined-again}
+use Rattle.refinement.proofs.Parts.{four}
+use Rattle.refine_floor.proofs.Parts.{refined-none, refined-again}
 use Rattle.edges.specs.Table.{sidesIn}
 use Rattle.mesh.specs.Mesh.{mid, refined}
 use Rattle.refinement.specs.Floor.{tris, triAt, cornersOf}
