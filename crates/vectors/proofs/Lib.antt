@@ -1,0 +1,6 @@
+pub mod Zip
+pub mod Inverses
+pub mod Sweeps
+pub mod Residuals
+pub mod Directions
+pub mod Scale
