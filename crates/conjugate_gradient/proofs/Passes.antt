@@ -70,16 +70,16 @@ module _ (w : List Float) (n : ℕ) (l : Plan) (ok : VectorRoom (length w) n l) 
       ap (λ v. putC v (l .x) (advanced alpha s .x)) (lay-read w n l)
       ∙ put-x w n l ok s z (advanced alpha s .x) (advanced-sized n alpha s z .x-n)
 
-  pub advance-all : {alpha : Float} {w₁ : List Float} → w₁ ≡ putC w (l .x) (zipOf (addScaled alpha) (regionC w (l .x) n) (regionC w (l .direction) n))
+  pub advance-all : (alpha : Float) {w₁ : List Float} → w₁ ≡ putC w (l .x) (zipOf (addScaled alpha) (regionC w (l .x) n) (regionC w (l .direction) n))
       → w₁ ≡ lay w n l (advanced alpha (read w n l))
-  advance-all {alpha} e = e ∙ advanced-lay alpha
+  advance-all alpha e = e ∙ advanced-lay alpha
 
-  pub direct-all : {alpha beta : Float} {w₁ : List Float}
+  pub direct-all : (alpha beta : Float) {w₁ : List Float}
       → w₁ ≡ putC (putC w (l .x) (zipOf (addScaled alpha) (regionC w (l .x) n) (regionC w (l .direction) n))) (l .direction)
       (zipOf (addScaled beta) (scaled (region nan w (l .inverse) n) (regionC w (l .residual) n)) (regionC w (l .direction) n))
       → w₁ ≡ lay w n l (directed beta (advanced alpha (read w n l)))
   unfolding directed advanced preconditioned read
-  direct-all {alpha} {beta} e =
+  direct-all alpha beta e =
       let t : State = advanced alpha s in
       let y : Sized n t = advanced-sized n alpha s z in
       e ∙ rw (advanced-lay alpha) (put-p w n l ok t y (directed beta t .p) (directed-sized n beta t y .p-n))
