@@ -10,10 +10,11 @@ use Rattle.cells.specs.Cell.{regionC, putC}
 use Rattle.cells.proofs.Loops.{length-tab}
 use Rattle.hermitian.specs.Hermitian.{scaled}
 use Rattle.hermitian.proofs.Product.{length-scaled}
-use Rattle.vectors.specs.declared.Sums.{Sums}
-use Rattle.vectors.specs.Vectors.{zipOf, addScaled, productsOf}
-use Rattle.vectors.specs.Work.{Reduced}
-use Rattle.vectors.proofs.Zip.{length-zipOf, length-productsOf}
+use Rattle.residual.specs.declared.Sums.{Sums}
+use Rattle.vectors.specs.Vectors.{zipOf, addScaled}
+use Rattle.vectors.proofs.Zip.{length-zipOf}
+use Rattle.residual.specs.Work.{Reduced}
+use Rattle.residual.proofs.Residuals.{length-productsOf}
 use Rattle.conjugate_gradient.specs.declared.Plan.{Plan}
 use Rattle.conjugate_gradient.specs.Solve.{State, preconditioned, residualDot, reduced, advanced, directed}
 use Rattle.conjugate_gradient.specs.Work.{read, lay, VectorRoom, Updated}

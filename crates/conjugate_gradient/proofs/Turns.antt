@@ -19,7 +19,7 @@ use Rattle.hermitian.specs.Hermitian.{Matrix, dotOf, normOf, scaled, applied}
 use Rattle.hermitian.specs.Work.{matrix}
 use Rattle.hermitian.proofs.Product.{length-applied, length-scaled}
 use Rattle.conjugate_gradient.specs.declared.Plan.{Plan}
-use Rattle.vectors.specs.declared.Sums.{Sums}
+use Rattle.residual.specs.declared.Sums.{Sums}
 use Rattle.vectors.specs.Vectors.{recipsOf}
 use Rattle.conjugate_gradient.specs.declared.Turned.{Turned}
 use Rattle.conjugate_gradient.specs.declared.Turned.the-variants.{Going, Converged, Broken}

@@ -11,7 +11,8 @@ use Rattle.root.specs.Root.{rootOf}
 use Rattle.complex.specs.declared.Complex.{Complex}
 use Rattle.complex.specs.Complex.{czero}
 use Rattle.hermitian.specs.Hermitian.{Matrix, dotOf, normOf, scaled, applied}
-use Rattle.vectors.specs.Vectors.{zipOf, addScaled, subScaled, recipsOf, scaledBy, productsOf}
+use Rattle.vectors.specs.Vectors.{zipOf, addScaled, subScaled, recipsOf, scaledBy}
+use Rattle.residual.specs.Residual.{productsOf}
 use Rattle.conjugate_gradient.specs.declared.Reason.{Reason}
 use Rattle.conjugate_gradient.specs.declared.Reason.the-variants.{RightHandNorm, Diagonal, FirstResidual, Denominator, LostDefiniteness, CountSpent, MassOfIterate}
 use Rattle.conjugate_gradient.specs.declared.Answer.{Answer}

@@ -9,7 +9,7 @@ use Rattle.cells.specs.Rows.{Row, row, laid, Ranged}
 use Rattle.hermitian.specs.declared.Hermitian.{Hermitian}
 use Rattle.hermitian.specs.Hermitian.{Matrix, dotOf, applied}
 use Rattle.hermitian.specs.Work.{matrix}
-use Rattle.vectors.specs.declared.Sums.{Sums}
+use Rattle.residual.specs.declared.Sums.{Sums}
 use Rattle.conjugate_gradient.specs.declared.Plan.{Plan}
 use Rattle.conjugate_gradient.specs.declared.Turned.{Turned}
 use Rattle.conjugate_gradient.specs.declared.Answer.{Answer}

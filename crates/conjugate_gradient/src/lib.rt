@@ -2,7 +2,7 @@
 // the Rust's steps.
 use cells::load_real;
 use hermitian::Hermitian;
-use vectors::Sums;
+use residual::Sums;
 ghost use mathlib.Core.Path.{_≡_};
 ghost use Prim.Native.Nat.{_+_, _*_, _<_, _≤_};
 ghost use lib.ListN.{length};
@@ -101,7 +101,7 @@ fn update(work: &mut [f64], n: usize, l: Plan, alpha: f64) -> Sums
     requires { ⌜ VectorRoom (length (now work)) n l ⌝ }
     ensures { λ r. ⌜ Updated (now (work .entry)) (now (work .exit)) n l alpha r ⌝ }
 {
-    vectors::reduce(work, l.residual, l.applied, l.inverse, n, alpha)
+    residual::reduce(work, l.residual, l.applied, l.inverse, n, alpha)
 }
 
 // x = x + direction * alpha.

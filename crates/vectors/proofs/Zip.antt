@@ -13,7 +13,7 @@ use Rattle.cells.proofs.Loops.{length-tab, getD-tab}
 use Rattle.cells.proofs.Cells.{putC-regionC, getD-regionC, length-regionC, putC-at}
 use Rattle.cells.proofs.Over.{over, over-none, length-over, over-all, over-todo, over-done, over-cell}
 use Rattle.hermitian.specs.Hermitian.{scaled}
-use Rattle.vectors.specs.Vectors.{zipOf, productsOf}
+use Rattle.vectors.specs.Vectors.{zipOf}
 
 pub length-zipOf : (f : Complex → Complex → Complex) (y x : List Complex) → length (zipOf f y x) ≡ length y
 unfolding zipOf
@@ -22,10 +22,6 @@ length-zipOf f y x = length-tab _ (length y)
 pub getD-zipOf : (f : Complex → Complex → Complex) (y x : List Complex) {n : ℕ} → length y ≡ n → (i : ℕ) → i < n → getD (zipOf f y x) i cnan ≡ f (getD y i cnan) (getD x i cnan)
 unfolding zipOf
 getD-zipOf f y x e i l = getD-tab _ (length y) i cnan (rw e l)
-
-pub length-productsOf : (d : List Float) (r : List Complex) → length (productsOf d r) ≡ length r
-unfolding productsOf
-length-productsOf d r = length-tab _ (length r)
 
 pub getD-scaled : (d : List Float) (x : List Complex) {n : ℕ} → length x ≡ n → (i : ℕ) → i < n → getD (scaled d x) i cnan ≡ cscale (getD x i cnan) (getD d i nan)
 unfolding scaled

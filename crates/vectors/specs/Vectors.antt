@@ -7,7 +7,6 @@ use Rattle.float.specs.Double.{recipOf}
 use Rattle.complex.specs.declared.Complex.{Complex}
 use Rattle.complex.specs.Complex.{cnan, cadd, csub, cscale}
 use Rattle.cells.specs.Region.{tab}
-use Rattle.hermitian.specs.Work.{reTerm}
 
 -- f (y i) (x i) at each i
 unfoldable pub zipOf : (Complex → Complex → Complex) → List Complex → List Complex → List Complex
@@ -27,10 +26,3 @@ recipsOf d = tab (λ i. recipOf (getD d i nan)) (length d)
 -- x i * k at each i
 unfoldable pub scaledBy : Float → List Complex → List Complex
 scaledBy k x = tab (λ i. cscale (getD x i cnan) k) (length x)
-
--- the terms of r's product with itself, and of its product with the preconditioned residual: a pair of reals at each i
-unfoldable pub productsAt : Complex → Float → Complex
-productsAt z k = record { re = reTerm z z; im = reTerm (cscale z k) z }
-
-unfoldable pub productsOf : List Float → List Complex → List Complex
-productsOf inverse r = tab (λ i. productsAt (getD r i cnan) (getD inverse i nan)) (length r)
