@@ -121,23 +121,27 @@ fn main() {
         let same = (0..n).all(|i| {
             x[i][0].to_bits() == work[n + 2 * m + i].to_bits() && x[i][1].to_bits() == work[n + 2 * m + n + i].to_bits()
         });
-        let turns = 50;
-        let (mut least, mut least_ours) = (f64::MAX, f64::MAX);
-        for _ in 0..if side > 100 { 60 } else { 300 } {
-            let t = std::time::Instant::now();
-            assert!(std::hint::black_box(reference::spend(&system, turns)));
-            least = least.min(t.elapsed().as_secs_f64());
-            work.copy_from_slice(&start);
-            let t = std::time::Instant::now();
-            assert!(ours(&mut work, 0.0, turns));
-            least_ours = least_ours.min(t.elapsed().as_secs_f64());
+        // ten turns and none, least of the rounds: the difference is the turns alone, and short enough to run undisturbed at times
+        let turns = 10;
+        let (mut rust, mut mine) = ([f64::MAX; 2], [f64::MAX; 2]);
+        for _ in 0..if side > 100 { 600 } else { 2000 } {
+            for (k, most) in [0, turns].into_iter().enumerate() {
+                let t = std::time::Instant::now();
+                assert!(std::hint::black_box(reference::spend(&system, most)));
+                rust[k] = rust[k].min(t.elapsed().as_secs_f64());
+                work.copy_from_slice(&start);
+                let t = std::time::Instant::now();
+                assert!(ours(&mut work, 0.0, most));
+                mine[k] = mine[k].min(t.elapsed().as_secs_f64());
+            }
         }
+        let (rust, mine) = (rust[1] - rust[0], mine[1] - mine[0]);
         println!(
             "{n} points, {m} edges, {count} iterations, x {}: Rust {:.1} us, ours {:.1} us an iteration, ratio {:.3}",
             if same { "the same" } else { "DIFFERENT" },
-            least / turns as f64 * 1e6,
-            least_ours / turns as f64 * 1e6,
-            least_ours / least
+            rust / turns as f64 * 1e6,
+            mine / turns as f64 * 1e6,
+            mine / rust
         );
     }
 }

@@ -1,4 +1,5 @@
 pub mod Loops
+pub mod Parts
 pub mod Regions
 pub mod Cells
 pub mod Over

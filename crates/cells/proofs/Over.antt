@@ -42,7 +42,7 @@ module _ {ℓ} {A : Type ℓ} (f : ℕ → A → A) (d : A) where
   over-todo zero v j l = rw over-none
   over-todo (suc i) v j l = rw (over-suc, getD-set-other (over i v) i j (f i (getD (over i v) i d)) d (λ e. omega arith)) (over-todo i v j (omega arith))
 
-  over-done : (i : ℕ) (v : List A) (j : ℕ) → j < i → i ≤ length v → getD (over i v) j d ≡ f j (getD v j d)
+  pub over-done : (i : ℕ) (v : List A) (j : ℕ) → j < i → i ≤ length v → getD (over i v) j d ≡ f j (getD v j d)
   over-done zero v j l h = absurd (not-suc-le-zero l)
   over-done (suc i) v j l h =
       let u : List A = over i v in

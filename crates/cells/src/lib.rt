@@ -9,14 +9,32 @@ ghost use Rattle.float.specs.Double.{lit};
 ghost use Rattle.cells.specs.Region.{region, put, Apart};
 ghost use Rattle.cells.specs.Cell.{getC, setC};
 
+// Element i of the region at `base`. The part of the slice that begins there is taken first, and then indexed: so the sum of
+// both is left to the processor's address, where a loop keeps the base and loads i.
+pub fn load_real(work: &[f64], base: usize, i: usize) -> f64
+    requires { ⌜ base + i < length (now work) ⌝ }
+    ensures { λ r. ⌜ r ≡ getD (now (work .entry)) (base + i) nan ⌝ }
+{
+    let part = &work[base..];
+    part[i]
+}
+
+pub fn store_real(work: &mut [f64], base: usize, i: usize, value: f64)
+    requires { ⌜ base + i < length (now work) ⌝ }
+    ensures { λ _. ⌜ now (work .exit) ≡ set (now (work .entry)) (base + i) value ⌝ }
+{
+    let part = &mut work[base..];
+    part[i] = value;
+}
+
 // Cell i of the vector of n cells at `base`.
 pub fn load(work: &[f64], base: usize, n: usize, i: usize) -> Complex
     requires { ⌜ (i < n) × (base + n + i < length (now work)) ⌝ }
     ensures { λ r. ⌜ r ≡ getC (now (work .entry)) base n i ⌝ }
 {
     Complex {
-        re: work[base + i],
-        im: work[base + n + i],
+        re: load_real(work, base, i),
+        im: load_real(work, base + n, i),
     }
 }
 
@@ -24,23 +42,8 @@ pub fn store(work: &mut [f64], base: usize, n: usize, i: usize, z: Complex)
     requires { ⌜ (i < n) × (base + n + i < length (now work)) ⌝ }
     ensures { λ _. ⌜ now (work .exit) ≡ setC (now (work .entry)) base n i z ⌝ }
 {
-    work[base + i] = z.re;
-    work[base + n + i] = z.im;
-}
-
-// Element i of the region at `base`.
-pub fn load_real(work: &[f64], base: usize, i: usize) -> f64
-    requires { ⌜ base + i < length (now work) ⌝ }
-    ensures { λ r. ⌜ r ≡ getD (now (work .entry)) (base + i) nan ⌝ }
-{
-    work[base + i]
-}
-
-pub fn store_real(work: &mut [f64], base: usize, i: usize, value: f64)
-    requires { ⌜ base + i < length (now work) ⌝ }
-    ensures { λ _. ⌜ now (work .exit) ≡ set (now (work .entry)) (base + i) value ⌝ }
-{
-    work[base + i] = value;
+    store_real(work, base, i, z.re);
+    store_real(work, base + n, i, z.im);
 }
 
 // `value` n times from `base`.

@@ -1,5 +1,4 @@
 pub mod Tests
-pub mod Zip
 pub mod Lays
 pub mod Passes
 pub mod Turns

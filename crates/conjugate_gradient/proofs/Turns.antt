@@ -19,13 +19,14 @@ use Rattle.hermitian.specs.Hermitian.{Matrix, dotOf, normOf, scaled, applied}
 use Rattle.hermitian.specs.Work.{matrix}
 use Rattle.hermitian.proofs.Product.{length-applied, length-scaled}
 use Rattle.conjugate_gradient.specs.declared.Plan.{Plan}
-use Rattle.conjugate_gradient.specs.declared.Sums.{Sums}
+use Rattle.residual.specs.declared.Sums.{Sums}
+use Rattle.vectors.specs.Vectors.{recipsOf}
 use Rattle.conjugate_gradient.specs.declared.Turned.{Turned}
 use Rattle.conjugate_gradient.specs.declared.Turned.the-variants.{Going, Converged, Broken}
 use Rattle.conjugate_gradient.specs.declared.Reason.the-variants.{Denominator, LostDefiniteness}
-use Rattle.conjugate_gradient.specs.Solve.{State, Turn, unfit, recipsOf, begun, residualDot, preconditioned, multiplied, denominator, reduced, advanced, directed, judged, stepped, turned}
+use Rattle.conjugate_gradient.specs.Solve.{State, Turn, unfit, begun, residualDot, preconditioned, multiplied, denominator, reduced, advanced, directed, judged, stepped, turned}
 use Rattle.conjugate_gradient.specs.Work.{read, lay, VectorRoom, Room, Begun, Multiplied, Updated, Ended}
-use Rattle.conjugate_gradient.proofs.Tests.{length-recipsOf}
+use Rattle.vectors.proofs.Inverses.{length-recipsOf}
 use Rattle.conjugate_gradient.proofs.Lays.{Sized, read-sized, lay-read, get-x, get-r, get-p, get-q, get-inverse, get-all, put-x, put-p, put-q, put-inverse, lay-then, length-lay}
 use Rattle.conjugate_gradient.proofs.Passes.{reduced-sized, advanced-sized, directed-sized}
 

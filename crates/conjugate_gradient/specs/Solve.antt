@@ -4,14 +4,15 @@ use Prim.Native.Nat.{ℕ, zero, suc}
 use mathlib.Core.Bool.{Bool, not, cond, _||_}
 use mathlib.Core.List.{List, [], _∷_}
 use lib.Dec.{ltb}
-use lib.ListN.{length, getD, replicate}
-use lib.Ieee.{Float, nan, le}
+use lib.ListN.{length, replicate}
+use lib.Ieee.{Float, le}
 use Rattle.float.specs.Double.{lit, isFinite, recipOf, _⊗_, _⊘_}
 use Rattle.root.specs.Root.{rootOf}
 use Rattle.complex.specs.declared.Complex.{Complex}
-use Rattle.complex.specs.Complex.{czero, cnan, cadd, csub, cscale}
-use Rattle.cells.specs.Region.{tab}
+use Rattle.complex.specs.Complex.{czero}
 use Rattle.hermitian.specs.Hermitian.{Matrix, dotOf, normOf, scaled, applied}
+use Rattle.vectors.specs.Vectors.{zipOf, addScaled, subScaled, recipsOf, scaledBy}
+use Rattle.residual.specs.Residual.{productsOf}
 use Rattle.conjugate_gradient.specs.declared.Reason.{Reason}
 use Rattle.conjugate_gradient.specs.declared.Reason.the-variants.{RightHandNorm, Diagonal, FirstResidual, Denominator, LostDefiniteness, CountSpent, MassOfIterate}
 use Rattle.conjugate_gradient.specs.declared.Answer.{Answer}
@@ -29,21 +30,6 @@ unfit v = not (isFinite v) || le v (lit 0)
 unfoldable pub firstUnfit : List Float → ℕ
 firstUnfit [] = 0
 firstUnfit (v ∷ d) = cond (unfit v) 0 (suc (firstUnfit d))
-
--- f (y i) (x i) at each i
-unfoldable pub zipOf : (Complex → Complex → Complex) → List Complex → List Complex → List Complex
-zipOf f y x = tab (λ i. f (getD y i cnan) (getD x i cnan)) (length y)
-
--- y + x * k, and y - x * k
-unfoldable pub addScaled : Float → Complex → Complex → Complex
-addScaled k y x = cadd y (cscale x k)
-
-unfoldable pub subScaled : Float → Complex → Complex → Complex
-subScaled k y x = csub y (cscale x k)
-
--- 1 / d i at each i
-unfoldable pub recipsOf : List Float → List Float
-recipsOf d = tab (λ i. recipOf (getD d i nan)) (length d)
 
 -- ---- the vectors: the iterate, the residual, the direction, the matrix times the direction, and the inverse diagonal
 
@@ -80,10 +66,17 @@ multiplied m s = record { x = s .x; r = s .r; p = s .p; q = applied m (s .p); in
 unfoldable pub denominator : State → Float
 denominator s = dotOf (s .p) (s .q) .re
 
--- x = x + p * alpha and r = r - q * alpha
+-- r = r - q * alpha. q is left with the terms of the new residual's products, with itself and with the preconditioned residual
 unfoldable pub reduced : Float → State → State
-reduced alpha s = record { x = s .x; r = zipOf (subScaled alpha) (s .r) (s .q); p = s .p; q = s .q; inverse = s .inverse }
+reduced alpha s = record {
+  x = s .x;
+  r = zipOf (subScaled alpha) (s .r) (s .q);
+  p = s .p;
+  q = productsOf (s .inverse) (zipOf (subScaled alpha) (s .r) (s .q));
+  inverse = s .inverse;
+}
 
+-- x = x + p * alpha
 unfoldable pub advanced : Float → State → State
 advanced alpha s = record { x = zipOf (addScaled alpha) (s .x) (s .p); r = s .r; p = s .p; q = s .q; inverse = s .inverse }
 
@@ -157,12 +150,9 @@ solved m tolerance k s =
 unfoldable pub massOf : Matrix → List Complex → Float
 massOf m x = dotOf x (applied m x) .re
 
--- each value times the reciprocal of the mass norm
-unfoldable pub scaledBy : Float → List Complex → List Complex
-scaledBy k x = tab (λ i. cscale (getD x i cnan) k) (length x)
-
 unfoldable pub normalizedAnswer : Float → Normalized
 normalizedAnswer squared = cond (unfit squared) (normalized.GaveUp MassOfIterate) normalized.Done
 
+-- each value times the reciprocal of the mass norm
 unfoldable pub normalizedVector : Float → List Complex → List Complex
 normalizedVector squared x = cond (unfit squared) x (scaledBy (recipOf (rootOf squared)) x)

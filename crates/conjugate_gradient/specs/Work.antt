@@ -1,25 +1,20 @@
 -- How a work slice holds the vectors, and what the functions require of it.
 use mathlib.Core.Path.{_≡_}
 use mathlib.Core.List.{List, [], _∷_}
-use Prim.Native.Nat.{ℕ, _+_, _*_, _≤_, _<_}
-use lib.ListN.{length, getD}
+use Prim.Native.Nat.{ℕ, _+_, _*_, _≤_}
 use lib.Ieee.{Float, nan}
-use Rattle.float.specs.Double.{lit, _⊕_}
-use Rattle.complex.specs.declared.Complex.{Complex}
-use Rattle.complex.specs.Complex.{cadd, cscale}
-use Rattle.cells.specs.Region.{region, Apart}
-use Rattle.cells.specs.Cell.{getC, setC, flat, regionC, putC}
+use Rattle.cells.specs.Region.{region}
+use Rattle.cells.specs.Cell.{flat, regionC, putC}
 use Rattle.cells.specs.Rows.{Row, row, laid, Ranged}
 use Rattle.hermitian.specs.declared.Hermitian.{Hermitian}
 use Rattle.hermitian.specs.Hermitian.{Matrix, dotOf, applied}
-use Rattle.hermitian.specs.Work.{matrix, reTerm}
+use Rattle.hermitian.specs.Work.{matrix}
+use Rattle.residual.specs.declared.Sums.{Sums}
 use Rattle.conjugate_gradient.specs.declared.Plan.{Plan}
-use Rattle.conjugate_gradient.specs.declared.Sums.{Sums}
-use Rattle.conjugate_gradient.specs.declared.Next.{Next}
 use Rattle.conjugate_gradient.specs.declared.Turned.{Turned}
 use Rattle.conjugate_gradient.specs.declared.Answer.{Answer}
 use Rattle.conjugate_gradient.specs.declared.Normalized.{Normalized}
-use Rattle.conjugate_gradient.specs.Solve.{State, Turn, Outcome, addScaled, subScaled, begun, residualDot, multiplied, denominator, reduced, massOf, normalizedAnswer, normalizedVector}
+use Rattle.conjugate_gradient.specs.Solve.{State, Turn, Outcome, begun, residualDot, multiplied, denominator, reduced, massOf, normalizedAnswer, normalizedVector}
 
 -- ---- the layout
 
@@ -80,23 +75,3 @@ pub record Solved (w w′ : List Float) (n : ℕ) (l : Plan) (o : Outcome) (r : 
 pub record InMass (w w′ : List Float) (x y n : ℕ) (m : Matrix) (r : Normalized) : Type 0 where
   pub work : w′ ≡ putC (putC w y (applied m (regionC w x n))) x (normalizedVector (massOf m (regionC w x n)) (regionC w x n))
   pub result : r ≡ normalizedAnswer (massOf m (regionC w x n))
-
--- ---- turns of the loops
-
--- the sums of the update, with the new residual z and the inverse diagonal's value k
-unfoldable pub sumsStep : Sums → Complex → Float → Sums
-sumsStep s z k = record { square = s .square ⊕ reTerm z z; next = s .next ⊕ reTerm (cscale z k) z }
-
-pub record UpdateTurn (w w′ : List Float) (l : Plan) (n i : ℕ) (alpha : Float) (s r : Sums) : Type 0 where
-  pub work : w′ ≡ setC w (l .residual) n i (subScaled alpha (getC w (l .residual) n i) (getC w (l .applied) n i))
-  pub result : r ≡ sumsStep s (subScaled alpha (getC w (l .residual) n i) (getC w (l .applied) n i)) (getD w (l .inverse + i) nan)
-
--- the next x and direction at i, and w with them
-unfoldable pub nextC : List Float → Plan → ℕ → ℕ → Float → Float → Next
-nextC w l n i alpha beta = record {
-  x = addScaled alpha (getC w (l .x) n i) (getC w (l .direction) n i);
-  p = addScaled beta (cscale (getC w (l .residual) n i) (getD w (l .inverse + i) nan)) (getC w (l .direction) n i);
-}
-
-unfoldable pub directC : List Float → Plan → ℕ → ℕ → Float → Float → List Float
-directC w l n i alpha beta = setC (setC w (l .x) n i (nextC w l n i alpha beta .x)) (l .direction) n i (nextC w l n i alpha beta .p)

@@ -1,23 +1,18 @@
 // Jacobi-preconditioned conjugate gradients for a Hermitian system, in regions of one lent slice, and `normalize_in_mass`:
-// the Rust's steps, with the vectors that one pass over memory can serve in one loop.
-use cells::load;
+// the Rust's steps.
 use cells::load_real;
-use cells::store;
-use cells::store_real;
-use complex::Complex;
 use hermitian::Hermitian;
+use residual::Sums;
 ghost use mathlib.Core.Path.{_≡_};
 ghost use Prim.Native.Nat.{_+_, _*_, _<_, _≤_};
-ghost use lib.ListN.{length, getD, set};
+ghost use lib.ListN.{length};
 ghost use lib.Ieee.{nan};
-ghost use Rattle.float.specs.Double.{lit, maxOf, recipOf};
+ghost use Rattle.float.specs.Double.{lit, maxOf};
 ghost use Rattle.root.specs.Root.{rootOf};
-ghost use Rattle.complex.specs.Complex.{cscale};
-ghost use Rattle.cells.specs.Region.{region, put};
-ghost use Rattle.cells.specs.Cell.{getC, setC, regionC, putC};
-ghost use Rattle.hermitian.specs.Work.{matrix, Graph, ApplyRoom, PairRoom};
-ghost use Rattle.conjugate_gradient.specs.Solve.{unfit, firstUnfit, addScaled, subScaled, recipsOf, reduced, advanced, directed, judged, turned, answerOf, run, solved, scaledBy};
-ghost use Rattle.conjugate_gradient.specs.Work.{read, lay, VectorRoom, Room, Begun, Multiplied, Updated, Ended, Solved, InMass, sumsStep, UpdateTurn, nextC, directC};
+ghost use Rattle.cells.specs.Region.{region};
+ghost use Rattle.hermitian.specs.Work.{matrix, Graph, ApplyRoom};
+ghost use Rattle.conjugate_gradient.specs.Solve.{unfit, firstUnfit, reduced, advanced, directed, judged, turned, answerOf, run, solved};
+ghost use Rattle.conjugate_gradient.specs.Work.{read, lay, VectorRoom, Room, Begun, Multiplied, Updated, Ended, Solved, InMass};
 
 // Why the solver gave up: number 24's reasons 3 to 9, in their order.
 pub enum Reason {
@@ -58,12 +53,6 @@ enum Turned {
     Broken(Reason),
 }
 
-// The residual's product with itself, and with the preconditioned residual.
-struct Sums {
-    square: f64,
-    next: f64,
-}
-
 // Whether a value is not finite, or not positive.
 fn is_unfit(value: f64) -> bool
     ensures { λ r. ⌜ r ≡ unfit value ⌝ }
@@ -87,29 +76,11 @@ fn first_unfit(work: &[f64], d: usize, n: usize) -> usize
     n
 }
 
-fn invert_turn(work: &mut [f64], y: usize, d: usize, i: usize)
-    requires { ⌜ (y + i < length (now work)) × (d + i < length (now work)) ⌝ }
-    ensures { λ _. ⌜ now (work .exit) ≡ set (now (work .entry)) (y + i) (recipOf (getD (now (work .entry)) (d + i) nan)) ⌝ }
-{
-    let value = float::recip(load_real(work, d, i));
-    store_real(work, y, i, value);
-}
-
-// y[i] = 1 / d[i], for each i.
-fn invert(work: &mut [f64], y: usize, d: usize, n: usize)
-    requires { ⌜ PairRoom (length (now work)) d y n ⌝ }
-    ensures { λ _. ⌜ now (work .exit) ≡ put (now (work .entry)) y (recipsOf (region nan (now (work .entry)) d n)) ⌝ }
-{
-    for i in 0..n {
-        invert_turn(work, y, d, i);
-    }
-}
-
 fn begin(work: &mut [f64], h: Hermitian, l: Plan) -> f64
     requires { ⌜ Room (length (now work)) h l ⌝ }
     ensures { λ r. ⌜ Begun (now (work .entry)) (now (work .exit)) h l r ⌝ }
 {
-    invert(work, l.inverse, h.diagonal, h.size);
+    vectors::invert(work, l.inverse, h.diagonal, h.size);
     cells::fill(work, l.x, 2 * h.size, 0.0);
     hermitian::scale(work, l.direction, l.residual, l.inverse, h.size);
     hermitian::dot_re(work, l.direction, l.residual, h.size)
@@ -125,66 +96,12 @@ fn multiply(work: &mut [f64], h: Hermitian, l: Plan, from: &[u32], to: &[u32]) -
     hermitian::dot_re(work, l.direction, l.applied, h.size)
 }
 
-// y + x * k.
-fn add_scaled(y: Complex, x: Complex, k: f64) -> Complex
-    ensures { λ r. ⌜ r ≡ addScaled k y x ⌝ }
-{
-    y.add(x.scale(k))
-}
-
-// y - x * k.
-fn sub_scaled(y: Complex, x: Complex, k: f64) -> Complex
-    ensures { λ r. ⌜ r ≡ subScaled k y x ⌝ }
-{
-    y.sub(x.scale(k))
-}
-
-// Both sums, with a residual z and its value k of the inverse diagonal.
-fn sums_step(s: Sums, z: Complex, k: f64) -> Sums
-    ensures { λ r. ⌜ r ≡ sumsStep s z k ⌝ }
-{
-    let v = z.scale(k);
-    Sums {
-        square: s.square + (z.re * z.re + z.im * z.im),
-        next: s.next + (v.re * z.re + v.im * z.im),
-    }
-}
-
-fn update_turn(work: &mut [f64], n: usize, l: Plan, alpha: f64, i: usize, s: Sums) -> Sums
-    requires { ⌜ (i < n) × (l .residual + n + i < length (now work)) × (l .applied + n + i < length (now work)) × (l .inverse + i < length (now work)) ⌝ }
-    ensures { λ r. ⌜ UpdateTurn (now (work .entry)) (now (work .exit)) l n i alpha s r ⌝ }
-{
-    let z = sub_scaled(
-        load(work, l.residual, n, i),
-        load(work, l.applied, n, i),
-        alpha,
-    );
-    let k = load_real(work, l.inverse, i);
-    store(work, l.residual, n, i, z);
-    sums_step(s, z, k)
-}
-
-// residual = residual - applied * alpha, with both sums, in one pass.
+// residual = residual - applied * alpha, with both sums. Their terms are left where the matrix times the direction stood.
 fn update(work: &mut [f64], n: usize, l: Plan, alpha: f64) -> Sums
     requires { ⌜ VectorRoom (length (now work)) n l ⌝ }
     ensures { λ r. ⌜ Updated (now (work .entry)) (now (work .exit)) n l alpha r ⌝ }
 {
-    let mut s = Sums {
-        square: 0.0,
-        next: 0.0,
-    };
-    for i in 0..n {
-        s = update_turn(work, n, l, alpha, i, s);
-    }
-    s
-}
-
-fn advance_turn(work: &mut [f64], y: usize, x: usize, n: usize, alpha: f64, i: usize)
-    requires { ⌜ (i < n) × (y + n + i < length (now work)) × (x + n + i < length (now work)) ⌝ }
-    ensures { λ _. ⌜ now (work .exit) ≡ setC (now (work .entry)) y n i (addScaled alpha (getC (now (work .entry)) y n i) (getC (now (work .entry)) x n i)) ⌝ }
-{
-    let z = add_scaled(load(work, y, n, i), load(work, x, n, i), alpha);
-    store(work, y, n, i, z);
+    residual::reduce(work, l.residual, l.applied, l.inverse, n, alpha)
 }
 
 // x = x + direction * alpha.
@@ -192,42 +109,7 @@ fn advance(work: &mut [f64], n: usize, l: Plan, alpha: f64)
     requires { ⌜ VectorRoom (length (now work)) n l ⌝ }
     ensures { λ _. ⌜ now (work .exit) ≡ lay (now (work .entry)) n l (advanced alpha (read (now (work .entry)) n l)) ⌝ }
 {
-    for i in 0..n {
-        advance_turn(work, l.x, l.direction, n, alpha, i);
-    }
-}
-
-// The next x and direction at one place.
-struct Next {
-    x: Complex,
-    p: Complex,
-}
-
-fn preconditioned_at(work: &[f64], n: usize, l: Plan, i: usize) -> Complex
-    requires { ⌜ (i < n) × (l .residual + n + i < length (now work)) × (l .inverse + i < length (now work)) ⌝ }
-    ensures { λ r. ⌜ r ≡ cscale (getC (now (work .entry)) (l .residual) n i) (getD (now (work .entry)) (l .inverse + i) nan) ⌝ }
-{
-    load(work, l.residual, n, i).scale(load_real(work, l.inverse, i))
-}
-
-fn next_at(work: &[f64], n: usize, l: Plan, alpha: f64, beta: f64, i: usize) -> Next
-    requires { ⌜ (i < n) × (l .x + n + i < length (now work)) × (l .residual + n + i < length (now work)) × (l .direction + n + i < length (now work)) × (l .inverse + i < length (now work)) ⌝ }
-    ensures { λ r. ⌜ r ≡ nextC (now (work .entry)) l n i alpha beta ⌝ }
-{
-    let p = load(work, l.direction, n, i);
-    Next {
-        x: add_scaled(load(work, l.x, n, i), p, alpha),
-        p: add_scaled(preconditioned_at(work, n, l, i), p, beta),
-    }
-}
-
-fn direct_turn(work: &mut [f64], n: usize, l: Plan, alpha: f64, beta: f64, i: usize)
-    requires { ⌜ (i < n) × (l .x + n + i < length (now work)) × (l .residual + n + i < length (now work)) × (l .direction + n + i < length (now work)) × (l .inverse + i < length (now work)) ⌝ }
-    ensures { λ _. ⌜ now (work .exit) ≡ directC (now (work .entry)) l n i alpha beta ⌝ }
-{
-    let next = next_at(work, n, l, alpha, beta, i);
-    store(work, l.x, n, i, next.x);
-    store(work, l.direction, n, i, next.p);
+    vectors::advance(work, l.x, l.direction, n, alpha);
 }
 
 // x = x + direction * alpha and direction = preconditioned residual + direction * beta, in one pass.
@@ -235,9 +117,16 @@ fn direct(work: &mut [f64], n: usize, l: Plan, alpha: f64, beta: f64)
     requires { ⌜ VectorRoom (length (now work)) n l ⌝ }
     ensures { λ _. ⌜ now (work .exit) ≡ lay (now (work .entry)) n l (directed beta (advanced alpha (read (now (work .entry)) n l))) ⌝ }
 {
-    for i in 0..n {
-        direct_turn(work, n, l, alpha, beta, i);
-    }
+    vectors::direct(
+        work,
+        l.x,
+        l.direction,
+        l.residual,
+        l.inverse,
+        n,
+        alpha,
+        beta,
+    );
 }
 
 // The norm of a vector whose product with itself is `square`.
@@ -350,24 +239,6 @@ pub fn conjugate_gradient(
     iterate(work, h, l, from, to, tolerance * norm, first, most)
 }
 
-fn scale_turn(work: &mut [f64], x: usize, n: usize, k: f64, i: usize)
-    requires { ⌜ (i < n) × (x + n + i < length (now work)) ⌝ }
-    ensures { λ _. ⌜ now (work .exit) ≡ setC (now (work .entry)) x n i (cscale (getC (now (work .entry)) x n i) k) ⌝ }
-{
-    let z = load(work, x, n, i).scale(k);
-    store(work, x, n, i, z);
-}
-
-// x[i] = x[i] * k, for each i.
-fn scale_by(work: &mut [f64], x: usize, n: usize, k: f64)
-    requires { ⌜ x + 2 * n ≤ length (now work) ⌝ }
-    ensures { λ _. ⌜ now (work .exit) ≡ putC (now (work .entry)) x (scaledBy k (regionC (now (work .entry)) x n)) ⌝ }
-{
-    for i in 0..n {
-        scale_turn(work, x, n, k, i);
-    }
-}
-
 // x divided by its norm in the mass matrix. The region at y is left with the matrix times x.
 pub fn normalize_in_mass(
     work: &mut [f64],
@@ -386,6 +257,6 @@ pub fn normalize_in_mass(
     if is_unfit(squared) {
         return Normalized::GaveUp(Reason::MassOfIterate);
     }
-    scale_by(work, x, mass.size, float::recip(root::sqrt(squared)));
+    vectors::scale_by(work, x, mass.size, float::recip(root::sqrt(squared)));
     Normalized::Done
 }

@@ -1,50 +1,19 @@
--- `conjugate_gradient::advance` meets its contract: the loop keeps what `Inv-loop` says, and what is left to do falls at each turn; the laws are in proofs/Passes.
-use Rattle.conjugate_gradient.proofs.Passes.{advanceTo, advance-none, advance-again, advance-done}
-use Rattle.cells.specs.Cell.{putC}
-use mathlib.Core.Path.{_≡_}
-use Prim.Native.Nat.{_≤_, _-_}
-use lib.ListN.{length}
+-- `conjugate_gradient::advance` meets its contract: the law is in proofs/Passes.
+use Rattle.conjugate_gradient.proofs.Passes.{advance-all}
+use Rattle.cells.proofs.Loops.{apart}
+use native.Mathlib.Omega.{arith}
 use borrow.Author.Needs.{needs}
 use Rattle.conjugate_gradient.proofs.advance.Statement.{statement}
 use Rattle.conjugate_gradient.proofs.advance.Tie as tie
 
-abbrev Inv-loop : tie.InvT-loop
-Inv-loop work₀ n l alpha i₀ work i = (i ≤ n) × (length work ≡ length work₀) × (work ≡ putC work₀ (l .x) (advanceTo work₀ n l alpha i))
+advance-requires : tie.Need-advance-requires
+advance-requires c κs = omega (arith, apart)
 
-abbrev μ-loop : tie.MeasureT-loop
-μ-loop work₀ n l alpha i₀ work i = n - i
-
-loop-holds : tie.Need-loop-holds Inv-loop μ-loop
-loop-holds c = search (advance-none, needs)
-
-advance-turn-requires : tie.Need-advance-turn-requires Inv-loop μ-loop
-advance-turn-requires c κs = search needs
-
-add-i : tie.Need-add-i Inv-loop μ-loop
-add-i c = search needs
-
-loop-less : tie.Need-loop-less Inv-loop μ-loop
-loop-less c = search needs
-
-loop-again : tie.Need-loop-again Inv-loop μ-loop
-loop-again c = search (advance-again, needs)
-
-same-length : tie.Need-same-length Inv-loop μ-loop
+same-length : tie.Need-same-length
 same-length c = search needs
 
-returns : tie.Need-returns Inv-loop μ-loop
-returns c = search advance-done
+returns : tie.Need-returns
+returns c = advance-all _ _ _ (c .before .before .before .before .before .pre) _ (c .before .before .advance .ensures)
 
 pub advance-spec : {M : Type 1} → statement M
-advance-spec =
-    tie.close
-    (tie.spec
-    Inv-loop
-    μ-loop
-    loop-holds
-    advance-turn-requires
-    add-i
-    loop-less
-    loop-again
-    same-length
-    returns)
+advance-spec = tie.close (tie.spec advance-requires same-length returns)

@@ -1,49 +1,19 @@
--- `conjugate_gradient::direct` meets its contract: the loop keeps what `Inv-loop` says, and what is left to do falls at each turn; the laws are in proofs/Passes.
-use Rattle.conjugate_gradient.proofs.Passes.{directTo, direct-none, direct-again, direct-done}
-use mathlib.Core.Path.{_≡_}
-use Prim.Native.Nat.{_≤_, _-_}
-use lib.ListN.{length}
+-- `conjugate_gradient::direct` meets its contract: the law is in proofs/Passes.
+use Rattle.conjugate_gradient.proofs.Passes.{direct-all}
+use Rattle.cells.proofs.Loops.{apart}
+use native.Mathlib.Omega.{arith}
 use borrow.Author.Needs.{needs}
 use Rattle.conjugate_gradient.proofs.direct.Statement.{statement}
 use Rattle.conjugate_gradient.proofs.direct.Tie as tie
 
-abbrev Inv-loop : tie.InvT-loop
-Inv-loop work₀ n l alpha beta i₀ work i = (i ≤ n) × (length work ≡ length work₀) × (work ≡ directTo work₀ n l alpha beta i)
+direct-requires : tie.Need-direct-requires
+direct-requires c κs = omega (arith, apart)
 
-abbrev μ-loop : tie.MeasureT-loop
-μ-loop work₀ n l alpha beta i₀ work i = n - i
-
-loop-holds : tie.Need-loop-holds Inv-loop μ-loop
-loop-holds c = search (direct-none, needs)
-
-direct-turn-requires : tie.Need-direct-turn-requires Inv-loop μ-loop
-direct-turn-requires c κs = search needs
-
-add-i : tie.Need-add-i Inv-loop μ-loop
-add-i c = search needs
-
-loop-less : tie.Need-loop-less Inv-loop μ-loop
-loop-less c = search needs
-
-loop-again : tie.Need-loop-again Inv-loop μ-loop
-loop-again c = search (direct-again, needs)
-
-same-length : tie.Need-same-length Inv-loop μ-loop
+same-length : tie.Need-same-length
 same-length c = search needs
 
-returns : tie.Need-returns Inv-loop μ-loop
-returns c = search direct-done
+returns : tie.Need-returns
+returns c = direct-all _ _ _ (c .before .before .before .before .before .pre) _ _ (c .before .before .direct .ensures)
 
 pub direct-spec : {M : Type 1} → statement M
-direct-spec =
-    tie.close
-    (tie.spec
-    Inv-loop
-    μ-loop
-    loop-holds
-    direct-turn-requires
-    add-i
-    loop-less
-    loop-again
-    same-length
-    returns)
+direct-spec = tie.close (tie.spec direct-requires same-length returns)

@@ -1,49 +1,19 @@
--- `conjugate_gradient::update` meets its contract: the loop keeps what `Inv-loop` says, and what is left to do falls at each turn; the laws are in proofs/Passes.
-use Rattle.conjugate_gradient.proofs.Passes.{UpdateAt, update-none, update-again, update-done}
-use mathlib.Core.Path.{_≡_}
-use Prim.Native.Nat.{_≤_, _-_}
-use lib.ListN.{length}
+-- `conjugate_gradient::update` meets its contract: the law is in proofs/Passes.
+use Rattle.conjugate_gradient.proofs.Passes.{update-all}
+use Rattle.cells.proofs.Loops.{apart}
+use native.Mathlib.Omega.{arith}
 use borrow.Author.Needs.{needs}
 use Rattle.conjugate_gradient.proofs.update.Statement.{statement}
 use Rattle.conjugate_gradient.proofs.update.Tie as tie
 
-abbrev Inv-loop : tie.InvT-loop
-Inv-loop work₀ n l alpha s₀ i₀ work s i = (i ≤ n) × (length work ≡ length work₀) × UpdateAt work₀ n l alpha work i s
+reduce-requires : tie.Need-reduce-requires
+reduce-requires c κs = omega (arith, apart)
 
-abbrev μ-loop : tie.MeasureT-loop
-μ-loop work₀ n l alpha s₀ i₀ work s i = n - i
-
-loop-holds : tie.Need-loop-holds Inv-loop μ-loop
-loop-holds c = search (update-none, needs)
-
-update-turn-requires : tie.Need-update-turn-requires Inv-loop μ-loop
-update-turn-requires c κs = search needs
-
-add-i : tie.Need-add-i Inv-loop μ-loop
-add-i c = search needs
-
-loop-less : tie.Need-loop-less Inv-loop μ-loop
-loop-less c = search needs
-
-loop-again : tie.Need-loop-again Inv-loop μ-loop
-loop-again c = search (update-again, needs)
-
-same-length : tie.Need-same-length Inv-loop μ-loop
+same-length : tie.Need-same-length
 same-length c = search needs
 
-returns : tie.Need-returns Inv-loop μ-loop
-returns c = search update-done
+returns : tie.Need-returns
+returns c = update-all _ _ _ (c .before .before .before .before .before .pre) (c .before .before .reduce .ensures)
 
 pub update-spec : {M : Type 1} → statement M
-update-spec =
-    tie.close
-    (tie.spec
-    Inv-loop
-    μ-loop
-    loop-holds
-    update-turn-requires
-    add-i
-    loop-less
-    loop-again
-    same-length
-    returns)
+update-spec = tie.close (tie.spec reduce-requires same-length returns)

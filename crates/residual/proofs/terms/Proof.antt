@@ -1,0 +1,54 @@
+-- `residual::terms` meets its contract: the loop keeps what `Inv-loop` says, and what is left to do falls at each turn; the laws are in proofs/Sweeps.
+use Rattle.residual.proofs.Sweeps.{termsTo, terms-none, terms-again, terms-done}
+use mathlib.Core.Path.{_≡_}
+use Prim.Native.Nat.{_≤_, _-_}
+use lib.ListN.{length}
+use native.Mathlib.Omega.{arith}
+use borrow.Author.Needs.{needs}
+use Rattle.residual.proofs.terms.Statement.{statement}
+use Rattle.residual.proofs.terms.Tie as tie
+
+abbrev Inv-loop : tie.InvT-loop
+Inv-loop work₀ r q inverse n alpha first count k₀ work k = (k ≤ count) × (length work ≡ length work₀) × (work ≡ termsTo work₀ r q inverse n alpha first k)
+
+abbrev μ-loop : tie.MeasureT-loop
+μ-loop work₀ r q inverse n alpha first count k₀ work k = count - k
+
+loop-holds : tie.Need-loop-holds Inv-loop μ-loop
+loop-holds c = search (terms-none, needs)
+
+add-term-turn : tie.Need-add-term-turn Inv-loop μ-loop
+add-term-turn c = search needs
+
+term-turn-requires : tie.Need-term-turn-requires Inv-loop μ-loop
+term-turn-requires c κs = omega arith
+
+add-k : tie.Need-add-k Inv-loop μ-loop
+add-k c = search needs
+
+loop-less : tie.Need-loop-less Inv-loop μ-loop
+loop-less c = search needs
+
+loop-again : tie.Need-loop-again Inv-loop μ-loop
+loop-again c = search (terms-again, needs)
+
+same-length : tie.Need-same-length Inv-loop μ-loop
+same-length c = search needs
+
+returns : tie.Need-returns Inv-loop μ-loop
+returns c = search terms-done
+
+pub terms-spec : {M : Type 1} → statement M
+terms-spec =
+    tie.close
+    (tie.spec
+    Inv-loop
+    μ-loop
+    loop-holds
+    add-term-turn
+    term-turn-requires
+    add-k
+    loop-less
+    loop-again
+    same-length
+    returns)

@@ -1,0 +1,4 @@
+pub mod Zip
+pub mod Inverses
+pub mod Directions
+pub mod Scale
