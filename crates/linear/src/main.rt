@@ -4,25 +4,17 @@ use conjugate_gradient::Answer;
 use conjugate_gradient::Normalized;
 use conjugate_gradient::Reason;
 use layers::Checked;
+use replay::rows;
+use replay::rows::Tally;
 ghost use Prim.Native.Nat.{_<_, _≤_};
 
 // The words of a recorded system, and where its parts begin.
 const WIDTH: usize = 240;
 
-struct Tally {
-    more: bool,
-    recorded: u64,
-    differ: u64,
-}
-
 // A reason of document 01 and the iterations or the place; 0 where there is none.
 struct Verdict {
     reason: u64,
     value: u64,
-}
-
-fn one_more(n: u64) -> u64 {
-    std::num::wrapping_add_u64(n, 1)
 }
 
 fn told(reason: u64, value: u64) -> Verdict {
@@ -61,14 +53,6 @@ fn told_checked(c: Checked) -> Verdict {
         Checked::Solved(a) => told_answer(a),
         Checked::Normal(a) => told_normalized(a),
     }
-}
-
-// The count that a word gives, at most `most`.
-fn count(text: &[u8], k: usize, most: usize) -> usize
-    ensures { λ r. ⌜ r ≤ most ⌝ }
-{
-    let n = replay::word(text, k) as usize;
-    if n < most { n } else { most }
 }
 
 fn double(text: &[u8], k: usize) -> f64 {
@@ -223,7 +207,7 @@ fn solved(
 {
     let x = n + 2 * m;
     load_all(work, text, at, n, m, x + 2 * n);
-    let most = count(text, at + 4, 6000);
+    let most = rows::count(text, at + 4, 6000);
     let c = solve(work, n, from, to, m, double(text, at + 3), most);
     judged(work, text, at, n, x, c)
 }
@@ -231,8 +215,8 @@ fn solved(
 fn replayed(work: &mut [f64], from: &mut [u32], to: &mut [u32], text: &[u8], at: usize) -> bool
     requires { ⌜ at < 0x0fff_ffff_ffff_f000 ⌝ }
 {
-    let n = count(text, at, 16);
-    let m = count(text, at + 1, 40);
+    let n = rows::count(text, at, 16);
+    let m = rows::count(text, at + 1, 40);
     load_ends(from, text, at + 24, m, true);
     load_ends(to, text, at + 24, m, false);
     if replay::word(text, at + 2) == 1 {
@@ -251,36 +235,13 @@ fn holds(text: &[u8], at: usize) -> bool
     replayed(&mut work, &mut from, &mut to, text, at)
 }
 
-fn row(text: &[u8], at: usize, seen: Tally) -> Tally
-    requires { ⌜ at < 0x0fff_ffff_ffff_f000 ⌝ }
-{
-    let recorded = one_more(seen.recorded);
-    let differ = seen.differ;
-    if holds(text, at) {
-        return Tally {
-            more: true,
-            recorded,
-            differ,
-        };
-    }
-    Tally {
-        more: true,
-        recorded,
-        differ: one_more(differ),
-    }
-}
-
 // The rows of a text, which is a chunk or the last part of the file.
 fn rows_of(text: &[u8], start: Tally) -> Tally {
     let words = text.len() / replay::WORD;
-    let mut seen = Tally {
-        more: false,
-        recorded: start.recorded,
-        differ: start.differ,
-    };
+    let mut seen = rows::paused(start);
     let mut at: usize = 0;
     while at < words {
-        seen = row(text, at, seen);
+        seen = rows::judged(seen, holds(text, at));
         at += WIDTH;
     }
     seen
@@ -296,11 +257,7 @@ fn some(fd: i32, seen: Tally) -> Tally {
 // The whole file. The turns only fall so that the loop is known to end.
 fn main() {
     let fd = replay::open(b"systems");
-    let mut seen = Tally {
-        more: true,
-        recorded: 0,
-        differ: 0,
-    };
+    let mut seen = rows::unseen();
     let mut turns = u64::MAX;
     while turns > 0 && seen.more {
         seen = some(fd, seen);

@@ -15,6 +15,9 @@ slice-aggregate-open c = search needs
 open-requires : tie.Need-open-requires Inv-loop μ-loop
 open-requires c κs = search needs
 
+unseen-requires : tie.Need-unseen-requires Inv-loop μ-loop
+unseen-requires c κs = search needs
+
 loop-holds : tie.Need-loop-holds Inv-loop μ-loop
 loop-holds c = search needs
 
@@ -50,6 +53,7 @@ main-spec =
     μ-loop
     slice-aggregate-open
     open-requires
+    unseen-requires
     loop-holds
     some-requires
     sub-turns

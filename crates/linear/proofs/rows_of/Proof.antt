@@ -1,6 +1,6 @@
 -- `linear::rows_of` is safe and ends: what is left to do falls at each turn.
-use Prim.Native.Nat.{_-_}
 use borrow.Author.Needs.{needs}
+use Prim.Native.Nat.{_-_}
 use Rattle.linear.proofs.rows_of.Statement.{statement}
 use Rattle.linear.proofs.rows_of.Tie as tie
 
@@ -10,11 +10,17 @@ Inv-loop text words seen₀ at₀ seen at = Unit {0}
 abbrev μ-loop : tie.MeasureT-loop
 μ-loop text words seen₀ at₀ seen at = words - at
 
+paused-requires : tie.Need-paused-requires Inv-loop μ-loop
+paused-requires c κs = search needs
+
 loop-holds : tie.Need-loop-holds Inv-loop μ-loop
 loop-holds c = search needs
 
-row-requires : tie.Need-row-requires Inv-loop μ-loop
-row-requires c κs = search needs
+holds-requires : tie.Need-holds-requires Inv-loop μ-loop
+holds-requires c κs = search needs
+
+judged-requires : tie.Need-judged-requires Inv-loop μ-loop
+judged-requires c κs = search needs
 
 add-at : tie.Need-add-at Inv-loop μ-loop
 add-at c = search needs
@@ -31,4 +37,14 @@ returns c = search needs
 pub rows-of-spec : {M : Type 1} → statement M
 rows-of-spec =
     tie.close
-    (tie.spec Inv-loop μ-loop loop-holds row-requires add-at loop-less loop-again returns)
+    (tie.spec
+    Inv-loop
+    μ-loop
+    paused-requires
+    loop-holds
+    holds-requires
+    judged-requires
+    add-at
+    loop-less
+    loop-again
+    returns)
