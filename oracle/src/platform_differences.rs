@@ -1,0 +1,81 @@
+//! The reference over its platform's own sine, cosine and arctangent beside the reference over ours, on whole solves: how often and
+//! by how much the answers differ.
+
+use crate::{
+    outcome::{expected, Answer, Given},
+    solves::{calls, named},
+    BOUND, PLATFORM,
+};
+use std::{collections::BTreeMap, f64::consts::FRAC_PI_2};
+
+/// Angles of many cases: how many, how many differ, and the histogram and the greatest of their distances.
+#[derive(Default)]
+struct Angles {
+    all: usize,
+    differ: usize,
+    /// 1 unit in the last place, to 10, to 100, .. and beyond a million.
+    units: [usize; 8],
+    farthest: f64,
+    /// The greatest distance on the circle of pi/2: 0 and pi/2 are the same direction of a cross.
+    farthest_turn: f64,
+}
+
+impl Angles {
+    fn add(&mut self, a: f64, b: f64) {
+        self.all += 1;
+        if a.to_bits() == b.to_bits() {
+            return;
+        }
+        self.differ += 1;
+        let units = a.to_bits().abs_diff(b.to_bits());
+        let place = (1..8).find(|&k| units <= 10u64.pow(k as u32 - 1)).unwrap_or(8) - 1;
+        self.units[place] += 1;
+        let far = (a - b).abs();
+        self.farthest = self.farthest.max(far);
+        self.farthest_turn = self.farthest_turn.max(far.min(FRAC_PI_2 - far));
+    }
+}
+
+pub fn run(count: u64, seed: u64) {
+    let (mut tried, mut same, mut angles) = (0, 0, Angles::default());
+    let mut others: BTreeMap<String, usize> = BTreeMap::new();
+    let (mut both, mut only_angles) = (0, 0);
+    for case in calls(count, seed) {
+        let (ours, theirs) = (expected(BOUND, &case), expected(PLATFORM, &case));
+        tried += 1;
+        let accepted = |g: &Given| matches!(g.answer, Answer::Accepted { .. });
+        if ours.answer != theirs.answer {
+            let counts = accepted(&ours) && accepted(&theirs);
+            let what = if counts {
+                "flagged or cut counts differ".to_string()
+            } else {
+                format!("{} became {}", named(&ours), named(&theirs))
+            };
+            *others.entry(what).or_default() += 1;
+            continue;
+        }
+        both += usize::from(accepted(&ours));
+        let before = angles.differ;
+        for (a, b) in ours
+            .coarse
+            .iter()
+            .chain(&ours.fine)
+            .zip(theirs.coarse.iter().chain(&theirs.fine))
+        {
+            if *a != crate::outcome::MARK {
+                angles.add(*a, *b);
+            }
+        }
+        only_angles += usize::from(angles.differ > before);
+        same += usize::from(angles.differ == before);
+    }
+    println!("{tried} solves, seed {seed}: {same} equal in every bit; {both} accepted by both with the same counts, of which {only_angles} differ in angles");
+    println!("{} angles, {} differ; in units in the last place: 1, to 10, to 100, to 1,000, to 1e4, to 1e5, to 1e6, beyond: {:?}", angles.all, angles.differ, angles.units);
+    println!(
+        "the greatest difference: {:e}, as a turn of the cross {:e}",
+        angles.farthest, angles.farthest_turn
+    );
+    for (what, times) in others {
+        println!("{times:6} {what}");
+    }
+}
