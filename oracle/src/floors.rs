@@ -250,6 +250,16 @@ fn good(r: &mut Random, most: usize) -> Floor {
             let mut floor = grid(2 + r.below(most / 2), 2);
             let thin = r.scale(-6.0, 0.0);
             floor.points.iter_mut().for_each(|p| p[1] *= thin);
+            // columns of very different widths
+            if r.one_in(2) {
+                let columns = floor.points.len() / 2;
+                let mut x = 0.0;
+                for i in 0..columns {
+                    floor.points[i][0] = x;
+                    floor.points[columns + i][0] = x;
+                    x += r.scale(-5.0, 0.0);
+                }
+            }
             floor
         }
         4 => disk(1 + r.below(2), 3 + r.below(5), r.one_in(2)),

@@ -15,9 +15,9 @@ struct Angles {
     differ: usize,
     /// 1 unit in the last place, to 10, to 100, .. and beyond a million.
     units: [usize; 8],
+    /// The distance on the circle of pi/2, where 0 and pi/2 are one direction of a cross: to 1e-15, 1e-12, 1e-9, 1e-6, 1e-3, and beyond.
+    turns: [usize; 6],
     farthest: f64,
-    /// The greatest distance on the circle of pi/2: 0 and pi/2 are the same direction of a cross.
-    farthest_turn: f64,
 }
 
 impl Angles {
@@ -31,8 +31,13 @@ impl Angles {
         let place = (1..8).find(|&k| units <= 10u64.pow(k as u32 - 1)).unwrap_or(8) - 1;
         self.units[place] += 1;
         let far = (a - b).abs();
-        self.farthest = self.farthest.max(far);
-        self.farthest_turn = self.farthest_turn.max(far.min(FRAC_PI_2 - far));
+        let turn = far.min(FRAC_PI_2 - far);
+        let place = [1e-15, 1e-12, 1e-9, 1e-6, 1e-3]
+            .iter()
+            .position(|&most| turn <= most)
+            .unwrap_or(5);
+        self.turns[place] += 1;
+        self.farthest = self.farthest.max(turn);
     }
 }
 
@@ -69,11 +74,16 @@ pub fn run(count: u64, seed: u64) {
         only_angles += usize::from(angles.differ > before);
         same += usize::from(angles.differ == before);
     }
-    println!("{tried} solves, seed {seed}: {same} equal in every bit; {both} accepted by both with the same counts, of which {only_angles} differ in angles");
-    println!("{} angles, {} differ; in units in the last place: 1, to 10, to 100, to 1,000, to 1e4, to 1e5, to 1e6, beyond: {:?}", angles.all, angles.differ, angles.units);
+    println!("{tried} solves, seed {seed}: {same} equal in every bit");
+    println!("{both} accepted by both with the same counts, of which {only_angles} differ in angles");
+    println!("{} angles, {} differ", angles.all, angles.differ);
     println!(
-        "the greatest difference: {:e}, as a turn of the cross {:e}",
-        angles.farthest, angles.farthest_turn
+        "in units in the last place, 1, to 10, to 100, to 1,000, to 1e4, to 1e5, to 1e6, beyond: {:?}",
+        angles.units
+    );
+    println!(
+        "as turns of the cross, to 1e-15, 1e-12, 1e-9, 1e-6, 1e-3, beyond: {:?}; the greatest {:e}",
+        angles.turns, angles.farthest
     );
     for (what, times) in others {
         println!("{times:6} {what}");

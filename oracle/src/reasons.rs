@@ -3,7 +3,7 @@
 
 use crate::{
     case::{Boundary, Case, Guidance, Options},
-    floors,
+    floors::{self, Floor},
     outcome::{expected, Answer},
     random::Random,
     shrink::shrink,
@@ -20,19 +20,37 @@ fn extreme(r: &mut Random) -> f64 {
     }
 }
 
+/// A small floor of any scale and thinness.
+fn scaled(r: &mut Random) -> Floor {
+    let (mut floor, _) = floors::floor(r, 9);
+    let (a, b) = match r.below(5) {
+        0 => (r.scale(-162.0, 155.0), 1.0),
+        1 => (r.scale(-162.0, 155.0), r.scale(-14.0, 0.0)),
+        2 => (1.0, r.scale(-14.0, 0.0)),
+        // areas and their sums next to the largest double
+        3 => (r.scale(152.0, 154.5), 1.0),
+        _ => (1.0, 1.0),
+    };
+    floor.points.iter_mut().for_each(|p| *p = [p[0] * a, p[1] * a * b, 0.0]);
+    floor
+}
+
 fn nth(seed: u64, i: u64) -> Case {
     let mut r = Random::new(
         seed.wrapping_mul(0x3_0000_0001)
             .wrapping_add(i.wrapping_mul(0x9e37_79b9)),
     );
-    let (mut floor, _) = floors::floor(&mut r, 9);
-    let (a, b) = match r.below(4) {
-        0 => (r.scale(-162.0, 155.0), 1.0),
-        1 => (r.scale(-162.0, 155.0), r.scale(-14.0, 0.0)),
-        2 => (1.0, r.scale(-14.0, 0.0)),
-        _ => (1.0, 1.0),
-    };
-    floor.points.iter_mut().for_each(|p| *p = [p[0] * a, p[1] * a * b, 0.0]);
+    let mut floor = scaled(&mut r);
+    // a second floor about the same origin, of another scale, now and then without a boundary
+    if r.one_in(4) {
+        let mut other = scaled(&mut r);
+        if r.one_in(2) {
+            other.tris.extend(other.tris.clone());
+        }
+        let n = floor.points.len() as u32;
+        floor.points.extend(other.points);
+        floor.tris.extend(other.tris.iter().map(|t| t.map(|v| v + n)));
+    }
     let n = floor.points.len();
     let spread = r.pick(&[0.0, 1.0, 10.0, 100.0, 300.0]);
     let options = Options {
@@ -45,7 +63,7 @@ fn nth(seed: u64, i: u64) -> Case {
             1 => Boundary::Weak(extreme(&mut r)),
             _ => Boundary::None,
         },
-        adaptive: if r.one_in(3) { r.pick(&[5e-324, 1e-9, 0.1]) } else { 0.0 },
+        adaptive: if r.one_in(2) { r.pick(&[5e-324, 1e-9, 0.1]) } else { 0.0 },
     };
     let weight = extreme(&mut r);
     let guidance = r.one_in(3).then(|| Guidance {

@@ -68,8 +68,6 @@ impl Shrinker<'_> {
         self.attempt(|c| c.options.anisotropy = 1.0);
         self.attempt(|c| c.options.anisotropy_angle = 0.0);
         self.attempt(|c| c.options.boundary = Boundary::None);
-        self.attempt(|c| c.options.boundary = Boundary::Tangent);
-        self.attempt(|c| c.options.boundary = Boundary::Weak(1.0));
         self.attempt(|c| c.options.adaptive = 0.0);
         self.attempt(|c| c.guidance = None);
         self.attempt(|c| c.spare = [0; 4]);
