@@ -46,6 +46,13 @@ pub mod access {
         super::conjugate_gradient(&hermitian(s), &complex(&s.rhs), s.tolerance, s.most).map(|(x, n)| (pairs(&x), n))
     }
 
+    fn time_conjugate_gradient(s: &System) -> f64 {
+        let (matrix, rhs) = (hermitian(s), complex(&s.rhs));
+        let now = std::time::Instant::now();
+        let _ = std::hint::black_box(super::conjugate_gradient(&matrix, &rhs, s.tolerance, s.most));
+        now.elapsed().as_secs_f64()
+    }
+
     fn normalize_in_mass(s: &System) -> Result<Vec<Pair>, String> {
         let mut next = complex(&s.rhs);
         super::normalize_in_mass(&mut next, &hermitian(s)).map(|()| pairs(&next))
@@ -143,6 +150,7 @@ pub mod access {
         refine_once,
         extend_guidance,
         conjugate_gradient,
+        time_conjugate_gradient,
         normalize_in_mass,
         interp_angle,
         count_singularities,

@@ -45,6 +45,8 @@ pub struct Reference {
     pub refine_once: fn(&[[f64; 3]], &[[usize; 3]], &[f64], &[f64], f64) -> Refined,
     pub extend_guidance: fn(&[f64], &[(usize, usize)], usize) -> Vec<f64>,
     pub conjugate_gradient: fn(&System) -> Result<(Vec<Pair>, usize), String>,
+    /// The seconds of one call, without the making of the matrix.
+    pub time_conjugate_gradient: fn(&System) -> f64,
     /// Of the right-hand side.
     pub normalize_in_mass: fn(&System) -> Result<Vec<Pair>, String>,
     pub interp_angle: fn(&[f64], &[[f64; 3]], &[[usize; 3]], Pair) -> f64,
