@@ -85,6 +85,15 @@ impl Case {
         [0, 1, 2, 3].map(|k| (needed[k] as i64 + self.spare[k]).max(0) as usize)
     }
 
+    /// Whether the boundary mode makes each pass a single linear solve, to which the count of iterations is only a bound.
+    pub fn bounded(&self) -> bool {
+        match self.options.boundary {
+            Boundary::None => false,
+            Boundary::Tangent => true,
+            Boundary::Weak(weight) => weight > 0.0,
+        }
+    }
+
     pub fn triples(&self) -> Vec<[f64; 3]> {
         self.points.chunks_exact(3).map(|p| [p[0], p[1], p[2]]).collect()
     }

@@ -1,11 +1,12 @@
 //! Whole calls: a floor with sizes, options, guidance, a count of iterations, a threshold that flags none, some or all triangles, and
-//! lent slices. One call in four is then put at a row of document 01's table, just inside or just outside of it (rows.rs).
+//! lent slices. One call in four is then put at a row of document 01's table, just inside or just outside of it (rows.rs), and one in
+//! sixteen is at the ends of the format (reasons.rs).
 
 use crate::{
     case::{Boundary, Case, Guidance, Options},
     floors::{self, Floor},
     random::Random,
-    rows, BOUND,
+    reasons, rows, BOUND,
 };
 use std::f64::consts::FRAC_PI_4;
 
@@ -109,10 +110,7 @@ fn around(r: &mut Random, floor: Floor, before: &[[f64; 3]]) -> Case {
         iterations: r.pick(&[1, 2, 5, 10, 20, 50, 50, 100, 100]),
         spare: [0; 4],
     };
-    // a single linear solve may be given any count
-    let acts = matches!(case.options.boundary, Boundary::Tangent)
-        || matches!(case.options.boundary, Boundary::Weak(w) if w > 0.0);
-    if acts && r.one_in(4) {
+    if case.bounded() && r.one_in(4) {
         case.iterations = r.pick(&[1000, 5999, 6001, u64::MAX]);
     }
     if r.one_in(2) {
@@ -126,6 +124,9 @@ fn around(r: &mut Random, floor: Floor, before: &[[f64; 3]]) -> Case {
 
 /// The call number i of a seed, of about 30 points at most.
 pub fn nth(seed: u64, i: u64) -> Case {
+    if i % 16 == 6 {
+        return reasons::nth(seed, i);
+    }
     let mut r = Random::new(
         seed.wrapping_mul(0x1_0000_0001)
             .wrapping_add(i.wrapping_mul(0x9e37_79b9)),
@@ -135,6 +136,9 @@ pub fn nth(seed: u64, i: u64) -> Case {
     let mut case = around(&mut r, floor, &before);
     if i % 4 == 3 {
         rows::put(&mut r, &mut case);
+    }
+    if !case.bounded() {
+        case.iterations = case.iterations.min(100);
     }
     case
 }

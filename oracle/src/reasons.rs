@@ -35,7 +35,8 @@ fn scaled(r: &mut Random) -> Floor {
     floor
 }
 
-fn nth(seed: u64, i: u64) -> Case {
+/// The call number i of a seed, at the ends of the format in one thing or several.
+pub fn nth(seed: u64, i: u64) -> Case {
     let mut r = Random::new(
         seed.wrapping_mul(0x3_0000_0001)
             .wrapping_add(i.wrapping_mul(0x9e37_79b9)),
@@ -70,7 +71,7 @@ fn nth(seed: u64, i: u64) -> Case {
         weight,
         angle: (0..n).map(|_| r.between(-1.0, 1.0)).collect(),
     });
-    Case {
+    let mut case = Case {
         points: floor.points.concat(),
         tris: floor.tris.concat(),
         sizes: (0..n).map(|_| r.scale(-spread, spread)).collect(),
@@ -78,7 +79,11 @@ fn nth(seed: u64, i: u64) -> Case {
         guidance,
         iterations: r.pick(&[1, 2, 10, 40]),
         spare: [0; 4],
+    };
+    if case.bounded() && r.one_in(2) {
+        case.iterations = 6001;
     }
+    case
 }
 
 /// Reason and pass, where row 24 refuses.
