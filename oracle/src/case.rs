@@ -85,12 +85,13 @@ impl Case {
         [0, 1, 2, 3].map(|k| (needed[k] as i64 + self.spare[k]).max(0) as usize)
     }
 
-    /// Whether the boundary mode makes each pass a single linear solve, to which the count of iterations is only a bound.
+    /// Whether the boundary mode or the guidance makes each pass a single linear solve, whose count of iterations is only a bound.
     pub fn bounded(&self) -> bool {
+        let guided = self.guidance.as_ref().is_some_and(|g| g.weight > 0.0);
         match self.options.boundary {
-            Boundary::None => false,
+            Boundary::None => guided,
             Boundary::Tangent => true,
-            Boundary::Weak(weight) => weight > 0.0,
+            Boundary::Weak(weight) => guided || weight > 0.0,
         }
     }
 

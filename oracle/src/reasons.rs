@@ -94,35 +94,36 @@ fn reason(case: &Case) -> Option<(u32, u32)> {
     }
 }
 
+/// How many inputs of one reason are made small, to take the shortest.
+const FEW: usize = 5;
+
 pub fn search(count: u64, seed: u64) {
-    let mut found: BTreeMap<(u32, u32), (usize, Case)> = BTreeMap::new();
+    let mut found: BTreeMap<(u32, u32), (usize, Vec<Case>)> = BTreeMap::new();
     for case in (0..count).map(|i| nth(seed, i)) {
         if let Some(key) = reason(&case) {
-            let entry = found.entry(key).or_insert((0, case.clone()));
-            entry.0 += 1;
-            if case.tris.len() < entry.1.tris.len() {
-                entry.1 = case;
-            }
+            let (times, few) = found.entry(key).or_default();
+            *times += 1;
+            few.push(case);
+            few.sort_by_key(|c| c.tris.len());
+            few.truncate(FEW);
         }
     }
     println!("{count} inputs, seed {seed}");
-    for (key, (times, case)) in &found {
-        let small = shrink(case, &|c| reason(c) == Some(*key), 3000);
+    for (key, (times, few)) in &found {
+        let small = few.iter().map(|case| shrink(case, &|c| reason(c) == Some(*key), 2000));
+        let shortest = small.min_by_key(|c| c.to_string().len()).expect("an input");
         println!(
-            "reason {} in pass {}: {times} inputs; the smallest:\n{small}",
+            "reason {} in pass {}: {times} inputs; the smallest:\n{shortest}",
             key.0, key.1
         );
     }
-    let missing = |pass: u32| {
-        (1..=13)
+    for pass in [1, 2] {
+        let missing = (1..=13)
             .filter(|r| !found.contains_key(&(*r, pass)))
-            .map(|r| r.to_string())
-            .collect::<Vec<_>>()
-            .join(" ")
-    };
-    println!(
-        "reasons not reached in pass 1: {}\nreasons not reached in pass 2: {}",
-        missing(1),
-        missing(2)
-    );
+            .map(|r| r.to_string());
+        println!(
+            "reasons not reached in pass {pass}: {}",
+            missing.collect::<Vec<_>>().join(" ")
+        );
+    }
 }

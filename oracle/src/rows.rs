@@ -181,7 +181,7 @@ fn at_pass(r: &mut Random, case: &mut Case, row: usize) {
                 let weight = r.pick(&[5e-324, 1e-310, 1e-160, 1e300, f64::MAX]);
                 guidance(case, n).weight = weight;
             }
-            case.iterations = r.pick(&[1, 2, 10]);
+            case.iterations = r.pick(&[1, 2, 10, 6001]);
             case.options.holomorphic = r.pick(&[0.0, 1.0, -1.0]);
         }
     }

@@ -86,8 +86,7 @@ impl Shrinker<'_> {
         if !x.is_finite() {
             return;
         }
-        let digits = |d: i32| format!("{:.*e}", d as usize, x).parse::<f64>().unwrap_or(x);
-        for plain in [0.0, 1.0, x.round(), digits(0), digits(1), digits(3)] {
+        for plain in [0.0, 1.0, x.round(), rounded(x, 0), rounded(x, 1), rounded(x, 3)] {
             // -0 is not plainer than 0
             if plain.to_bits() == x.to_bits() || (plain == 0.0 && plain.is_sign_negative()) {
                 break;
@@ -102,6 +101,16 @@ impl Shrinker<'_> {
         self.attempt(|c| c.sizes.fill(1.0));
         self.attempt(|c| c.guidance.iter_mut().for_each(|g| g.angle.fill(0.0)));
         self.attempt(|c| c.points.iter_mut().skip(2).step_by(3).for_each(|z| *z = 0.0));
+        for d in [0, 1, 3] {
+            if self.attempt(|c| {
+                c.points
+                    .iter_mut()
+                    .chain(&mut c.sizes)
+                    .for_each(|x| *x = rounded(*x, d))
+            }) {
+                break;
+            }
+        }
         for k in 0..self.case.points.len() {
             self.number(|c| c.points.get_mut(k));
         }
@@ -121,6 +130,11 @@ impl Shrinker<'_> {
             _ => None,
         });
     }
+}
+
+/// So many digits after the first.
+fn rounded(x: f64, digits: usize) -> f64 {
+    format!("{x:.digits$e}").parse().unwrap_or(x)
 }
 
 fn drop_point(c: &mut Case, v: usize) {
