@@ -11,7 +11,10 @@ use crate::{
     refusal::{self, Refusal},
     BOUND, PLATFORM,
 };
-use std::panic::{catch_unwind, AssertUnwindSafe};
+use std::{
+    cell::Cell,
+    panic::{catch_unwind, AssertUnwindSafe},
+};
 
 pub trait Candidate {
     fn solve(&self, case: &Case) -> Given;
@@ -27,12 +30,25 @@ pub const STOPPED: Refusal = Refusal {
     pass: 0,
 };
 
+thread_local! {
+    /// Set while a candidate runs: where it stops is counted, and not reported.
+    pub static RUNS: Cell<bool> = const { Cell::new(false) };
+}
+
+/// A candidate's answer, or None where it stopped.
+fn caught<T>(answer: impl FnOnce() -> T) -> Option<T> {
+    RUNS.set(true);
+    let answer = catch_unwind(AssertUnwindSafe(answer)).ok();
+    RUNS.set(false);
+    answer
+}
+
 /// A copy of the reference: the platform's, or a wrong one.
 pub struct Copied(pub &'static Reference);
 
 impl Candidate for Copied {
     fn solve(&self, case: &Case) -> Given {
-        catch_unwind(AssertUnwindSafe(|| expected(self.0, case))).unwrap_or_else(|_| Given {
+        caught(|| expected(self.0, case)).unwrap_or_else(|| Given {
             answer: Answer::Refused(STOPPED),
             coarse: vec![],
             fine: vec![],
@@ -42,7 +58,7 @@ impl Candidate for Copied {
 
     fn pass(&self, case: &Case) -> Option<Result<Vec<f64>, Refusal>> {
         let pass = || (self.0.pass)(case).map_err(|text| refusal::of_message(&text, 1));
-        Some(catch_unwind(AssertUnwindSafe(pass)).unwrap_or(Err(STOPPED)))
+        Some(caught(pass).unwrap_or(Err(STOPPED)))
     }
 }
 

@@ -1,7 +1,7 @@
 //! What both programs do: `oracle` over the bound copy, `wrong` over the copies of wrong.txt as well.
 
 use crate::{
-    candidates::{candidate, Candidate, Copied},
+    candidates::{candidate, Candidate, Copied, RUNS},
     case, linear, platform_differences, reasons,
     reference::Reference,
     refine_call, refinement, scalars, solves, BOUND,
@@ -67,9 +67,8 @@ pub fn run(copies: &'static [Copy]) {
             }),
         }
     };
-    // a copy that stops in the middle is counted, and not reported
     std::panic::set_hook(Box::new(|info| {
-        if env::var("GODF_STOPS").is_ok() {
+        if !RUNS.get() || env::var("GODF_STOPS").is_ok() {
             eprintln!("{info}");
         }
     }));

@@ -8,6 +8,7 @@ pub mod command;
 pub mod compare;
 pub mod floors;
 pub mod godf;
+pub mod known;
 pub mod leaves;
 pub mod linear;
 pub mod outcome;

@@ -17,14 +17,17 @@ struct Angles {
     units: [usize; 8],
     /// The distance on the circle of pi/2, where 0 and pi/2 are one direction of a cross: to 1e-15, 1e-12, 1e-9, 1e-6, 1e-3, and beyond.
     turns: [usize; 6],
+    /// The same of the farthest angle of each solve that differs.
+    solves: [usize; 6],
     farthest: f64,
 }
 
 impl Angles {
-    fn add(&mut self, a: f64, b: f64) {
+    /// Adds a pair of angles; their distance as a turn.
+    fn add(&mut self, a: f64, b: f64) -> f64 {
         self.all += 1;
         if a.to_bits() == b.to_bits() {
-            return;
+            return 0.0;
         }
         self.differ += 1;
         let units = a.to_bits().abs_diff(b.to_bits());
@@ -32,13 +35,17 @@ impl Angles {
         self.units[place] += 1;
         let far = (a - b).abs();
         let turn = far.min(FRAC_PI_2 - far);
-        let place = [1e-15, 1e-12, 1e-9, 1e-6, 1e-3]
-            .iter()
-            .position(|&most| turn <= most)
-            .unwrap_or(5);
-        self.turns[place] += 1;
+        self.turns[far_place(turn)] += 1;
         self.farthest = self.farthest.max(turn);
+        turn
     }
+}
+
+fn far_place(turn: f64) -> usize {
+    [1e-15, 1e-12, 1e-9, 1e-6, 1e-3]
+        .iter()
+        .position(|&most| turn <= most)
+        .unwrap_or(5)
 }
 
 pub fn run(count: u64, seed: u64) {
@@ -61,6 +68,7 @@ pub fn run(count: u64, seed: u64) {
         }
         both += usize::from(accepted(&ours));
         let before = angles.differ;
+        let mut farthest = 0f64;
         for (a, b) in ours
             .coarse
             .iter()
@@ -68,11 +76,15 @@ pub fn run(count: u64, seed: u64) {
             .zip(theirs.coarse.iter().chain(&theirs.fine))
         {
             if *a != crate::outcome::MARK {
-                angles.add(*a, *b);
+                farthest = farthest.max(angles.add(*a, *b));
             }
         }
-        only_angles += usize::from(angles.differ > before);
-        same += usize::from(angles.differ == before);
+        if angles.differ > before {
+            only_angles += 1;
+            angles.solves[far_place(farthest)] += 1;
+        } else {
+            same += 1;
+        }
     }
     println!("{tried} solves, seed {seed}: {same} equal in every bit");
     println!("{both} accepted by both with the same counts, of which {only_angles} differ in angles");
@@ -85,6 +97,7 @@ pub fn run(count: u64, seed: u64) {
         "as turns of the cross, to 1e-15, 1e-12, 1e-9, 1e-6, 1e-3, beyond: {:?}; the greatest {:e}",
         angles.turns, angles.farthest
     );
+    println!("the farthest angle of each such solve, likewise: {:?}", angles.solves);
     for (what, times) in others {
         println!("{times:6} {what}");
     }

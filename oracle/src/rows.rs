@@ -171,6 +171,15 @@ fn at_pass(r: &mut Random, case: &mut Case, row: usize) {
                 case.tris.truncate(6 * t - 3);
             }
         }
+        // a right-hand side whose squares are subnormal, so that conjugate gradient takes many turns
+        24 if r.one_in(2) => {
+            case.options.boundary = Boundary::None;
+            case.options.holomorphic = r.pick(&[0.0, 1.0, -1.0]);
+            let weight = r.scale(-163.0, -157.0);
+            let angle = (0..n).map(|_| r.between(-1.0, 1.0)).collect();
+            case.guidance = Some(Guidance { weight, angle });
+            case.iterations = r.pick(&[1, 6001, 6001]);
+        }
         _ => {
             case.options.boundary = if r.one_in(2) {
                 Boundary::Weak(r.pick(&[5e-324, 1e-310, 1e-160, 1e300, f64::MAX]))
