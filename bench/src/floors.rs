@@ -23,7 +23,7 @@ pub fn case(side: usize, sizes: &str, boundary: Boundary, threshold: f64) -> Cas
     let size = |p: &[f64; 3]| match sizes {
         "constant" => 1.0,
         "graded" => 1.0 + 2.0 * p[0] + p[1] * p[1],
-        _ => 1.5 + 0.4 * (5.0 * p[0]).sin() + 0.3 * (4.0 * p[1]).cos(),
+        _ => 1.5 + 0.1 * (7.0 * p[0]).sin() * (5.0 * p[1]).cos(),
     };
     Case {
         sizes: floor.points.iter().map(size).collect(),
@@ -38,4 +38,9 @@ pub fn case(side: usize, sizes: &str, boundary: Boundary, threshold: f64) -> Cas
         iterations: 100,
         spare: [0; 4],
     }
+}
+
+/// A threshold that flags some triangles: a triangle of a finer grid turns less.
+pub fn turning(side: usize) -> f64 {
+    0.2 / side as f64
 }

@@ -1,7 +1,7 @@
 //! layers_conjugate_gradient beside conjugate_gradient, on the very systems of the floors: first both to the end, the iterates compared
 //! bit by bit, then 50 iterations of each.
 
-use crate::floors::{case, MODES, SIDES, SIZES};
+use crate::floors::{case, MODES, SIZES};
 use crate::time::{heading, row, seconds};
 use oracle::reference::System;
 use oracle::PLATFORM;
@@ -88,10 +88,10 @@ fn same(s: &System) -> (bool, usize) {
     ((0..x.len()).all(equal), count)
 }
 
-pub fn run(rounds: usize) {
+pub fn run(rounds: usize, sides: &[usize]) {
     heading("Linear: one iteration of conjugate gradient", "us");
     let mut all = true;
-    for side in SIDES {
+    for &side in sides {
         for sizes in SIZES {
             for (mode, boundary) in MODES {
                 let mut c = case(side, sizes, boundary, 0.0);

@@ -4,7 +4,7 @@ mod floors;
 mod linear;
 mod time;
 
-use floors::{case, MODES, SIDES, SIZES};
+use floors::{case, turning, MODES, SIDES, SIZES};
 use oracle::{case::Boundary, godf, outcome::same, random::Random, PLATFORM};
 use time::{heading, row, seconds};
 
@@ -15,14 +15,14 @@ fn field(side: usize) -> (oracle::case::Case, Vec<f64>) {
     (c, alpha)
 }
 
-fn refinement(rounds: usize) {
+fn refinement(rounds: usize, sides: &[usize]) {
     heading("Refinement: godf_refine beside refine_once", "ms");
     let mut calls: Vec<(String, oracle::case::Case, Vec<f64>, f64)> = vec![];
-    for side in SIDES {
-        for threshold in [0.0, 0.05] {
+    for &side in sides {
+        for threshold in [0.0, turning(side)] {
             let (c, alpha) = field(side);
             calls.push((
-                format!("{side} by {side}, wavy, tangent, threshold {threshold}"),
+                format!("{side} by {side}, wavy, tangent, threshold {threshold:.4}"),
                 c,
                 alpha,
                 threshold,
@@ -54,9 +54,9 @@ fn refinement(rounds: usize) {
     }
 }
 
-fn probe(rounds: usize) {
+fn probe(rounds: usize, sides: &[usize]) {
     heading("Probe: godf_interp_angle beside interp_angle, a question", "us");
-    for side in SIDES {
+    for &side in sides {
         let (c, alpha) = field(side);
         let (points, tris) = (c.triples(), c.corners());
         let mut r = Random::new(side as u64);
@@ -91,12 +91,12 @@ fn probe(rounds: usize) {
     }
 }
 
-fn singularities(rounds: usize) {
+fn singularities(rounds: usize, sides: &[usize]) {
     heading(
         "Singularities: godf_count_singularities beside count_singularities",
         "us",
     );
-    for side in SIDES {
+    for &side in sides {
         let (c, alpha) = field(side);
         let tris = c.corners();
         let counts = godf::count_singularities(&alpha, &c.tris);
@@ -108,12 +108,12 @@ fn singularities(rounds: usize) {
 }
 
 /// The reference's own time of a whole solve; ours stands beside it once libgodf.a has godf_solve.
-fn solve(rounds: usize) {
+fn solve(rounds: usize, sides: &[usize]) {
     println!("\nWhole solve: the Rust alone\n\n| floor | least, ms | median | most |\n|---|---|---|---|");
-    for side in SIDES {
+    for &side in sides {
         for sizes in SIZES {
             for (mode, boundary) in MODES {
-                for threshold in [0.0, 0.05] {
+                for threshold in [0.0, turning(side)] {
                     let c = case(side, sizes, boundary, threshold);
                     let mut told = String::new();
                     let run = |_| {
@@ -123,7 +123,7 @@ fn solve(rounds: usize) {
                         let (flagged, cut) = seen.counts.unwrap_or((0, 0));
                         let end = answer.map_or_else(|text| text, |_| format!("{flagged} flagged, {cut} cut"));
                         told = if threshold > 0.0 {
-                            format!(", threshold {threshold}: {end}")
+                            format!(", threshold {threshold:.4}: {end}")
                         } else {
                             format!(": {end}")
                         };
@@ -145,8 +145,10 @@ fn main() {
         .first()
         .map_or(5, |w| w.parse().expect("a count of rounds"))
         .max(1);
-    let named = |layer: &str| words.len() < 2 || words[1..].iter().any(|w| w == layer);
-    let layers: [(&str, fn(usize)); 5] = [
+    let (numbers, names): (Vec<&String>, Vec<&String>) = words.iter().skip(1).partition(|w| w.parse::<usize>().is_ok());
+    let asked: Vec<usize> = numbers.iter().filter_map(|w| w.parse().ok()).collect();
+    let sides = if asked.is_empty() { SIDES.to_vec() } else { asked };
+    let layers: [(&str, fn(usize, &[usize])); 5] = [
         ("refinement", refinement),
         ("linear", linear::run),
         ("probe", probe),
@@ -154,8 +156,8 @@ fn main() {
         ("solve", solve),
     ];
     for (name, run) in layers {
-        if named(name) {
-            run(rounds);
+        if names.is_empty() || names.iter().any(|w| *w == name) {
+            run(rounds, &sides);
         }
     }
 }
