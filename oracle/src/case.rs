@@ -1,6 +1,6 @@
 //! One whole call of document 01's "The call": what is given and what is lent, with a printed form that can be read back.
 
-use std::fmt;
+use std::{fmt, str::FromStr};
 
 #[derive(Clone, Copy, PartialEq, Debug)]
 pub enum Boundary {
@@ -154,66 +154,59 @@ impl fmt::Display for Case {
     }
 }
 
+fn all<T: FromStr>(words: &[&str]) -> Result<Vec<T>, String> {
+    let read = |word: &&str| word.parse().map_err(|_| format!("not a number: {word}"));
+    words.iter().map(read).collect()
+}
+
+fn one<T: FromStr>(words: &[&str]) -> Result<T, String> {
+    let [only]: [T; 1] = all(words)?.try_into().map_err(|_| "not one number")?;
+    Ok(only)
+}
+
+impl Case {
+    fn read(&mut self, key: &str, words: &[&str]) -> Result<(), String> {
+        match key {
+            "points" => self.points = all(words)?,
+            "triangles" => self.tris = all(words)?,
+            "sizes" => self.sizes = all(words)?,
+            "accurate" => self.options.accurate = one::<u8>(words)? != 0,
+            "holomorphic" => self.options.holomorphic = one(words)?,
+            "anisotropy" => {
+                let [ratio, angle]: [f64; 2] = all(words)?.try_into().map_err(|_| "not two numbers")?;
+                (self.options.anisotropy, self.options.anisotropy_angle) = (ratio, angle);
+            }
+            "boundary" => {
+                self.options.boundary = match words {
+                    ["none"] => Boundary::None,
+                    ["tangent"] => Boundary::Tangent,
+                    ["weak", weight @ ..] => Boundary::Weak(one(weight)?),
+                    _ => return Err("no such boundary".to_string()),
+                }
+            }
+            "threshold" => self.options.adaptive = one(words)?,
+            "guidance" => {
+                let (weight, angle) = words.split_first().ok_or("no weight")?;
+                self.guidance = Some(Guidance {
+                    weight: one(&[weight])?,
+                    angle: all(angle)?,
+                });
+            }
+            "iterations" => self.iterations = one(words)?,
+            "spare" => self.spare = all(words)?.try_into().map_err(|_| "not four numbers")?,
+            _ => return Err("no such line".to_string()),
+        }
+        Ok(())
+    }
+}
+
 /// Reads the printed form; blank lines and lines that begin with # are passed over.
 pub fn parse(text: &str) -> Result<Case, String> {
     let mut case = Case::base();
     for line in text.lines().filter(|l| !l.trim().is_empty() && !l.starts_with('#')) {
         let words: Vec<&str> = line.split_whitespace().collect();
-        let rest = &words[1..];
-        let bad = |_| format!("not a number in: {line}");
-        let floats = || -> Result<Vec<f64>, String> {
-            rest.iter()
-                .map(|w| w.parse::<f64>().map_err(|e| bad(e.to_string())))
-                .collect()
-        };
-        let one = || -> Result<f64, String> { floats()?.first().copied().ok_or(format!("nothing after: {line}")) };
-        match words[0] {
-            "points" => case.points = floats()?,
-            "triangles" => {
-                case.tris = rest
-                    .iter()
-                    .map(|w| w.parse().map_err(|_| bad(String::new())))
-                    .collect::<Result<_, _>>()?
-            }
-            "sizes" => case.sizes = floats()?,
-            "accurate" => case.options.accurate = one()? != 0.0,
-            "holomorphic" => case.options.holomorphic = one()?,
-            "anisotropy" => {
-                let v = floats()?;
-                let [ratio, angle] = v[..] else {
-                    return Err(format!("not two numbers in: {line}"));
-                };
-                (case.options.anisotropy, case.options.anisotropy_angle) = (ratio, angle);
-            }
-            "boundary" => {
-                case.options.boundary = match rest {
-                    ["none"] => Boundary::None,
-                    ["tangent"] => Boundary::Tangent,
-                    ["weak", w] => Boundary::Weak(w.parse().map_err(|_| bad(String::new()))?),
-                    _ => return Err(format!("no such boundary: {line}")),
-                }
-            }
-            "threshold" => case.options.adaptive = one()?,
-            "guidance" => {
-                let v = floats()?;
-                let Some((&weight, angle)) = v.split_first() else {
-                    return Err(format!("no weight in: {line}"));
-                };
-                case.guidance = Some(Guidance {
-                    weight,
-                    angle: angle.to_vec(),
-                });
-            }
-            "iterations" => case.iterations = rest.join(" ").parse().map_err(|_| bad(String::new()))?,
-            "spare" => {
-                let v: Vec<i64> = rest
-                    .iter()
-                    .map(|w| w.parse().map_err(|_| bad(String::new())))
-                    .collect::<Result<_, _>>()?;
-                case.spare = v.try_into().map_err(|_| format!("not four numbers in: {line}"))?;
-            }
-            _ => return Err(format!("no such line: {line}")),
-        }
+        case.read(words[0], &words[1..])
+            .map_err(|error| format!("{error} in: {line}"))?;
     }
     Ok(case)
 }

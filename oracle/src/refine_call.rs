@@ -42,7 +42,7 @@ fn floor(r: &mut Random, large: bool) -> Floor {
     let points = (0..n).map(|_| point(r)).collect();
     let sizes = (0..n).map(|_| if huge { 1.7e308 } else { r.unit() + 1e-3 }).collect();
     let angles = (0..n).map(|_| angle(r)).collect();
-    let threshold = [0.0, 0.25, 0.375, 0.5, 0.7853981633974483, r.unit()][r.below(6)];
+    let threshold = [0.0, 0.25, 0.375, 0.5, std::f64::consts::FRAC_PI_4, r.unit()][r.below(6)];
     let mut tris: Vec<u32> = (0..3 * t).map(|_| r.below(n) as u32).collect();
     if t > 1 && r.one_in(3) {
         tris.copy_within(3 * (t - 1).., 0);

@@ -25,7 +25,7 @@ fn some(r: &mut Random, count: usize) -> Option<usize> {
     (count > 0).then(|| r.below(count))
 }
 
-fn guidance<'a>(case: &'a mut Case, n: usize) -> &'a mut Guidance {
+fn guidance(case: &mut Case, n: usize) -> &mut Guidance {
     case.guidance.get_or_insert_with(|| Guidance {
         weight: 1.0,
         angle: vec![0.25; n],

@@ -3,7 +3,7 @@
 
 use crate::{
     candidates::{Candidate, Copied, SPOILT},
-    case::Case,
+    case::{self, Case},
     cases,
     command::Copy,
     compare::{against, differences, Kind, KINDS},
@@ -34,11 +34,14 @@ pub fn named(given: &Given) -> String {
     }
 }
 
-/// What comes out of so many calls.
+/// What comes out of so many calls; and that each is read back from its printed form.
 pub fn tell(count: u64, seed: u64) {
     let mut outcomes: BTreeMap<String, usize> = BTreeMap::new();
     for case in calls(count, seed) {
         *outcomes.entry(named(&expected(BOUND, &case))).or_default() += 1;
+        let text = case.to_string();
+        let read = case::parse(&text).map(|c| c.to_string());
+        assert!(read.as_ref() == Ok(&text), "not read back: {text}{read:?}");
     }
     for (name, times) in outcomes {
         println!("{times:8} {name}");
