@@ -4,7 +4,7 @@ use crate::{
     candidates::{candidate, Candidate, Copied, RUNS},
     case, linear, platform_differences, reasons,
     reference::Reference,
-    refine_call, refinement, scalars, solves, BOUND,
+    refine_call, refinement, scalars, solves, BOUND, PLATFORM,
 };
 use std::{env, io::Read, path::Path, process::exit};
 
@@ -78,7 +78,8 @@ pub fn run(copies: &'static [Copy]) {
             true
         }
         ["record", layer, count, seed, folder, name] => {
-            let reference = copy(name).unwrap_or_else(|| usage());
+            let platform = (name == "platform").then_some(PLATFORM);
+            let reference = copy(name).or(platform).unwrap_or_else(|| usage());
             record(layer, reference, number(count), number(seed), Path::new(folder));
             true
         }

@@ -2,7 +2,9 @@
 //! by how much the answers differ.
 
 use crate::{
-    outcome::{expected, Answer, Given},
+    case::Case,
+    outcome::{expected, Answer, Given, MARK},
+    shrink::shrink,
     solves::{calls, named},
     BOUND, PLATFORM,
 };
@@ -52,6 +54,7 @@ pub fn run(count: u64, seed: u64) {
     let (mut tried, mut same, mut angles) = (0, 0, Angles::default());
     let mut others: BTreeMap<String, usize> = BTreeMap::new();
     let (mut both, mut only_angles) = (0, 0);
+    let mut smallest: Option<Case> = None;
     for case in calls(count, seed) {
         let (ours, theirs) = (expected(BOUND, &case), expected(PLATFORM, &case));
         tried += 1;
@@ -69,19 +72,15 @@ pub fn run(count: u64, seed: u64) {
         both += usize::from(accepted(&ours));
         let before = angles.differ;
         let mut farthest = 0f64;
-        for (a, b) in ours
-            .coarse
-            .iter()
-            .chain(&ours.fine)
-            .zip(theirs.coarse.iter().chain(&theirs.fine))
-        {
-            if *a != crate::outcome::MARK {
-                farthest = farthest.max(angles.add(*a, *b));
-            }
+        for (a, b) in pairs(&ours, &theirs) {
+            farthest = farthest.max(angles.add(a, b));
         }
         if angles.differ > before {
             only_angles += 1;
             angles.solves[far_place(farthest)] += 1;
+            if farthest > 1e-3 && case.tris.len() < smallest.as_ref().map_or(usize::MAX, |c| c.tris.len()) {
+                smallest = Some(case);
+            }
         } else {
             same += 1;
         }
@@ -101,4 +100,29 @@ pub fn run(count: u64, seed: u64) {
     for (what, times) in others {
         println!("{times:6} {what}");
     }
+    if let Some(case) = smallest {
+        let small = shrink(&case, &|c| farthest(c) > 1e-3, 2000);
+        let (ours, theirs) = (expected(BOUND, &small), expected(PLATFORM, &small));
+        println!("a small one that turns by more than 1e-3:\n{small}");
+        println!(
+            "ours {:?} {:?}\ntheirs {:?} {:?}",
+            ours.coarse, ours.fine, theirs.coarse, theirs.fine
+        );
+    }
+}
+
+/// By how much the farthest angle turns; 0 where the answers are not both accepted with the same counts.
+fn farthest(case: &Case) -> f64 {
+    let (ours, theirs) = (expected(BOUND, case), expected(PLATFORM, case));
+    if ours.answer != theirs.answer {
+        return 0.0;
+    }
+    let far = pairs(&ours, &theirs).map(|(a, b)| (a - b).abs());
+    far.map(|d| d.min(FRAC_PI_2 - d)).fold(0.0, f64::max)
+}
+
+/// The angles of both, coarse and fine.
+fn pairs<'a>(ours: &'a Given, theirs: &'a Given) -> impl Iterator<Item = (f64, f64)> + 'a {
+    let all = |g: &'a Given| g.coarse.iter().chain(&g.fine).copied();
+    all(ours).zip(all(theirs)).filter(|(a, _)| *a != MARK)
 }
