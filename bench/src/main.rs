@@ -19,7 +19,7 @@ fn refinement(rounds: usize, sides: &[usize]) {
     heading("Refinement: godf_refine beside refine_once", "ms");
     let mut calls: Vec<(String, oracle::case::Case, Vec<f64>, f64)> = vec![];
     for &side in sides {
-        for threshold in [0.0, turning(side)] {
+        for threshold in [0.0, 5.0 * turning(side)] {
             let (c, alpha) = field(side);
             calls.push((
                 format!("{side} by {side}, wavy, tangent, threshold {threshold:.4}"),

@@ -1,4 +1,4 @@
-//! Ours and theirs in turn, round by round: the least time of each, and the least, median and most of the rounds' ratios.
+//! Ours and theirs in turn, round by round: the least time of each and their ratio, and the least, median and most of the rounds' ratios.
 
 use std::time::Instant;
 
@@ -9,7 +9,9 @@ pub fn seconds<T>(f: impl FnOnce() -> T) -> f64 {
 }
 
 pub fn heading(layer: &str, unit: &str) {
-    println!("\n{layer}\n\n| floor | ours, {unit} | the Rust, {unit} | ratio, least | median | most |\n|---|---|---|---|---|---|");
+    println!("\n{layer}\n");
+    println!("| floor | ours, {unit} | the Rust, {unit} | ratio | of rounds, least | median | most |");
+    println!("|---|---|---|---|---|---|---|");
 }
 
 fn least(times: &[f64]) -> f64 {
@@ -23,9 +25,10 @@ pub fn row(name: &str, rounds: usize, unit: f64, mut ours: impl FnMut() -> f64, 
     ratios.sort_by(f64::total_cmp);
     let (o, t): (Vec<f64>, Vec<f64>) = times.into_iter().unzip();
     println!(
-        "| {name} | {:.3} | {:.3} | {:.3} | {:.3} | {:.3} |",
+        "| {name} | {:.3} | {:.3} | {:.3} | {:.3} | {:.3} | {:.3} |",
         least(&o) / unit,
         least(&t) / unit,
+        least(&o) / least(&t),
         ratios[0],
         ratios[rounds / 2],
         ratios[rounds - 1]
