@@ -3,7 +3,7 @@
 
 use crate::{
     case::{Boundary, Case},
-    cases,
+    cases, known,
     outcome::{expected, Answer},
     reference::Reference,
     words::{word, words, List},
@@ -83,10 +83,11 @@ fn row(reference: &Reference, case: &Case) -> Vec<u64> {
     row
 }
 
-/// The first `count` calls of a seed that have room in a row.
+/// The calls whose outcome is known, and the first of a seed, that have room in a row; `count` in all.
 pub fn record(reference: &Reference, seed: u64, count: u64, folder: &Path) {
     let mut list = List::new(folder, "solves", 200);
-    for case in (0..).map(|i| cases::nth(seed, i)).filter(fits).take(count as usize) {
+    let calls = known::cases().into_iter().chain((0..).map(|i| cases::nth(seed, i)));
+    for case in calls.filter(fits).take(count as usize) {
         list.row(&row(reference, &case));
     }
 }
