@@ -105,6 +105,10 @@ pub fn expected(reference: &Reference, case: &Case) -> Given {
         same_angles(&angles, &last[..case.n()]),
         "the answer is not of the last pass"
     );
+    assert!(
+        last.len() == case.n() + cut,
+        "a field of other points than the refined floor's"
+    );
     let [room, fine_room, ..] = case.lent();
     Given {
         answer: Answer::Accepted { flagged, cut },
