@@ -143,8 +143,8 @@ pub fn nth(seed: u64, i: u64) -> Case {
     case
 }
 
-/// A large call: 1,000 to 16,384 points, the last with 32,768 triangles, both of row 1's limits met. Held by guidance, so that
-/// conjugate gradient ends soon.
+/// A large call: 1,000 to 16,384 points, one in four with 32,768 triangles too, so that both of row 1's limits are met. Held by its
+/// boundary or by guidance, so that conjugate gradient ends soon.
 pub fn large(seed: u64, i: u64) -> Case {
     let mut r = Random::new(seed.wrapping_mul(0x2_0000_0001).wrapping_add(i));
     let floor = match i % 4 {
@@ -155,16 +155,17 @@ pub fn large(seed: u64, i: u64) -> Case {
     };
     let before = floor.points.clone();
     let mut case = around(&mut r, floor, &before);
-    let smooth = before.iter().map(|p| 0.05 * p[0] - 0.03 * p[1]).collect();
-    case.guidance = Some(Guidance {
-        weight: r.pick(&[10.0, 100.0]),
-        angle: smooth,
-    });
-    case.options.boundary = if i % 4 == 0 {
-        Boundary::None
+    if i % 4 == 0 {
+        case.options.boundary = Boundary::None;
+    }
+    if i % 4 != 0 && r.one_in(2) {
+        case.options.boundary = Boundary::Tangent;
+        case.guidance = None;
     } else {
-        case.options.boundary
-    };
-    case.options.adaptive = r.pick(&[0.0, 0.02, 0.2]);
+        let angle = before.iter().map(|p| 0.05 * p[0] - 0.03 * p[1]).collect();
+        let weight = r.pick(&[10.0, 100.0]);
+        case.guidance = Some(Guidance { weight, angle });
+    }
+    case.options.adaptive = if i % 8 == 4 { 0.02 } else { r.pick(&[0.0, 0.02, 0.2]) };
     case
 }

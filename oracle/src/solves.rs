@@ -14,10 +14,10 @@ use crate::{
 };
 use std::collections::BTreeMap;
 
-/// The calls of a comparison: those whose outcome is known, `count` small ones, and one large in 2,000.
+/// The calls of a comparison: those whose outcome is known, `count` small ones, and one large in 500.
 pub fn calls(count: u64, seed: u64) -> impl Iterator<Item = Case> {
     let small = (0..count).map(move |i| cases::nth(seed, i));
-    let large = (0..count / 2000).map(move |i| cases::large(seed, i));
+    let large = (0..count / 500).map(move |i| cases::large(seed, i));
     known::cases().into_iter().chain(small).chain(large)
 }
 
