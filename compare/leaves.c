@@ -4,25 +4,11 @@
 #include <math.h>
 #include <stdio.h>
 #include <stdlib.h>
-#include <string.h>
 #include "../include/godf.h"
+#include "random.h"
 
-static uint64_t state;
-
-/* splitmix64 */
-static uint64_t next(void) {
-    uint64_t z = state += 0x9e3779b97f4a7c15;
-    z = (z ^ z >> 30) * 0xbf58476d1ce4e5b9;
-    z = (z ^ z >> 27) * 0x94d049bb133111eb;
-    return z ^ z >> 31;
-}
-
-static double d(uint64_t b) { double x; memcpy(&x, &b, 8); return x; }
-static uint64_t b(double x) { uint64_t u; memcpy(&u, &x, 8); return u; }
-static double unit(void) { return (double)(next() >> 11) * 0x1p-53; }
 static double either(double x) { return next() & 1 ? x : -x; }
 static double near(double x, int n) { return d(b(x) + next() % (2 * n + 1) - n); }
-static double hardware(double x) { double r; __asm__("sqrtsd %1, %0" : "=x"(r) : "x"(x)); return r; }
 
 /* upper words at which fdlibm changes branch */
 static double at_switch(void) {
@@ -74,7 +60,7 @@ int main(int count, char **words) {
     state = seed;
     for (long i = 0; i < n; i++) {
         double x = square(), r = godf_sqrt(x), h = hardware(x);
-        if (b(r) != b(h) && !(r != r && h != h) && differ++ < 5) fprintf(stderr, "sqrt of %016" PRIx64 ": %016" PRIx64 ", processor %016" PRIx64 "\n", b(x), b(r), b(h));
+        if (!same(r, h) && differ++ < 5) fprintf(stderr, "sqrt of %016" PRIx64 ": %016" PRIx64 ", processor %016" PRIx64 "\n", b(x), b(r), b(h));
     }
     fprintf(stderr, "sqrt %ld compared, %ld differ\n", n, differ);
     state = seed + 1;

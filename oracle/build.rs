@@ -1,13 +1,15 @@
-//! Makes three copies of the reference in the build's own folder, which is never committed: `bound.rs`, whose sine, cosine and arctangent
-//! are libgodf.a's, `platform.rs`, which keeps the platform's, and `keeping.rs`, which also keeps the systems that it solves.
-//! All get the text of accessors.rs at their end, so that private functions can be called. Any text that is not found exactly as
-//! often as expected stops the build. GODF_WRONG names a line of wrong.txt that is made wrong in all of them; with GODF_PLATFORM
-//! set, the copy `bound.rs` keeps the platform's functions too.
+//! Makes copies of the reference in the build's own folder, which is never committed: `bound.rs`, whose sine, cosine and arctangent are
+//! libgodf.a's, `platform.rs`, which keeps the platform's, and `wrong.rs` with one bound copy for each line of wrong.txt, that line
+//! made wrong in it. A whole solve notes its first pass's angles, its counts and its second pass's angles on the way. Each copy gets
+//! the text of accessors.rs at its end, so that private functions can be called. Any text that is not found exactly as often as
+//! expected stops the build, and so does a text of messages.txt, or an error of the reference that is not there.
 
-use std::{env, fs, path::PathBuf, process::exit};
+use std::{env, fs, path::Path, path::PathBuf, process::exit};
 
-/// Text of the reference, how often it occurs, and what takes its place in the bound copy.
-const BINDINGS: [(&str, usize, &str); 5] = [
+/// A text of the reference, how often it occurs, and what takes its place.
+type Edit<'a> = (&'a str, usize, &'a str);
+
+const BINDINGS: [Edit; 5] = [
     ("re: angle.cos(),", 1, "re: crate::leaves::cos(angle),"),
     ("im: angle.sin(),", 1, "im: crate::leaves::sin(angle),"),
     ("self.im.atan2(self.re)", 1, "crate::leaves::atan2(self.im, self.re)"),
@@ -30,8 +32,29 @@ const LEFT: [(&str, usize); 6] = [
     (".atan()", 0),
 ];
 
-/// Where conjugate_gradient begins: the copy `keeping.rs` keeps the systems that it is called with.
-const KEEP: &str = "let rhs_norm = euclidean_norm(rhs);";
+/// Where solve_impl has its angles and counts, and where conjugate_gradient begins.
+const NOTES: [Edit; 4] = [
+    (
+        "    if options.adaptive <= 0.0 {",
+        1,
+        "    access::note_coarse(&alpha);\n    if options.adaptive <= 0.0 {",
+    ),
+    (
+        "    if flagged == 0 {\n        return Ok(alpha);",
+        1,
+        "    access::note_counts(flagged, edge_order.len());\n    if flagged == 0 {\n        return Ok(alpha);",
+    ),
+    (
+        "    if refined_alpha.len() < n {",
+        1,
+        "    access::note_fine(&refined_alpha);\n    if refined_alpha.len() < n {",
+    ),
+    (
+        "    let rhs_norm = euclidean_norm(rhs);",
+        1,
+        "    access::note_system(matrix, rhs, tolerance, max_iterations);\n    let rhs_norm = euclidean_norm(rhs);",
+    ),
+];
 
 fn stop(message: String) -> ! {
     eprintln!("oracle: {message}");
@@ -39,27 +62,66 @@ fn stop(message: String) -> ! {
     exit(1)
 }
 
-/// The line of wrong.txt with this name, as OLD, how often, and NEW.
-fn wrong(root: &std::path::Path, name: &str) -> (String, usize, String) {
-    let text = fs::read_to_string(root.join("wrong.txt")).expect("wrong.txt");
-    for line in text.lines().filter(|line| !line.starts_with('#')) {
-        let parts: Vec<&str> = line.splitn(5, " | ").collect();
-        if parts.len() == 5 && parts[0] == name {
-            return (
-                parts[3].to_string(),
-                parts[2].parse().expect("a count in wrong.txt"),
-                parts[4].to_string(),
-            );
-        }
-    }
-    stop(format!("no line {name} in wrong.txt"))
-}
-
+/// The text without comments on lines of their own.
 fn code(text: &str) -> String {
     text.lines()
         .filter(|line| !line.trim_start().starts_with("//"))
-        .collect::<Vec<_>>()
-        .join("\n")
+        .map(|line| line.to_string() + "\n")
+        .collect()
+}
+
+fn expect(text: &str, what: &str, times: usize) {
+    let found = text.matches(what).count();
+    if found != times {
+        stop(format!("{found} times `{what}` in the reference, and not {times}"));
+    }
+}
+
+fn edited(text: &str, (old, times, new): Edit) -> String {
+    expect(text, old, times);
+    text.replace(old, new)
+}
+
+fn bind(text: &str) -> String {
+    let bound = BINDINGS
+        .iter()
+        .fold(text.to_string(), |text, &edit| edited(&text, edit));
+    LEFT.iter().for_each(|&(what, times)| expect(&bound, what, times));
+    bound
+}
+
+/// The rows of a table, cut at ` | ` into so many parts; lines that begin with # are comments.
+fn rows(root: &Path, name: &str, parts: usize) -> Vec<Vec<String>> {
+    println!("cargo:rerun-if-changed={name}");
+    let text = fs::read_to_string(root.join(name)).unwrap_or_else(|e| stop(format!("{name}: {e}")));
+    let lines = text.lines().filter(|line| !line.starts_with('#') && !line.is_empty());
+    let rows: Vec<Vec<String>> = lines
+        .map(|line| line.splitn(parts, " | ").map(str::to_string).collect())
+        .collect();
+    if let Some(row) = rows.iter().find(|row| row.len() != parts) {
+        stop(format!("{name}: not {parts} parts in: {}", row.join(" | ")));
+    }
+    rows
+}
+
+fn count(word: &str) -> usize {
+    word.parse().unwrap_or_else(|_| stop(format!("not a count: {word}")))
+}
+
+/// Every error of the reference is a row of messages.txt, and the other way round.
+fn check_messages(root: &Path, source: &str) {
+    let mut all = 0;
+    for row in rows(root, "messages.txt", 5) {
+        expect(source, &format!("\"{}\"", row[4]), count(&row[3]));
+        all += count(&row[3]);
+    }
+    expect(source, "Err(", all);
+}
+
+/// A copy as the inside of a module.
+fn copy(source: &str, accessors: &str) -> String {
+    let noted = NOTES.iter().fold(source.to_string(), |text, &edit| edited(&text, edit));
+    format!("{noted}\n{accessors}")
 }
 
 fn main() {
@@ -72,10 +134,7 @@ fn main() {
     println!("cargo:rerun-if-changed={}", file.display());
     println!("cargo:rerun-if-changed=accessors.rs");
     println!("cargo:rerun-if-changed={}", library.join("libgodf.a").display());
-    println!("cargo:rerun-if-env-changed=GODF_WRONG");
-    println!("cargo:rerun-if-env-changed=GODF_PLATFORM");
-    println!("cargo:rerun-if-changed=wrong.txt");
-    let Ok(mut source) = fs::read_to_string(&file) else {
+    let Ok(source) = fs::read_to_string(&file) else {
         stop(format!(
             "the reference is not at {}: set GODF_REFERENCE to its folder",
             file.display()
@@ -87,50 +146,29 @@ fn main() {
             library.display()
         ))
     }
+    let source = code(&source);
     let accessors = fs::read_to_string(root.join("accessors.rs")).expect("accessors.rs");
-    // a line made wrong on purpose, to see that the comparison notices it
-    if let Ok(name) = env::var("GODF_WRONG") {
-        let (old, times, new) = wrong(&root, &name);
-        let found = code(&source).matches(&old).count();
-        if found != times {
-            stop(format!("{found} times `{old}` in the reference, and not {times}"));
-        }
-        source = source.replace(&old, &new);
-    }
-    let mut bound = source.clone();
-    for (text, times, new) in BINDINGS {
-        let found = code(&source).matches(text).count();
-        if found != times {
-            stop(format!("{found} times `{text}` in the reference, and not {times}"));
-        }
-        if env::var("GODF_PLATFORM").is_err() {
-            bound = bound.replace(text, new);
-        }
-    }
-    for (text, times) in LEFT {
-        if env::var("GODF_PLATFORM").is_ok() {
-            break;
-        }
-        let found = code(&bound).matches(text).count();
-        if found != times {
-            stop(format!(
-                "{found} times `{text}` is left in the bound copy, and not {times}"
-            ));
-        }
-    }
-    if code(&source).matches(KEEP).count() != 1 {
-        stop(format!("not once `{KEEP}` in the reference"));
-    }
-    let keeping = source.replace(
-        KEEP,
-        &format!("access::keep(matrix, rhs, tolerance, max_iterations);\n    {KEEP}"),
-    );
+    check_messages(&root, &source);
     let out = PathBuf::from(env::var("OUT_DIR").unwrap());
-    for (name, text) in [("bound.rs", bound), ("keeping.rs", keeping), ("platform.rs", source)] {
-        // the copies are included in modules, where comments of a whole file cannot stand
-        let text: String = text.lines().map(|line| line.replacen("//!", "//", 1) + "\n").collect();
-        fs::write(out.join(name), format!("{text}\n{accessors}")).expect("a generated copy");
+    let write = |name: &str, text: String| fs::write(out.join(name), text).expect("a generated copy");
+    write("platform.rs", copy(&source, &accessors));
+    write("bound.rs", copy(&bind(&source), &accessors));
+    // lines made wrong on purpose, to see that the comparison notices them: one module each, and a table of them
+    let (mut modules, mut table) = (String::new(), String::new());
+    for row in rows(&root, "wrong.txt", 5) {
+        let [name, layers, times, old, new] = &row[..] else {
+            unreachable!()
+        };
+        let text = copy(&bind(&edited(&source, (old, count(times), new))), &accessors);
+        write(&format!("wrong_{name}.rs"), text);
+        modules += &format!("mod {name} {{ include!(concat!(env!(\"OUT_DIR\"), \"/wrong_{name}.rs\")); }}\n");
+        table +=
+            &format!("    Copy {{ name: \"{name}\", layers: \"{layers}\", reference: &{name}::access::REFERENCE }},\n");
     }
+    write(
+        "wrong.rs",
+        format!("{modules}pub static COPIES: &[Copy] = &[\n{table}];\n"),
+    );
     println!("cargo:rustc-link-search=native={}", library.display());
     println!("cargo:rustc-link-lib=static=godf");
     println!("cargo:rustc-link-lib=m");

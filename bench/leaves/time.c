@@ -2,10 +2,9 @@
  * the three taking turns in each round. First compares godf with fdlibm in C on the same inputs. */
 #define _POSIX_C_SOURCE 199309L
 #include <math.h>
-#include <stdint.h>
 #include <stdio.h>
-#include <string.h>
 #include <time.h>
+#include "../../compare/random.h"
 #include "../../include/godf.h"
 
 double fdlibm_sin(double), fdlibm_cos(double), fdlibm_atan2(double, double);
@@ -14,14 +13,6 @@ enum { N = 100000, ROUNDS = 60 };
 static double xs[N], ys[N];
 static volatile double sink;
 
-static uint64_t state = 1;
-static uint64_t next(void) {
-    uint64_t z = state += 0x9e3779b97f4a7c15;
-    z = (z ^ z >> 30) * 0xbf58476d1ce4e5b9;
-    z = (z ^ z >> 27) * 0x94d049bb133111eb;
-    return z ^ z >> 31;
-}
-static double unit(void) { return (double)(next() >> 11) * 0x1p-53; }
 static double now(void) { struct timespec t; clock_gettime(CLOCK_MONOTONIC, &t); return (double)t.tv_sec * 1e9 + (double)t.tv_nsec; }
 
 static double two_sqrt(double y, double x) { (void)y; return sqrt(x); }
@@ -37,8 +28,6 @@ static double round_of(function *f) {
     sink = s;
     return t / N;
 }
-
-static int same(double a, double b) { return memcmp(&a, &b, 8) == 0 || (a != a && b != b); }
 
 static void line(const char *name, double range, function *ours, function *theirs, function *platform) {
     double best[3] = {1e9, 1e9, 1e9};
@@ -58,6 +47,7 @@ static void line(const char *name, double range, function *ours, function *their
 }
 
 int main(void) {
+    state = 1;
     puts("| | godf, ns | fdlibm in C, ns | platform, ns | godf / C | differ |\n|---|---|---|---|---|---|");
     const double ranges[] = {0.7, 3.141592653589793, 50.0, 1e5};
     for (int i = 0; i < 4; i++) line("sin", ranges[i], two_godf_sin, two_fdlibm_sin, two_sin);

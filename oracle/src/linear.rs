@@ -6,52 +6,25 @@
 //! vector, at 176 and 192 those of the iterate.
 
 use crate::{
-    keeping::{self, BoundaryMode, Guidance, Options},
-    platform::access::{self, Pair},
+    case::{Boundary, Case, Guidance, Options},
+    floors,
     random::Random,
+    reference::{Pair, Reference, System},
+    refusal,
     words::{word, List},
+    PLATFORM,
 };
 use std::path::Path;
 
 const ROWS: usize = 16;
 const EDGES: usize = 40;
 
-#[derive(Clone)]
-struct System {
-    diagonal: Vec<f64>,
-    ends: Vec<(usize, usize)>,
-    off: Vec<Pair>,
-    rhs: Vec<Pair>,
-    tolerance: f64,
-    most: usize,
-}
-
-/// Document 01's reason and place for an error of the reference.
-fn reason(text: &str) -> (u64, u64) {
-    let place = |t: &str| {
-        t.split("vertex ")
-            .nth(1)
-            .and_then(|s| s.split(' ').next())
-            .and_then(|s| s.parse().ok())
-    };
-    match text {
-        t if t.contains("right-hand side has zero norm") => (3, 0),
-        t if t.contains("non-positive diagonal") => (4, place(t).expect("a vertex")),
-        t if t.contains("initial residual is not positive") => (5, 0),
-        t if t.contains("matrix is not positive definite") && t.contains("breakdown") => (6, 0),
-        t if t.contains("lost positive definiteness") => (7, 0),
-        t if t.contains("did not converge") => (8, 0),
-        t if t.contains("not positive definite on the current iterate") => (9, 0),
-        t => panic!("no reason for: {t}"),
-    }
-}
-
-fn record_one(list: &mut List, counts: &mut [usize; 10], s: &System, kind: u64) {
+fn record_one(of: &Reference, list: &mut List, counts: &mut [usize; 10], s: &System, kind: u64) {
     let n = s.diagonal.len();
     let answer = if kind == 1 {
-        access::normalize_in_mass(&s.diagonal, &s.ends, &s.off, &s.rhs).map(|x| (x, 0))
+        (of.normalize_in_mass)(s).map(|x| (x, 0))
     } else {
-        access::conjugate_gradient(&s.diagonal, &s.ends, &s.off, &s.rhs, s.tolerance, s.most)
+        (of.conjugate_gradient)(s)
     };
     let mut row = vec![0u64; 208];
     row[..5].copy_from_slice(&[n as u64, s.ends.len() as u64, kind, word(s.tolerance), s.most as u64]);
@@ -75,10 +48,10 @@ fn record_one(list: &mut List, counts: &mut [usize; 10], s: &System, kind: u64) 
             counts[0] += 1;
         }
         Err(text) => {
-            let (r, place) = reason(&text);
-            row[5] = r;
-            row[6] = place;
-            counts[r as usize] += 1;
+            let refusal = refusal::of_message(&text, 1);
+            row[5] = u64::from(refusal.reason);
+            row[6] = refusal.place[0];
+            counts[refusal.reason as usize] += 1;
         }
     }
     list.row(&row);
@@ -151,25 +124,19 @@ fn system(r: &mut Random) -> System {
 /// The systems of a solve of a small floor, at most three of them.
 fn floor(r: &mut Random) -> Vec<System> {
     let (w, h) = r.pick(&[(3usize, 3usize), (4, 3), (4, 4), (5, 3), (8, 2)]);
-    let mut points = vec![];
-    let mut tris = vec![];
-    for j in 0..h {
-        for i in 0..w {
-            points.push([i as f64 + r.between(-0.3, 0.3), j as f64 + r.between(-0.3, 0.3), 0.0]);
-        }
+    let mut floor = floors::grid(w, h);
+    for p in &mut floor.points {
+        *p = [p[0] + r.between(-0.3, 0.3), p[1] + r.between(-0.3, 0.3), 0.0];
     }
-    for j in 0..h - 1 {
-        for i in 0..w - 1 {
-            let (a, b, c, d) = (j * w + i, j * w + i + 1, (j + 1) * w + i + 1, (j + 1) * w + i);
-            tris.push([a, b, c]);
-            tris.push([a, c, d]);
-        }
-    }
-    let size: Vec<f64> = points.iter().map(|p| 1.0 + 0.2 * p[0] + 0.1 * p[1] * p[1]).collect();
+    let sizes = floor
+        .points
+        .iter()
+        .map(|p| 1.0 + 0.2 * p[0] + 0.1 * p[1] * p[1])
+        .collect();
     let boundary = match r.below(4) {
-        0 => BoundaryMode::Tangent,
-        1 => BoundaryMode::Weak(r.pick(&[0.1, 1.0, 10.0])),
-        _ => BoundaryMode::None,
+        0 => Boundary::Tangent,
+        1 => Boundary::Weak(r.pick(&[0.1, 1.0, 10.0])),
+        _ => Boundary::None,
     };
     let options = Options {
         accurate: r.one_in(2),
@@ -183,30 +150,28 @@ fn floor(r: &mut Random) -> Vec<System> {
         weight: r.pick(&[0.0, 0.0, 0.5, 4.0]),
         angle: (0..w * h).map(|_| r.between(-1.0, 1.0)).collect(),
     };
-    let _ = keeping::solve_with_guidance_and_options(&points, &tris, &size, &guidance, &options, 10);
-    keeping::access::calls()
-        .into_iter()
-        .take(3)
-        .map(|(diagonal, ends, off, rhs, tolerance, most)| System {
-            diagonal,
-            ends,
-            off,
-            rhs,
-            tolerance,
-            most,
-        })
-        .collect()
+    let case = Case {
+        points: floor.points.concat(),
+        tris: floor.tris.concat(),
+        sizes,
+        options,
+        guidance: Some(guidance),
+        iterations: 10,
+        spare: [0; 4],
+    };
+    // the platform's functions: which they are is no matter to a system
+    (PLATFORM.solve_keeping)(&case).1.systems.into_iter().take(3).collect()
 }
 
-pub fn record(seed: u64, count: usize, folder: &Path) {
+pub fn record(of: &Reference, seed: u64, count: usize, folder: &Path) {
     let mut r = Random::new(seed);
     let mut list = List::new(folder, "systems", 240);
     let mut counts = [0; 10];
     let mut real = 0;
     while 2 * real < count {
         for s in floor(&mut r) {
-            record_one(&mut list, &mut counts, &s, 0);
-            record_one(&mut list, &mut counts, &s, 1);
+            record_one(of, &mut list, &mut counts, &s, 0);
+            record_one(of, &mut list, &mut counts, &s, 1);
             real += 1;
         }
     }
@@ -232,7 +197,7 @@ pub fn record(seed: u64, count: usize, folder: &Path) {
             9 => s.most = 1,
             // exactly enough, and one too few
             10 | 11 => {
-                let answer = access::conjugate_gradient(&s.diagonal, &s.ends, &s.off, &s.rhs, s.tolerance, s.most);
+                let answer = (of.conjugate_gradient)(&s);
                 if let Ok((_, count)) = answer {
                     s.most = if k % 16 == 10 { count } else { count - 1 };
                 }
@@ -249,7 +214,7 @@ pub fn record(seed: u64, count: usize, folder: &Path) {
             }
             _ => {}
         }
-        record_one(&mut list, &mut counts, &s, 0);
+        record_one(of, &mut list, &mut counts, &s, 0);
         if k % 4 == 0 {
             // the mass of a vector, now and then negative, zero, not finite
             match r.below(6) {
@@ -258,7 +223,7 @@ pub fn record(seed: u64, count: usize, folder: &Path) {
                 2 => s.rhs[i][0] = r.pick(&[f64::NAN, f64::INFINITY, 1e200]),
                 _ => {}
             }
-            record_one(&mut list, &mut counts, &s, 1);
+            record_one(of, &mut list, &mut counts, &s, 1);
         }
     }
     println!(

@@ -1,8 +1,8 @@
 //! Records the reference's integrals, angles, geometry, probes and counts of singularities, over the proved leaves.
 //! crates/scalars replays the lists; data/README.md there says what a row holds.
 
-use crate::bound::{self, access};
 use crate::random::Random;
+use crate::reference::Reference;
 use crate::words::{word, words, List};
 use std::f64::consts::{FRAC_PI_2, FRAC_PI_4, PI, TAU};
 use std::path::Path;
@@ -32,29 +32,29 @@ fn number(r: &mut Random) -> f64 {
     }
 }
 
-fn integrals(r: &mut Random, count: usize, folder: &Path) {
+fn integrals(of: &Reference, r: &mut Random, count: usize, folder: &Path) {
     let mut mass = List::new(folder, "mass", 3);
     let mut dirichlet = List::new(folder, "dirichlet", 6);
     let mut diagonal = List::new(folder, "diagonal", 10);
     for _ in 0..count {
         let o = omega(r);
-        let z = access::mass_integral(o);
+        let z = (of.mass_integral)(o);
         mass.row(&words(&[o, z[0], z[1]]));
         let o = omega(r);
         let g = [number(r), number(r), number(r)];
-        let z = access::dirichlet_integral(o, g[0], g[1], g[2]);
+        let z = (of.dirichlet_integral)(o, g[0], g[1], g[2]);
         dirichlet.row(&words(&[o, g[0], g[1], g[2], z[0], z[1]]));
         let o = omega(r);
         let area = number(r);
         let p = [[number(r), number(r)], [number(r), number(r)], [number(r), number(r)]];
-        let d = access::dirichlet_diagonal(o, area, p[0], p[1], p[2]);
+        let d = (of.dirichlet_diagonal)(o, area, p[0], p[1], p[2]);
         diagonal.row(&words(&[
             o, area, p[0][0], p[0][1], p[1][0], p[1][1], p[2][0], p[2][1], d,
         ]));
     }
 }
 
-fn angles(r: &mut Random, count: usize, folder: &Path) {
+fn angles(of: &Reference, r: &mut Random, count: usize, folder: &Path) {
     let mut cross = List::new(folder, "cross", 3);
     let mut wrap = List::new(folder, "wrap", 2);
     let mut weight = List::new(folder, "weight", 2);
@@ -73,7 +73,7 @@ fn angles(r: &mut Random, count: usize, folder: &Path) {
                 (t.cos(), t.sin())
             }
         };
-        cross.row(&words(&[re, im, access::cross_angle(re, im)]));
+        cross.row(&words(&[re, im, (of.cross_angle)(re, im)]));
         let x = match r.below(5) {
             0 => r.sign() * r.near_one(&[0.0, PI, 2.0 * PI, 3.0 * PI, FRAC_PI_2], 4),
             1 => r.between(-8.0 * PI, 8.0 * PI),
@@ -81,14 +81,14 @@ fn angles(r: &mut Random, count: usize, folder: &Path) {
             3 => r.sign() * r.scale(-300.0, 20.0),
             _ => r.any(),
         };
-        wrap.row(&words(&[x, access::wrap_to_pi(x)]));
+        wrap.row(&words(&[x, (of.wrap_to_pi)(x)]));
         let a = match r.below(4) {
             0 => r.near(1.0, 6),
             1 => 1.0 + r.sign() * r.scale(-17.0, 0.0),
             2 => r.scale(-300.0, 300.0),
             _ => r.any(),
         };
-        weight.row(&words(&[a, access::anisotropy_alignment_weight(a)]));
+        weight.row(&words(&[a, (of.anisotropy_alignment_weight)(a)]));
     }
 }
 
@@ -112,7 +112,7 @@ fn corners(r: &mut Random) -> [[f64; 2]; 3] {
     p
 }
 
-fn geometry(r: &mut Random, count: usize, folder: &Path) {
+fn geometry(of: &Reference, r: &mut Random, count: usize, folder: &Path) {
     let mut list = List::new(folder, "geometry", 15);
     let mut transport = List::new(folder, "transport", 15);
     for _ in 0..count {
@@ -125,9 +125,9 @@ fn geometry(r: &mut Random, count: usize, folder: &Path) {
         let mut row = words(&[
             p[0][0], p[0][1], p[1][0], p[1][1], p[2][0], p[2][1], sigma[0], sigma[1], sigma[2],
         ]);
-        match access::triangle_geometry(p) {
+        match (of.triangle_geometry)(p) {
             Ok((vertices, q, area)) => {
-                let g = access::triangle_gradient(q, sigma, area);
+                let g = (of.triangle_gradient)(q, sigma, area);
                 row.extend([0, vertices[1] as u64, word(area), word(g[0]), word(g[1])]);
             }
             Err(text) => {
@@ -150,7 +150,7 @@ fn geometry(r: &mut Random, count: usize, folder: &Path) {
         let mut row = words(&[
             p[0][0], p[0][1], p[1][0], p[1][1], size[0], size[1], g[0][0], g[0][1], g[1][0], g[1][1],
         ]);
-        match access::transport_coefficient(p, size, g) {
+        match (of.transport_coefficient)(p, size, g) {
             Ok(z) => row.extend([0, word(z[0]), word(z[1])]),
             Err(text) => {
                 assert!(text.starts_with("edge (0, 1) has non-positive average size"), "{text}");
@@ -199,7 +199,7 @@ fn small_floor(r: &mut Random) -> (Vec<f64>, Vec<u32>) {
     (points, tris)
 }
 
-fn probes(r: &mut Random, count: usize, folder: &Path) {
+fn probes(of: &Reference, r: &mut Random, count: usize, folder: &Path) {
     let mut list = List::new(folder, "probe", 64);
     for _ in 0..count {
         let (mut points, mut tris) = small_floor(r);
@@ -254,7 +254,7 @@ fn probes(r: &mut Random, count: usize, folder: &Path) {
             if fits && alpha.iter().any(|a| a.abs() > 131072.0) {
                 (3, 0.0)
             } else {
-                let a = bound::interp_angle(&alpha, &triples(&points), &floor, at);
+                let a = (of.interp_angle)(&alpha, &triples(&points), &floor, at);
                 if a.is_nan() {
                     (2, 0.0)
                 } else {
@@ -280,7 +280,7 @@ fn probes(r: &mut Random, count: usize, folder: &Path) {
     }
 }
 
-fn singularities(r: &mut Random, count: usize, folder: &Path) {
+fn singularities(of: &Reference, r: &mut Random, count: usize, folder: &Path) {
     let mut list = List::new(folder, "singular", 32);
     for _ in 0..count {
         let (_, mut tris) = small_floor(r);
@@ -314,7 +314,7 @@ fn singularities(r: &mut Random, count: usize, folder: &Path) {
             row.extend([1, 0, 0]);
         } else {
             let floor: Vec<[usize; 3]> = triples(&tris).iter().map(|t| t.map(|v| v as usize)).collect();
-            let (threes, fives) = bound::count_singularities(&alpha, &floor);
+            let (threes, fives) = (of.count_singularities)(&alpha, &floor);
             row.extend([0, threes as u64, fives as u64]);
         }
         row.extend(words(&alpha));
@@ -325,11 +325,11 @@ fn singularities(r: &mut Random, count: usize, folder: &Path) {
 }
 
 /// Writes every list of the scalars into a folder, `count` rows each.
-pub fn record(seed: u64, count: usize, folder: &Path) {
+pub fn record(of: &Reference, seed: u64, count: usize, folder: &Path) {
     let mut r = Random::new(seed);
-    integrals(&mut r, count, folder);
-    angles(&mut r, count, folder);
-    geometry(&mut r, count, folder);
-    probes(&mut r, count, folder);
-    singularities(&mut r, count, folder);
+    integrals(of, &mut r, count, folder);
+    angles(of, &mut r, count, folder);
+    geometry(of, &mut r, count, folder);
+    probes(of, &mut r, count, folder);
+    singularities(of, &mut r, count, folder);
 }

@@ -3,8 +3,7 @@
 
 mod damage;
 
-use crate::bound::access;
-use crate::random::Random;
+use crate::{random::Random, reference::Reference};
 use damage::damage;
 use std::{collections::BTreeMap, fs::File, io::BufWriter, io::Write, path::Path};
 
@@ -46,7 +45,7 @@ fn row(out: &mut Vec<u8>, numbers: &[usize]) {
 type Met = BTreeMap<String, [usize; 2]>;
 
 /// What a text prints, by refine_once; none where it is refused.
-fn answer(text: &[u8], met: &mut Met) -> Option<Vec<u8>> {
+fn answer(of: &Reference, text: &[u8], met: &mut Met) -> Option<Vec<u8>> {
     let lines = lines(text)?;
     let [n, t, threshold] = *lines.first()?;
     if !(1..=MOST).contains(&n) || !(1..=MOST).contains(&t) || threshold < 0 || lines.len() as i64 != 1 + n + t {
@@ -61,7 +60,7 @@ fn answer(text: &[u8], met: &mut Met) -> Option<Vec<u8>> {
     let tris: Vec<[usize; 3]> = tris.iter().map(|t| t.map(|v| v as usize)).collect();
     let sizes = vec![1.0; at.len()];
     let old = tris.clone();
-    let (at, tris, _, flagged, cut) = access::refine_once(&at, &tris, &sizes, &angles, threshold as f64 / 1024.0);
+    let (at, tris, _, flagged, cut) = (of.refine_once)(&at, &tris, &sizes, &angles, threshold as f64 / 1024.0);
     for [a, b, c] in old {
         let is_cut = |u: usize, v: usize| cut.contains(&(u.min(v), u.max(v)));
         let marks: Vec<&str> = [("p", a, b), ("q", b, c), ("r", c, a)]
@@ -194,7 +193,7 @@ const COARSE: [usize; 14] = [5, 6, 7, 8, 9, 10, 12, 13, 14, 15, 16, 17, 18, 22];
 const LARGE: [usize; 2] = [19, 20];
 
 /// A list of `count` texts: three in four damaged, of single bytes as often as not, each damage in turn; the others good.
-pub fn record(seed: u64, count: usize, folder: &Path) {
+pub fn record(of: &Reference, seed: u64, count: usize, folder: &Path) {
     let path = folder.join("texts");
     let file = File::create(&path).unwrap_or_else(|e| panic!("{}: {e}", path.display()));
     let mut file = BufWriter::new(file);
@@ -210,7 +209,7 @@ pub fn record(seed: u64, count: usize, folder: &Path) {
             _ if i % 4 == 0 => damage(&mut r, COARSE[i / 4 % COARSE.len()]),
             _ => damage(&mut r, FINE[i / 2 % FINE.len()]),
         };
-        let printed = answer(&s, &mut met);
+        let printed = answer(of, &s, &mut met);
         met.entry(name.to_string()).or_default()[usize::from(printed.is_none())] += 1;
         let printed = printed.unwrap_or(REFUSED.to_vec());
         writeln!(file, "{:6}{:6}", s.len(), printed.len()).expect("a recorded text");

@@ -1,22 +1,7 @@
 /* Writes the recorded answers of the processor's square root (sqrtsd) to standard output, always the same bytes: the inputs come from a fixed seed. */
 #include <inttypes.h>
 #include <stdio.h>
-#include <string.h>
-
-static uint64_t state = 20130423;
-
-/* splitmix64 */
-static uint64_t next(void) {
-    uint64_t z = state += 0x9e3779b97f4a7c15;
-    z = (z ^ z >> 30) * 0xbf58476d1ce4e5b9;
-    z = (z ^ z >> 27) * 0x94d049bb133111eb;
-    return z ^ z >> 31;
-}
-
-static double d(uint64_t b) { double x; memcpy(&x, &b, 8); return x; }
-static uint64_t b(double x) { uint64_t u; memcpy(&u, &x, 8); return u; }
-
-static double hardware(double x) { double r; __asm__("sqrtsd %1, %0" : "=x"(r) : "x"(x)); return r; }
+#include "../../compare/random.h"
 
 static uint64_t word(double x) { return x != x ? 0x7ff8000000000000 : b(x); }
 static void one(double x) { printf("%016" PRIx64 " %016" PRIx64 "\n", word(x), word(hardware(x))); }
@@ -24,6 +9,7 @@ static void one(double x) { printf("%016" PRIx64 " %016" PRIx64 "\n", word(x), w
 static void three(double x) { one(d(b(x) - 1)); one(x); one(d(b(x) + 1)); }
 
 int main(void) {
+    state = 20130423;
     const uint64_t ends[] = {0, 1, 2, 3, 4, 0x000fffffffffffff, 0x0010000000000000, 0x0010000000000001, 0x3ff0000000000000,
         0x7fefffffffffffff, 0x7ff0000000000000, 0x7ff8000000000000};
     for (unsigned i = 0; i < sizeof ends / 8; i++) { one(d(ends[i])); one(d(ends[i] | 0x8000000000000000)); }

@@ -1,0 +1,163 @@
+//! Times ours beside the reference, over its platform's own functions, on the same floors and in one run (bench/run).
+
+mod floors;
+mod linear;
+mod time;
+
+use floors::{case, turning, MODES, SIDES, SIZES};
+use oracle::{case::Boundary, godf, outcome::same, random::Random, PLATFORM};
+use time::{heading, row, seconds};
+
+/// A field of the reference on a floor: wavy sizes, tangent.
+fn field(side: usize) -> (oracle::case::Case, Vec<f64>) {
+    let c = case(side, "wavy", Boundary::Tangent, 0.0);
+    let alpha = (PLATFORM.pass)(&c).expect("a field");
+    (c, alpha)
+}
+
+fn refinement(rounds: usize, sides: &[usize]) {
+    heading("Refinement: godf_refine beside refine_once", "ms");
+    let mut calls: Vec<(String, oracle::case::Case, Vec<f64>, f64)> = vec![];
+    for &side in sides {
+        for threshold in [0.0, 5.0 * turning(side)] {
+            let (c, alpha) = field(side);
+            calls.push((
+                format!("{side} by {side}, wavy, tangent, threshold {threshold:.4}"),
+                c,
+                alpha,
+                threshold,
+            ));
+        }
+    }
+    // 32,768 triangles, all flagged: a grid of 128 by 128 points that goes round
+    let whole = oracle::floors::wrapped(128, 128);
+    let mut c = case(128, "constant", Boundary::None, 0.0);
+    (c.points, c.tris) = (whole.points.concat(), whole.tris.concat());
+    let turn = |i: usize| 0.7 * ((i % 128 * 5 + i / 128 * 3) % 2) as f64 + 0.1 * (i % 3) as f64;
+    calls.push((
+        "128 by 128 going round".to_string(),
+        c,
+        (0..128 * 128).map(turn).collect(),
+        0.0,
+    ));
+    for (name, c, alpha, threshold) in calls {
+        let (points, tris) = (c.triples(), c.corners());
+        // slices that the caller has touched before
+        let mut lent = godf::lent(c.n(), c.triangles(), 0);
+        godf::refine(&mut lent, &c.points, &c.tris, &c.sizes, &alpha, threshold);
+        let flagged = (PLATFORM.refine_once)(&points, &tris, &c.sizes, &alpha, threshold).3;
+        assert_eq!(lent.report[2], flagged as u64, "flagged triangles");
+        let name = format!("{name}: {flagged} of {} triangles flagged", tris.len());
+        let ours = || seconds(|| godf::refine(&mut lent, &c.points, &c.tris, &c.sizes, &alpha, threshold));
+        let theirs = || seconds(|| (PLATFORM.refine_once)(&points, &tris, &c.sizes, &alpha, threshold));
+        row(&name, rounds, 1e-3, ours, theirs);
+    }
+}
+
+fn probe(rounds: usize, sides: &[usize]) {
+    heading("Probe: godf_interp_angle beside interp_angle, a question", "us");
+    for &side in sides {
+        let (c, alpha) = field(side);
+        let (points, tris) = (c.triples(), c.corners());
+        let mut r = Random::new(side as u64);
+        let at: Vec<[f64; 2]> = (0..20).map(|_| [r.between(0.1, 0.9), r.between(0.1, 0.9)]).collect();
+        // the leaves differ in the last place now and then: the judge's own bits are compared by compare/scalars
+        let differ = at.iter().filter(|&&p| {
+            let ours = godf::interp_angle(&alpha, &c.points, &c.tris, p);
+            !same(ours, (oracle::BOUND.interp_angle)(&alpha, &points, &tris, p))
+        });
+        assert_eq!(differ.count(), 0, "probes that differ");
+        let ours = || {
+            seconds(|| {
+                at.iter()
+                    .map(|&p| godf::interp_angle(&alpha, &c.points, &c.tris, p))
+                    .sum::<f64>()
+            })
+        };
+        let theirs = || {
+            seconds(|| {
+                at.iter()
+                    .map(|&p| (PLATFORM.interp_angle)(&alpha, &points, &tris, p))
+                    .sum::<f64>()
+            })
+        };
+        row(
+            &format!("{side} by {side}"),
+            rounds,
+            1e-6 * at.len() as f64,
+            ours,
+            theirs,
+        );
+    }
+}
+
+fn singularities(rounds: usize, sides: &[usize]) {
+    heading(
+        "Singularities: godf_count_singularities beside count_singularities",
+        "us",
+    );
+    for &side in sides {
+        let (c, alpha) = field(side);
+        let tris = c.corners();
+        let counts = godf::count_singularities(&alpha, &c.tris);
+        assert_eq!(counts, (PLATFORM.count_singularities)(&alpha, &tris), "singularities");
+        let ours = || seconds(|| godf::count_singularities(&alpha, &c.tris));
+        let theirs = || seconds(|| (PLATFORM.count_singularities)(&alpha, &tris));
+        row(&format!("{side} by {side}: {counts:?}"), rounds, 1e-6, ours, theirs);
+    }
+}
+
+/// The reference's own time of a whole solve; ours stands beside it once libgodf.a has godf_solve.
+fn solve(rounds: usize, sides: &[usize]) {
+    println!("\nWhole solve: the Rust alone\n\n| floor | least, ms | median | most |\n|---|---|---|---|");
+    for &side in sides {
+        for sizes in SIZES {
+            for (mode, boundary) in MODES {
+                for threshold in [0.0, turning(side)] {
+                    let c = case(side, sizes, boundary, threshold);
+                    let mut told = String::new();
+                    let run = |_| {
+                        let mut answer = None;
+                        let time = seconds(|| answer = Some((PLATFORM.solve)(&c)));
+                        let (answer, seen) = answer.expect("an answer");
+                        let (flagged, cut) = seen.counts.unwrap_or((0, 0));
+                        let end = answer.map_or_else(|text| text, |_| format!("{flagged} flagged, {cut} cut"));
+                        told = if threshold > 0.0 {
+                            format!(", threshold {threshold:.4}: {end}")
+                        } else {
+                            format!(": {end}")
+                        };
+                        time
+                    };
+                    let mut times: Vec<f64> = (0..rounds).map(run).collect();
+                    times.sort_by(f64::total_cmp);
+                    let [least, median, most] = [times[0], times[rounds / 2], times[rounds - 1]].map(|t| 1e3 * t);
+                    println!("| {side} by {side}, {sizes}, {mode}{told} | {least:.1} | {median:.1} | {most:.1} |");
+                }
+            }
+        }
+    }
+}
+
+fn main() {
+    let words: Vec<String> = std::env::args().skip(1).collect();
+    let rounds: usize = words
+        .first()
+        .map_or(5, |w| w.parse().expect("a count of rounds"))
+        .max(1);
+    let (numbers, names): (Vec<&String>, Vec<&String>) = words.iter().skip(1).partition(|w| w.parse::<usize>().is_ok());
+    let asked: Vec<usize> = numbers.iter().filter_map(|w| w.parse().ok()).collect();
+    let sides = if asked.is_empty() { SIDES.to_vec() } else { asked };
+    let layers: [(&str, fn(usize, &[usize])); 5] = [
+        ("refinement", refinement),
+        ("linear", linear::run),
+        ("probe", probe),
+        ("singularities", singularities),
+        ("solve", solve),
+    ];
+    for (name, run) in layers {
+        if names.is_empty() || names.iter().any(|w| *w == name) {
+            run(rounds, &sides);
+        }
+    }
+}
