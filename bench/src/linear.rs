@@ -1,5 +1,5 @@
 //! layers_conjugate_gradient beside conjugate_gradient, on the very systems of the floors: first both to the end, the iterates compared
-//! bit by bit, then 50 iterations of each.
+//! bit by bit, then 50 iterations of each, less the time of a call that makes none: what is set up before the first is left out.
 
 use crate::floors::{case, MODES, SIZES};
 use crate::time::{heading, row, seconds};
@@ -101,15 +101,17 @@ pub fn run(rounds: usize, sides: &[usize]) {
                 all &= equal;
                 let bits = if equal { "same bits" } else { "DIFFERENT" };
                 (s.tolerance, s.most) = (0.0, TURNS);
+                let none = System { most: 0, ..s.clone() };
                 let start = Lent::new(&s);
                 let mut lent = Lent::new(&s);
-                let ours = || {
+                let mut timed = |most: usize| {
                     lent.work.copy_from_slice(&start.work);
-                    seconds(|| lent.solve(0.0, TURNS))
+                    seconds(|| lent.solve(0.0, most))
                 };
+                let ours = || timed(TURNS) - timed(0);
                 let name = format!("{side} by {side}, {sizes}, {mode}: {count} iterations, {bits}");
                 row(&name, rounds, 1e-6 * TURNS as f64, ours, || {
-                    (PLATFORM.time_conjugate_gradient)(&s)
+                    (PLATFORM.time_conjugate_gradient)(&s) - (PLATFORM.time_conjugate_gradient)(&none)
                 });
             }
         }
