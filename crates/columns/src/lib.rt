@@ -2,9 +2,9 @@
 // first digit, no leading zero and no minus before 0. specs/Columns.antt says which bytes a number has and how a column is read;
 // proofs/Strict.antt proves that a column reads as a number exactly if it has that number's bytes.
 ghost use mathlib.Core.Path.{_≡_};
-ghost use mathlib.Core.List.{List, [], _∷_};
-ghost use Prim.Native.Nat.{ℕ, _+_, _*_, _<_, _≤_, _^_};
-ghost use lib.ListN.{length, take};
+ghost use mathlib.Core.List.{[], _∷_};
+ghost use Prim.Native.Nat.{_+_, _*_, _<_, _≤_};
+ghost use lib.ListN.{length};
 ghost use lib.Seq.{sets};
 ghost use Rattle.columns.specs.Columns.{isLead, isDigit, afterBlank, afterMinus, step, scan, isNumber, isWhole, sizeOf, doubleOf, place, columnOf, columnsOf, lineOf};
 

@@ -6,12 +6,11 @@ pub mod numbers;
 
 ghost use mathlib.Core.Path.{_≡_};
 ghost use mathlib.Core.Bool.{_&&_};
-ghost use mathlib.Core.List.{List};
-ghost use Prim.Native.Nat.{ℕ, _+_, _*_, _<_, _≤_, _^_};
-ghost use lib.ListN.{length, getD, replicate};
+ghost use Prim.Native.Nat.{_+_, _*_, _<_, _≤_, _^_};
+ghost use lib.ListN.{length, replicate};
 ghost use lib.Seq.{sets};
 ghost use lib.Dec.{eqb};
-ghost use Rattle.mesh.specs.Mesh.{Side, side, key, Tri, tri, place};
+ghost use Rattle.mesh.specs.Mesh.{side, key, tri, place};
 ghost use Rattle.edges.specs.Table.{slotOf, seek, loOf, hiOf, sidesIn, Held, Met, MetTri, plus};
 
 pub struct Meeting {

@@ -1,8 +1,8 @@
 // The sides of a whole list of triangles, numbered once for all that asks for them: for each triangle the numbers of its three sides, and for each
 // side in how many triangles it lies. All stands in one slice (specs/Numbering.antt).
 ghost use mathlib.Core.Path.{_≡_};
-ghost use Prim.Native.Nat.{ℕ, _+_, _*_, _<_, _≤_, _^_};
-ghost use mathlib.Core.List.{List, [], _∷_};
+ghost use Prim.Native.Nat.{_+_, _*_, _<_, _≤_, _^_};
+ghost use mathlib.Core.List.{[], _∷_};
 ghost use lib.ListN.{length, getD, set};
 ghost use lib.Seq.{sets};
 ghost use Rattle.edges.specs.Table.{Held};

@@ -2,14 +2,14 @@
 // lent slices. specs/Text.antt says which bytes are a text and what floor it has; proofs/Strict.antt that no two texts have the same
 // numbers.
 ghost use mathlib.Core.Path.{_≡_};
-ghost use mathlib.Core.Bool.{Bool, true};
-ghost use mathlib.Core.List.{List, [], _∷_};
-ghost use Prim.Native.Nat.{ℕ, _+_, _*_, _<_, _≤_};
+ghost use mathlib.Core.Bool.{true};
+ghost use mathlib.Core.List.{[], _∷_};
+ghost use Prim.Native.Nat.{_+_, _*_, _<_, _≤_};
 ghost use lib.ListN.{length};
 ghost use lib.Seq.{sets};
 ghost use Rattle.float.specs.Double.{lit};
 ghost use Rattle.columns.specs.Columns.{isNumber, isWhole, sizeOf, doubleOf};
-ghost use Rattle.floor_text.specs.Text.{columnAt, first, second, third, isLine, isCorners, every, pointCount, triangleCount, isHead, isText, radians, pointsUpTo, anglesUpTo, cornersUpTo, pointsIn, anglesIn, cornersIn, thresholdIn, readOf, ReadTo};
+ghost use Rattle.floor_text.specs.Text.{columnAt, first, second, third, isLine, isCorners, every, pointCount, triangleCount, isHead, isText, radians, pointsUpTo, anglesUpTo, cornersUpTo, ReadTo};
 use columns::Scan;
 
 // What a text has: a floor of so many points and triangles, with a threshold; or it is of another form.

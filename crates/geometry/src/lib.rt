@@ -2,7 +2,7 @@
 // along an edge; and the weight of an anisotropic metric. Positions are pairs x, y: no z is ever read.
 ghost use mathlib.Core.Path.{_≡_};
 ghost use Rattle.geometry.specs.Triangle.{twiceArea, side2, longestOf, judged, geometryOf, hatGradient, gradientOf};
-ghost use Rattle.geometry.specs.Edge.{meanSize, transportAngle, transportOf, alignmentWeight};
+ghost use Rattle.geometry.specs.Edge.{transportAngle, transportOf, alignmentWeight};
 use complex::Complex;
 use plane::Pair;
 

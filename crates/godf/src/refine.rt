@@ -1,6 +1,6 @@
 // The refinement call, with the angles given. A slice is a pointer and a length.
 ghost use mathlib.Core.Path.{_≡_};
-ghost use mathlib.Core.List.{List, [], _∷_};
+ghost use mathlib.Core.List.{[], _∷_};
 ghost use lib.ListN.{length, set};
 ghost use lib.Seq.{sets};
 ghost use Rattle.refinement.specs.Floor.{refinementOf, trisOf};

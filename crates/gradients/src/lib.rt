@@ -2,10 +2,8 @@
 // specs/Gradients.antt says what they are.
 use plane::Pair;
 ghost use mathlib.Core.Path.{_≡_};
-ghost use Prim.Native.Nat.{ℕ, _+_, _*_, _<_, _≤_};
-ghost use lib.ListN.{length, getD};
-ghost use lib.Ieee.{nan};
-ghost use Rattle.float.specs.Double.{_⊗_};
+ghost use Prim.Native.Nat.{_+_, _*_, _<_, _≤_};
+ghost use lib.ListN.{length};
 ghost use Rattle.mesh.specs.Mesh.{tri};
 ghost use Rattle.edges.specs.Numbering.{triFrom, Below};
 ghost use Rattle.geometry.specs.Triangle.{at};

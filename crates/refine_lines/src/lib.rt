@@ -1,8 +1,8 @@
 // The lines that the refinement program prints for an answer of the refinement call: the counts, the triangles, the ends of the cut
 // sides; or `refused`. specs/Lines.antt says which bytes they are.
 ghost use mathlib.Core.Path.{_≡_};
-ghost use mathlib.Core.List.{List, [], _∷_};
-ghost use Prim.Native.Nat.{ℕ, _+_, _*_, _≤_};
+ghost use mathlib.Core.List.{[], _∷_};
+ghost use Prim.Native.Nat.{_+_, _*_, _≤_};
 ghost use lib.ListN.{length};
 ghost use lib.Seq.{sets};
 ghost use Rattle.refinement.specs.Floor.{tris};

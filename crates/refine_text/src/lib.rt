@@ -1,8 +1,7 @@
 // The refinement program of document 01 as a function from the bytes read to the bytes printed: `answer` reads a text of columns,
 // refines its floor and writes the new triangles and the cut sides, or the line `refused`. specs/Printed.antt says what is printed.
 ghost use mathlib.Core.Path.{_≡_};
-ghost use mathlib.Core.List.{List};
-ghost use Prim.Native.Nat.{ℕ, _+_, _*_, _/_, _≤_};
+ghost use Prim.Native.Nat.{_*_, _/_, _≤_};
 ghost use lib.ListN.{length, take, replicate};
 ghost use lib.Seq.{sets};
 ghost use Rattle.float.specs.Double.{lit};

@@ -2,14 +2,13 @@
 // triangle, and the midpoints. Cut sides stand in a table of crate edges, in the slice w from `base` on, with nb buckets.
 // specs/Floor.antt has the whole as one definition; specs/Flag.antt says which triangles are flagged.
 ghost use mathlib.Core.Path.{_≡_};
-ghost use mathlib.Core.List.{List};
-ghost use Prim.Native.Nat.{ℕ, _+_, _*_, _<_, _≤_, _^_};
-ghost use lib.ListN.{length, getD, take};
+ghost use Prim.Native.Nat.{_+_, _*_, _<_, _≤_, _^_};
+ghost use lib.ListN.{length, take};
 ghost use lib.Seq.{sets};
-ghost use Rattle.mesh.specs.Mesh.{Tri, tri, mid, split, pieces, refined};
+ghost use Rattle.mesh.specs.Mesh.{tri, mid, split, pieces};
 ghost use Rattle.edges.specs.Table.{Held, sidesIn, plus, unplus};
 ghost use Rattle.refinement.specs.Flag.{turnAlong, variation, angle, flaggedTri};
-ghost use Rattle.refinement.specs.Floor.{tris, triAt, cornersOf};
+ghost use Rattle.refinement.specs.Floor.{triAt};
 ghost use Rattle.refinement.specs.Steps.{CutStep, CutTo, Rows};
 
 // How far the field turns along a side, from the angles at its ends.

@@ -6,7 +6,7 @@ ghost use lib.IntN.{pos};
 ghost use lib.Ieee.{binary64, ofInt, toBits};
 ghost use Rattle.float.specs.Double.{lit, mag, high, sign};
 ghost use Rattle.sine.specs.Kernel.{kernelSin, kernelCos, quarter};
-ghost use Rattle.sine.specs.Sine.{isClear, less, plus, remNear, remDeep, remMedium, opposite, remPio2, sinSwitch, sinOf, cosOf};
+ghost use Rattle.sine.specs.Sine.{isClear, less, remNear, remDeep, remMedium, remPio2, sinSwitch, sinOf, cosOf};
 ghost use Rattle.sine.specs.Taken.{taken, turned};
 
 const S1: f64 = -1.66666666666666324348e-01;

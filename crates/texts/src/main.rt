@@ -1,21 +1,12 @@
 // Replays texts of refine.in, good and damaged, with what they must print. data/README.md says how the list was made.
 // Prints how many there are, and how many differ.
+use replay::rows;
+use replay::rows::Tally;
 ghost use Prim.Native.Nat.{_≤_};
 ghost use lib.ListN.{length};
 
 // What the bytes behind the answer hold before and after.
 const MARK: u8 = 170;
-
-// What the list has shown so far, and whether it may hold more.
-struct Tally {
-    more: bool,
-    recorded: u64,
-    differ: u64,
-}
-
-fn one_more(n: u64) -> u64 {
-    std::num::wrapping_add_u64(n, 1)
-}
 
 // A length out of a column, at most `most`.
 fn length_in(column: &[u8], most: usize) -> usize
@@ -76,43 +67,25 @@ fn entry(fd: i32, text: usize, must: usize) -> bool
     entry_over(fd, text, must, &mut a, &mut b)
 }
 
-// The next entry: a line with its two lengths, the text, what it must print.
+// The next entry: a line with its two lengths, the text, what it must print. A list that ends within such a line has one that differs.
 fn some(fd: i32, seen: Tally) -> Tally {
     let mut head = [0u8; 13];
     let n = io::read_full(fd, &mut head);
-    let recorded = seen.recorded;
-    let differ = seen.differ;
+    if n == 0 {
+        return rows::paused(seen);
+    }
     if n != 13 {
-        return Tally {
-            more: false,
-            recorded,
-            differ: if n == 0 { differ } else { one_more(differ) },
-        };
+        return rows::paused(rows::judged(seen, false));
     }
     let text = length_in(&head[0..6], 20000);
     let must = length_in(&head[6..12], 29500);
-    if entry(fd, text, must) {
-        return Tally {
-            more: true,
-            recorded: one_more(recorded),
-            differ,
-        };
-    }
-    Tally {
-        more: true,
-        recorded: one_more(recorded),
-        differ: one_more(differ),
-    }
+    rows::judged(seen, entry(fd, text, must))
 }
 
 // The whole list. The turns only fall so that the loop is known to end.
 fn main() {
     let fd = replay::open(b"texts");
-    let mut seen = Tally {
-        more: true,
-        recorded: 0,
-        differ: 0,
-    };
+    let mut seen = rows::unseen();
     let mut turns = u64::MAX;
     while turns > 0 && seen.more {
         seen = some(fd, seen);

@@ -1,4 +1,4 @@
--- `texts::main` is safe and ends: the turns fall. Assumes nothing.
+-- `texts::main` is safe and ends: what is left to do falls at each turn.
 use borrow.Author.Needs.{needs}
 use Rattle.texts.proofs.main.Statement.{statement}
 use Rattle.texts.proofs.main.Tie as tie
@@ -14,6 +14,9 @@ slice-aggregate-open c = search needs
 
 open-requires : tie.Need-open-requires Inv-loop μ-loop
 open-requires c κs = search needs
+
+unseen-requires : tie.Need-unseen-requires Inv-loop μ-loop
+unseen-requires c κs = search needs
 
 loop-holds : tie.Need-loop-holds Inv-loop μ-loop
 loop-holds c = search needs
@@ -50,6 +53,7 @@ main-spec =
     μ-loop
     slice-aggregate-open
     open-requires
+    unseen-requires
     loop-holds
     some-requires
     sub-turns
