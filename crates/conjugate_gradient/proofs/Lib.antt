@@ -4,3 +4,4 @@ pub mod Passes
 pub mod Turns
 pub mod Runs
 pub mod Mass
+pub mod Lengths

@@ -131,7 +131,7 @@ after-sized n Converged s count f z g = z
 after-sized n (Broken r) s count f z g = z
 after-sized n (Going dot) s count f z g = g dot s z
 
-run-sized : (n : ℕ) (m : Matrix) (limit : Float) (k i : ℕ) (dot : Float) (s : State) → Sized n s → Sized n (run m limit k i dot s .state)
+pub run-sized : (n : ℕ) (m : Matrix) (limit : Float) (k i : ℕ) (dot : Float) (s : State) → Sized n s → Sized n (run m limit k i dot s .state)
 unfolding run
 run-sized n m limit zero i dot s z = z
 run-sized n m limit (suc k) i dot s z =

@@ -54,7 +54,7 @@ enum Turned {
 }
 
 // Whether a value is not finite, or not positive.
-fn is_unfit(value: f64) -> bool
+pub fn is_unfit(value: f64) -> bool
     ensures { λ r. ⌜ r ≡ unfit value ⌝ }
 {
     if !float::is_finite(value) {

@@ -1,11 +1,11 @@
--- The lowest index: a loop that has found none so far, one that finds it, and one that finds none. Assumes nothing.
+-- The lowest index: a loop that has found none so far, one that finds it, and one that finds none; and the indices below it. Assumes nothing.
 use Prim.Native.Nat.{ℕ, zero, suc, _+_, _-_, _≤_, _<_}
 use native.Mathlib.Omega.{arith}
 use native.Mathlib.Numerals.{add-one}
 use native.Mathlib.Decide.{ℕ-discrete}
 use mathlib.Core.Path.{_≡_, refl, sym, ap, _∙_, subst}
 use mathlib.Core.Bool.{Bool, true, false, cond}
-use borrow.Author.Tests.{lt-ltb, le-ltb}
+use borrow.Author.Tests.{ltb-false, lt-ltb, le-ltb}
 use lib.Dec.{ltb}
 use Rattle.floor.specs.Checks.{lowest}
 
@@ -41,3 +41,18 @@ lowest-most p (suc i) = go (ltb (lowest p i) i) (p i) (lowest-most p i)
     go true c h = omega arith
     go false true h = omega arith
     go false false h = omega arith
+
+-- below the lowest index it does not hold
+pub lowest-before : (p : ℕ → Bool) (n i : ℕ) → i < lowest p n → p i ≡ false
+unfolding lowest
+lowest-before p zero i h = absurd (omega arith)
+lowest-before p (suc n) i h = go (ltb (lowest p n) n) (p n) refl refl (lowest-before p n i) h
+  where
+    go : (b c : Bool) → ltb (lowest p n) n ≡ b → p n ≡ c → (i < lowest p n → p i ≡ false) → i < cond b (lowest p n) (cond c n (suc n)) → p i ≡ false
+    go true c e f old h = old h
+    go false true e f old h = old (omega (arith, ltb-false (lowest p n) n e))
+    go false false e f old h = last (ℕ-discrete i n)
+      where
+        last : Dec (i ≡ n) → p i ≡ false
+        last (yes z) = ap p z ∙ f
+        last (no z) = old (omega (arith, ltb-false (lowest p n) n e))

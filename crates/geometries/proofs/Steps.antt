@@ -95,7 +95,7 @@ unfolding areasUpTo woundUpTo firstDegenerate
 to-none x y a c v w u = record { sound = lowest-none _; areas = refl; wound = refl; many = refl; thrice = refl }
 
 -- a geometry that is not degenerate has one area and three corners
-one-area : (g : Geometry) → isDegenerate g ≡ false → (length (areaOn g) ≡ 1) × (length (cornersOn g) ≡ 3)
+pub one-area : (g : Geometry) → isDegenerate g ≡ false → (length (areaOn g) ≡ 1) × (length (cornersOn g) ≡ 3)
 one-area (Triangle g) h = (refl, refl)
 one-area (Degenerate d) h = let z : _≡_ {A = ℕ} (cond true 0 1) (cond false 0 1) = ap (λ (b : Bool). cond b 0 1) h in absurd (omega (arith, z))
 

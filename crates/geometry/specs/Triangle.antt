@@ -2,7 +2,6 @@
 use Prim.Native.Nat.{ℕ}
 use mathlib.Core.Bool.{Bool, not, cond, _||_}
 use mathlib.Core.List.{List, [], _∷_}
-use lib.Dec.{T}
 use lib.ListN.{getD}
 use lib.Ieee.{Float, nan, lt, le}
 use Rattle.float.specs.Double.{lit, mag, isFinite, maxOf, recipOf, _⊕_, _⊗_}
@@ -75,9 +74,6 @@ geometryOf vs ps t = geometry (getD vs 0 0) (getD vs 1 0) (getD vs 2 0) (getD ps
 abbrev pub gradientOf : List Pair → List Float → Float → Pair
 gradientOf ps ss area = gradient (getD ps 0 no-pair) (getD ps 1 no-pair) (getD ps 2 no-pair) (getD ss 0 nan) (getD ss 1 nan) (getD ss 2 nan) area
 
--- ---- a floor's point v, by the coordinates x and y of its points; and a position that row 6 lets pass
+-- ---- a floor's point v, by the coordinates x and y of its points
 abbrev pub at : (ℕ → Float) → (ℕ → Float) → ℕ → Pair
 at x y v = record { x = x v; y = y v }
-
-abbrev pub Finite : Pair → Type 0
-Finite p = T (isFinite (p .x)) × T (isFinite (p .y))

@@ -2,13 +2,13 @@
 ghost use mathlib.Core.Path.{_≡_};
 ghost use Rattle.guidance.specs.Guidance.{fourfold, normOf, meanOr, midAngle};
 
-fn fourfold_direction(angle: f64) -> complex::Complex
+pub fn fourfold_direction(angle: f64) -> complex::Complex
     ensures { λ r. ⌜ r ≡ fourfold angle ⌝ }
 {
     complex::Complex::from_angle(4.0 * angle)
 }
 
-fn norm(z: complex::Complex) -> f64
+pub fn norm(z: complex::Complex) -> f64
     ensures { λ r. ⌜ r ≡ normOf z ⌝ }
 {
     root::sqrt(z.re * z.re + z.im * z.im)

@@ -1,11 +1,11 @@
--- Runs of stores into a list: one behind another, one more number, and what stands before and behind a run. Assumes nothing.
+-- Runs of stores into a list: one behind another, one more number, and what stands before, in and behind a run. Assumes nothing.
 use Prim.Native.Nat.{ℕ, zero, suc, _+_, _≤_, _<_}
 use native.Mathlib.Omega.{arith}
 use native.Mathlib.Numerals.{add-one}
 use mathlib.Core.Path.{_≡_, refl, sym, ap, _∙_, subst}
 use mathlib.Core.List.{List, [], _∷_, _++_}
-use lib.ListN.{length, getD, set, take}
-use lib.Seq.{sets, getD-set-other, take-suc, length-take-le}
+use lib.ListN.{length, length-set, getD, set, take}
+use lib.Seq.{sets, getD-set-same, getD-set-other, take-suc, length-take-le}
 
 module _ {ℓ} {A : Type ℓ} where
   pub sets-append : (l : List A) (i : ℕ) (xs ys : List A) → sets (sets l i xs) (i + length xs) ys ≡ sets l i (xs ++ ys)
@@ -33,3 +33,12 @@ module _ {ℓ} {A : Type ℓ} where
   pub sets-behind : (l : List A) (i : ℕ) (vs : List A) (j : ℕ) (d : A) → i + length vs ≤ j → getD (sets l i vs) j d ≡ getD l j d
   sets-behind l i [] j d h = refl
   sets-behind l i (v ∷ vs) j d h = sets-behind (set l i v) (suc i) vs j d (omega arith) ∙ getD-set-other l i j v d (omega arith)
+
+  pub sets-within : (l : List A) (i : ℕ) (vs : List A) (j : ℕ) (d : A) → i + length vs ≤ length l → j < length vs → getD (sets l i vs) (i + j) d ≡ getD vs j d
+  sets-within l i [] j d h g = absurd (omega arith)
+  sets-within l i (v ∷ vs) zero d h g =
+      let e : i + 0 ≡ i = omega arith in
+      ap (λ (k : ℕ). getD (sets (set l i v) (suc i) vs) k d) e ∙ sets-before (set l i v) (suc i) vs i d (omega arith) ∙ getD-set-same l i v d (omega arith)
+  sets-within l i (v ∷ vs) (suc j) d h g =
+      let e : i + suc j ≡ suc i + j = omega arith in
+      ap (λ (k : ℕ). getD (sets (set l i v) (suc i) vs) k d) e ∙ sets-within (set l i v) (suc i) vs j d (omega (arith, length-set l i v)) (omega arith)
