@@ -1,0 +1,56 @@
+-- One pass: the Rust's solve_mesh as one function of lists, every operation rounded once, in the order that the Rust writes it. A floor has no z, so that
+-- no pass depends on one. Definitions only.
+use Prim.Native.Nat.{ℕ}
+use mathlib.Core.Bool.{cond}
+use lib.Ieee.{Float}
+use Rattle.floor.specs.Floor.{Floor, pointsOf, trianglesOf}
+use Rattle.hermitian.specs.Hermitian.{Matrix}
+use Rattle.terms.specs.declared.Mode.{Mode}
+use Rattle.assembly.specs.Assembly as assembly
+use Rattle.assembly.specs.Lists.{floorOf}
+use Rattle.shift.specs.declared.Traces.{Traces}
+use Rattle.shift.specs.Shift.{tracesOf, shiftedEnergy}
+use Rattle.conjugate_gradient.specs.Solve.{unfit}
+use Rattle.refusal.specs.Refusal.{gaveUp}
+use Rattle.options.specs.declared.Options.{Options}
+use Rattle.options.specs.Options.{Guidance}
+use Rattle.options.specs.Pass.{Passed, faulty}
+use Rattle.setup.specs.declared.Setup.{Setup}
+use Rattle.setup.specs.declared.Setup.the-variants.{Edges, Refused}
+use Rattle.setup.specs.Setup.{woundOf, areasOf, edgesOf, lowersOf, uppersOf, transportsOf, setupOf}
+use Rattle.branches.specs.Branches.{Built, branchOf}
+
+-- ---- the matrices, lines 1293 to 1418
+
+abbrev pub modeOf : Options → Mode
+modeOf o = record { accurate = o .accurate; holomorphic = o .holomorphic }
+
+-- the floor as it is assembled
+unfoldable pub assembledFloor : Floor → assembly.Floor
+assembledFloor f = floorOf (f .xs) (f .ys) (woundOf f) (areasOf f) (edgesOf f) (transportsOf f)
+
+unfoldable pub massOf : Options → Floor → Matrix
+massOf o f = assembly.massOf (modeOf o) (assembledFloor f) (pointsOf f) (trianglesOf f) (lowersOf f) (uppersOf f)
+
+unfoldable pub energyOf : Options → Floor → Matrix
+energyOf o f = assembly.energyOf (modeOf o) (assembledFloor f) (pointsOf f) (trianglesOf f) (lowersOf f) (uppersOf f)
+
+-- ---- traces and shift, lines 1420 to 1433: reason 1, and then reason 2
+
+unfoldable pub tracesIn : Options → Floor → Traces
+tracesIn o f = tracesOf (massOf o f .diagonal) (energyOf o f .diagonal)
+
+unfoldable pub builtOf : Options → Floor → Built
+builtOf o f = record { mass = massOf o f; energy = shiftedEnergy (massOf o f) (energyOf o f); trace = tracesIn o f .energy }
+
+abbrev pub afterTraces : Traces → Passed → Passed
+afterTraces t next = cond (unfit (t .energy)) (faulty (gaveUp 1 0)) (cond (unfit (t .mass)) (faulty (gaveUp 2 0)) next)
+
+-- ---- all of it
+
+abbrev pub afterSetup : Setup → Passed → Passed
+afterSetup (Edges m) next = next
+afterSetup (Refused x) next = faulty x
+
+unfoldable pub passOf : Floor → Options → Guidance → ℕ → Passed
+passOf f o g iterations = afterSetup (setupOf f) (afterTraces (tracesIn o f) (branchOf (builtOf o f) f o g iterations))
