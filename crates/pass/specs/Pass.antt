@@ -48,9 +48,13 @@ afterTraces t next = cond (unfit (t .energy)) (faulty (gaveUp 1 0)) (cond (unfit
 
 -- ---- all of it
 
+-- the field over a floor whose edges have transports
+unfoldable pub fieldOver : Floor → Options → Guidance → ℕ → Passed
+fieldOver f o g iterations = afterTraces (tracesIn o f) (branchOf (builtOf o f) f o g iterations)
+
 abbrev pub afterSetup : Setup → Passed → Passed
 afterSetup (Edges m) next = next
 afterSetup (Refused x) next = faulty x
 
 unfoldable pub passOf : Floor → Options → Guidance → ℕ → Passed
-passOf f o g iterations = afterSetup (setupOf f) (afterTraces (tracesIn o f) (branchOf (builtOf o f) f o g iterations))
+passOf f o g iterations = afterSetup (setupOf f) (fieldOver f o g iterations)

@@ -1,0 +1,40 @@
+-- What a pass reads from the work slices, and what its parts leave there. What it leaves itself is `Finds` of crate branches: the angles where it found
+-- them, and all before them as it was; the rest of the regions that it takes is scratch. Definitions only.
+use Prim.Native.Nat.{ℕ}
+use mathlib.Core.Path.{_≡_}
+use mathlib.Core.List.{List}
+use lib.Ieee.{Float, nan}
+use Rattle.cells.specs.Region.{region}
+use Rattle.terms.specs.declared.Mode.{Mode}
+use Rattle.assembly.specs.declared.Plan.{Plan}
+use Rattle.assembly.specs.Work.{assembledTo}
+use Rattle.shift.specs.declared.Traces.{Traces}
+use Rattle.shift.specs.Shift.{tracesOf}
+use Rattle.options.specs.declared.Options.{Options}
+use Rattle.options.specs.Options.{Guidance, guidanceOf}
+use Rattle.options.specs.Pass.{Passed}
+use Rattle.layout.specs.declared.Layout.{Layout}
+use Rattle.layout.specs.Matrices.{massAt, energyAt}
+use Rattle.layout.specs.Work.{floorIn, guidanceIn}
+use Rattle.pass.specs.declared.Asked.{Asked}
+use Rattle.pass.specs.Pass.{fieldOver, passOf}
+
+-- the guidance that stands there, if it is given
+abbrev pub guidanceAt : Layout → Asked → List Float → Guidance
+guidanceAt l a w = guidanceOf (a .guided) (a .weight) (guidanceIn l w)
+
+-- the field that is asked for: of a whole pass, and once the floor is set up
+unfoldable pub passIn : Layout → Options → Asked → List Float → List ℕ → Passed
+passIn l o a w u = passOf (floorIn l w u) o (guidanceAt l a w) (a .iterations)
+
+unfoldable pub fieldIn : Layout → Options → Asked → List Float → List ℕ → Passed
+fieldIn l o a w u = fieldOver (floorIn l w u) o (guidanceAt l a w) (a .iterations)
+
+-- what is assembled
+abbrev pub planAt : Layout → Plan
+planAt l = record { x = l .x; y = l .y; areas = l .areas; transports = l .transports; corners = l .wound; numbers = l .numbers; triangles = l .triangles }
+
+-- both matrices, with m edges, before any shift; and their traces
+pub record Builds (l : Layout) (m : ℕ) (mode : Mode) (w : List Float) (u : List ℕ) (w′ : List Float) (r : Traces) : Type 0 where
+  pub work : w′ ≡ assembledTo mode w u (planAt l) (massAt l m) (energyAt l m) (l .triangles)
+  pub traces : r ≡ tracesOf (region nan w′ (l .mass) (l .points)) (region nan w′ (l .energy) (l .points))

@@ -1,0 +1,113 @@
+// One pass: the Rust's solve_mesh, from a floor in the work slices to the angles of its field, or a refusal by rows 19 to 24.
+// specs/Pass.antt says what it finds, as one function of lists, and specs/Work.antt where it reads and writes.
+use assembly::Plan;
+use branches::Search;
+use layout::Base;
+use layout::Layout;
+use options::Options;
+use refusal::Stage;
+use setup::Setup;
+use shift::Traces;
+use terms::Mode;
+ghost use mathlib.Core.Path.{_≡_};
+ghost use Prim.Native.Nat.{_*_, _≤_};
+ghost use lib.ListN.{length};
+ghost use Rattle.edges.specs.Numbering.{Below};
+ghost use Rattle.assembly.specs.Work.{Indexed};
+ghost use Rattle.hermitian.specs.Work.{shiftMatrix};
+ghost use Rattle.shift.specs.Shift.{shiftOf};
+ghost use Rattle.layout.specs.Layout.{Fits, Ordered, layoutOf};
+ghost use Rattle.layout.specs.Matrices.{massAt, energyAt};
+ghost use Rattle.layout.specs.Work.{floorIn};
+ghost use Rattle.setup.specs.Work.{Stands};
+ghost use Rattle.branches.specs.Work.{Finds};
+ghost use Rattle.pass.specs.Work.{passIn, fieldIn, planAt, Builds};
+
+// What is asked beside the floor and the options: whether guidance is given, and its weight; how many outer iterations there may be.
+pub struct Asked {
+    pub guided: bool,
+    pub weight: f64,
+    pub iterations: usize,
+}
+
+fn plan_at(l: Layout) -> Plan
+    ensures { λ r. ⌜ r ≡ planAt l ⌝ }
+{
+    Plan {
+        x: l.x,
+        y: l.y,
+        areas: l.areas,
+        transports: l.transports,
+        corners: l.wound,
+        numbers: l.numbers,
+        triangles: l.triangles,
+    }
+}
+
+// Both matrices before any shift. Their traces.
+fn build(w: &mut [f64], u: &[u32], l: Layout, edges: usize, m: Mode) -> Traces
+    requires { ⌜ Ordered l (length (now w)) (length (now u)) ⌝ }
+    requires { ⌜ Indexed (now u) (planAt l) (l .points) edges × (edges ≤ 3 * l .triangles) ⌝ }
+    ensures { λ r. ⌜ Builds l edges m (now (w .entry)) (now (u .entry)) (now (w .exit)) r ⌝ }
+{
+    let mass = layout::mass_at(l, edges);
+    let energy = layout::energy_at(l, edges);
+    assembly::assemble(w, u, plan_at(l), mass, energy, m);
+    shift::traces_of(w, mass, energy)
+}
+
+// The energy matrix gets its shift.
+fn shift_energy(w: &mut [f64], l: Layout, edges: usize, t: Traces)
+    requires { ⌜ Ordered l (length (now w)) (l .flags + l .points) × (edges ≤ 3 * l .triangles) ⌝ }
+    ensures { λ _. ⌜ now (w .exit) ≡ shiftMatrix (now (w .entry)) (energyAt l edges) (shiftOf t) (massAt l edges) ⌝ }
+{
+    let mass = layout::mass_at(l, edges);
+    let energy = layout::energy_at(l, edges);
+    shift::shift_energy(w, energy, mass, t);
+}
+
+// The rest of a pass, once its floor is set up.
+fn field_over(
+    w: &mut [f64],
+    u: &mut [u32],
+    l: Layout,
+    edges: usize,
+    o: Options,
+    a: Asked,
+) -> Stage
+    requires { ⌜ Ordered l (length (now w)) (length (now u)) ⌝ }
+    requires { ⌜ Stands l edges (floorIn l (now w) (now u)) (now w) (now u) ⌝ }
+    ensures { λ r. ⌜ Finds l (l .counts) (fieldIn l o a (now (w .entry)) (now (u .entry))) (now (w .entry)) (now (u .entry)) (now (w .exit)) (now (u .exit)) r ⌝ }
+{
+    let mode = Mode {
+        accurate: o.accurate,
+        holomorphic: o.holomorphic,
+    };
+    let t = build(w, u, l, edges, mode);
+    let s = shift::check(t);
+    let Stage::Done = s else {
+        return s;
+    };
+    shift_energy(w, l, edges, t);
+    let search = Search {
+        guided: a.guided,
+        weight: a.weight,
+        trace: t.energy,
+        iterations: a.iterations,
+    };
+    branches::find_field(w, u, l, edges, o, search)
+}
+
+// The pass over the floor that begins at `at`.
+pub fn pass(w: &mut [f64], u: &mut [u32], at: Base, o: Options, a: Asked) -> Stage
+    requires { ⌜ Fits at (length (now w)) (length (now u)) ⌝ }
+    requires { ⌜ Below (at .points) (at .words) (now u) (3 * at .triangles) ⌝ }
+    ensures { λ r. ⌜ Finds (layoutOf at) (layoutOf at .wound) (passIn (layoutOf at) o a (now (w .entry)) (now (u .entry))) (now (w .entry)) (now (u .entry)) (now (w .exit)) (now (u .exit)) r ⌝ }
+{
+    let l = layout::layout(at);
+    let found = setup::set_up(w, u, l);
+    match found {
+        Setup::Edges(edges) => field_over(w, u, l, edges, o, a),
+        Setup::Refused(fault) => Stage::Refused(fault),
+    }
+}
