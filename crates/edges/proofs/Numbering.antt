@@ -118,7 +118,7 @@ after-snoc l [] t = refl
 after-snoc l (x ∷ ts) t = after-snoc (metAll l (sides x)) ts t
 
 -- the corners of the first i triangles are the same in both slices
-tris-same : (c i : ℕ) (w w′ : List ℕ) → ((j : ℕ) → j < c + 3 * i → getD w′ j 0 ≡ getD w j 0) → trisFrom c w′ i ≡ trisFrom c w i
+pub tris-same : (c i : ℕ) (w w′ : List ℕ) → ((j : ℕ) → j < c + 3 * i → getD w′ j 0 ≡ getD w j 0) → trisFrom c w′ i ≡ trisFrom c w i
 unfolding trisFrom
 tris-same c zero w w′ h = refl
 tris-same c (suc i) w w′ h = rw (tris-same c i w w′ (λ j g. h j (omega arith)), h (c + 3 * i) (omega arith), h (c + 3 * i + 1) (omega arith), h (c + 3 * i + 2) (omega arith))

@@ -53,7 +53,7 @@ pub struct Layout {
     pub flags: usize,
 }
 
-pub fn layout(at: Base) -> Layout
+pub fn layout_at(at: Base) -> Layout
     requires { ⌜ Small at ⌝ }
     ensures { λ r. ⌜ r ≡ layoutOf at ⌝ }
 {
