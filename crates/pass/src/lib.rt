@@ -104,7 +104,7 @@ pub fn pass(w: &mut [f64], u: &mut [u32], at: Base, o: Options, a: Asked) -> Sta
     requires { ⌜ Below (at .points) (at .words) (now u) (3 * at .triangles) ⌝ }
     ensures { λ r. ⌜ Finds (layoutOf at) (layoutOf at .wound) (passIn (layoutOf at) o a (now (w .entry)) (now (u .entry))) (now (w .entry)) (now (u .entry)) (now (w .exit)) (now (u .exit)) r ⌝ }
 {
-    let l = layout::layout(at);
+    let l = layout::layout_at(at);
     let found = setup::set_up(w, u, l);
     match found {
         Setup::Edges(edges) => field_over(w, u, l, edges, o, a),

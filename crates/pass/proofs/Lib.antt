@@ -1,0 +1,4 @@
+pub mod Below
+pub mod Matrices
+pub mod Rest
+pub mod Whole
