@@ -1,15 +1,15 @@
 -- The matrices that stand in the work slices once they are assembled over a floor that is set up are those of the floor's definition, and so are their
 -- traces and the shifted energy. Nothing before the matrices changes. Assumes nothing.
-use Prim.Native.Nat.{ℕ, _+_, _*_, _≤_, _<_}
+use Prim.Native.Nat.{ℕ, zero, suc, _+_, _*_, _≤_, _<_}
 use native.Mathlib.Omega.{arith}
 use mathlib.Core.Path.{_≡_, refl, sym, ap, _∙_, subst}
 use mathlib.Core.List.{List}
-use lib.ListN.{length, getD}
+use lib.ListN.{length, length-append, getD}
 use lib.Ieee.{Float, nan}
 use Rattle.cells.specs.Region.{region}
 use Rattle.cells.proofs.Loops.{apart}
 use Rattle.cells.proofs.Regions.{length-region}
-use Rattle.edges.proofs.Numbering.{length-tris}
+use Rattle.edges.specs.Numbering.{triFrom, trisFrom}
 use Rattle.floor.specs.Floor.{Floor, pointsOf, trianglesOf}
 use Rattle.hermitian.specs.Hermitian.{Matrix}
 use Rattle.hermitian.specs.Work.{matrix, shiftMatrix, ShiftRoom}
@@ -19,7 +19,8 @@ use Rattle.assembly.specs.Work as work
 use Rattle.assembly.proofs.Lists as lists
 use Rattle.assembly.proofs.Matrices.{assembled-length, assembled-below}
 use Rattle.shift.specs.declared.Traces.{Traces}
-use Rattle.shift.specs.Shift.{tracesOf, shiftOf, shiftedEnergy}
+use Rattle.shift.specs.Shift.{tracesOf, shiftOf, shiftedEnergy, TraceRoom}
+use Rattle.terms.specs.declared.Mode.{Mode}
 use Rattle.shift.proofs.Elsewhere.{shift-else-real, mass-shifted, energy-shifted}
 use Rattle.options.specs.declared.Options.{Options}
 use Rattle.layout.specs.declared.Layout.{Layout}
@@ -37,6 +38,11 @@ use Rattle.pass.proofs.Below.{below-regions}
 pub points-in : (l : Layout) (w : List Float) (u : List ℕ) → pointsOf (floorIn l w u) ≡ l .points
 unfolding floorIn
 points-in l w u = length-region nan w (l .x) (l .points)
+
+length-tris : (c : ℕ) (u : List ℕ) (t : ℕ) → length (trisFrom c u t) ≡ t
+unfolding trisFrom
+length-tris c u zero = refl
+length-tris c u (suc t) = length-append (trisFrom c u t) _ ∙ omega (arith, length-tris c u t)
 
 pub triangles-in : (l : Layout) (w : List Float) (u : List ℕ) → trianglesOf (floorIn l w u) ≡ l .triangles
 unfolding floorIn
@@ -66,7 +72,17 @@ module _ (l : Layout) (m : ℕ) {reals words : ℕ} (ok : Ordered l reals words)
     diagonal-mass = omega (arith, apart);
   }
 
+  pub trace-room : (mode : Mode) (w : List Float) (u : List ℕ) → length w ≡ reals → length u ≡ words → {w₁ : List Float}
+      → w₁ ≡ assembledTo mode w u (planAt l) (massAt l m) (energyAt l m) (l .triangles) → TraceRoom (length w₁) (massAt l m) (energyAt l m)
+  trace-room mode w u a b {w₁} e =
+      let fits : work.Room (length w) (length u) (planAt l) (massAt l m) (energyAt l m) = rw (a, b) assembly-room in
+      let k : length w₁ ≡ reals = ap length e ∙ assembled-length mode w u (planAt l) (massAt l m) (energyAt l m) fits (l .triangles) ∙ a in
+      record { mass-in = omega arith; energy-in = omega arith }
+
 -- ---- the matrices
+
+pub indexed : {l : Layout} {m : ℕ} {f : Floor} {w : List Float} {u : List ℕ} → Stands l m f w u → Indexed u (planAt l) (l .points) m
+indexed s = record { points = s .corners-below; sides = s .numbers-below }
 
 module _ (l : Layout) (m : ℕ) (w : List Float) (u : List ℕ) (o : Options) (ok : Ordered l (length w) (length u)) (s : Stands l m (floorIn l w u) w u) where
   abbrev built : List Float
@@ -74,9 +90,6 @@ module _ (l : Layout) (m : ℕ) (w : List Float) (u : List ℕ) (o : Options) (o
 
   room : work.Room (length w) (length u) (planAt l) (massAt l m) (energyAt l m)
   room = assembly-room l m ok (s .edged .few)
-
-  pub indexed : Indexed u (planAt l) (l .points) m
-  indexed = record { points = s .corners-below; sides = s .numbers-below }
 
   holds : lists.Holds w u (planAt l) (l .points) m (floorIn l w u .xs) (floorIn l w u .ys) (woundOf (floorIn l w u)) (areasOf (floorIn l w u)) (edgesOf (floorIn l w u)) (transportsOf (floorIn l w u))
   unfolding floorIn
@@ -89,13 +102,13 @@ module _ (l : Layout) (m : ℕ) (w : List Float) (u : List ℕ) (o : Options) (o
   unfolding massOf assembledFloor
   mass-built =
       rw (s .lowers, s .uppers, points-in l w u, triangles-in l w u)
-      (lists.mass-lists (modeOf o) w u (planAt l) (massAt l m) (energyAt l m) room indexed _ _ _ _ _ _ holds (lowersOf (floorIn l w u)) (uppersOf (floorIn l w u)) all-lowers)
+      (lists.mass-lists (modeOf o) w u (planAt l) (massAt l m) (energyAt l m) room (indexed s) _ _ _ _ _ _ holds (lowersOf (floorIn l w u)) (uppersOf (floorIn l w u)) all-lowers)
 
   pub energy-built : matrix built (energyAt l m) (fromIn l m u) (toIn l m u) ≡ energyOf o (floorIn l w u)
   unfolding energyOf assembledFloor
   energy-built =
       rw (s .lowers, s .uppers, points-in l w u, triangles-in l w u)
-      (lists.energy-lists (modeOf o) w u (planAt l) (massAt l m) (energyAt l m) room indexed _ _ _ _ _ _ holds (lowersOf (floorIn l w u)) (uppersOf (floorIn l w u)) all-lowers)
+      (lists.energy-lists (modeOf o) w u (planAt l) (massAt l m) (energyAt l m) room (indexed s) _ _ _ _ _ _ holds (lowersOf (floorIn l w u)) (uppersOf (floorIn l w u)) all-lowers)
 
   pub built-length : length built ≡ length w
   built-length = assembled-length (modeOf o) w u (planAt l) (massAt l m) (energyAt l m) room (l .triangles)

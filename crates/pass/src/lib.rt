@@ -14,7 +14,7 @@ ghost use Prim.Native.Nat.{_*_, _≤_};
 ghost use lib.ListN.{length};
 ghost use Rattle.edges.specs.Numbering.{Below};
 ghost use Rattle.assembly.specs.Work.{Indexed};
-ghost use Rattle.hermitian.specs.Work.{shiftMatrix};
+ghost use Rattle.hermitian.specs.Work.{shiftMatrix, ShiftRoom};
 ghost use Rattle.shift.specs.Shift.{shiftOf};
 ghost use Rattle.layout.specs.Layout.{Fits, Ordered, layoutOf};
 ghost use Rattle.layout.specs.Matrices.{massAt, energyAt};
@@ -58,7 +58,7 @@ fn build(w: &mut [f64], u: &[u32], l: Layout, edges: usize, m: Mode) -> Traces
 
 // The energy matrix gets its shift.
 fn shift_energy(w: &mut [f64], l: Layout, edges: usize, t: Traces)
-    requires { ⌜ Ordered l (length (now w)) (l .flags + l .points) × (edges ≤ 3 * l .triangles) ⌝ }
+    requires { ⌜ ShiftRoom (length (now w)) (energyAt l edges) (massAt l edges) ⌝ }
     ensures { λ _. ⌜ now (w .exit) ≡ shiftMatrix (now (w .entry)) (energyAt l edges) (shiftOf t) (massAt l edges) ⌝ }
 {
     let mass = layout::mass_at(l, edges);
@@ -67,14 +67,7 @@ fn shift_energy(w: &mut [f64], l: Layout, edges: usize, t: Traces)
 }
 
 // The rest of a pass, once its floor is set up.
-fn field_over(
-    w: &mut [f64],
-    u: &mut [u32],
-    l: Layout,
-    edges: usize,
-    o: Options,
-    a: Asked,
-) -> Stage
+fn field_over(w: &mut [f64], u: &mut [u32], l: Layout, edges: usize, o: Options, a: Asked) -> Stage
     requires { ⌜ Ordered l (length (now w)) (length (now u)) ⌝ }
     requires { ⌜ Stands l edges (floorIn l (now w) (now u)) (now w) (now u) ⌝ }
     ensures { λ r. ⌜ Finds l (l .counts) (fieldIn l o a (now (w .entry)) (now (u .entry))) (now (w .entry)) (now (u .entry)) (now (w .exit)) (now (u .exit)) r ⌝ }

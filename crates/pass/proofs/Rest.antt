@@ -1,0 +1,149 @@
+-- The rest of a pass, once its floor is set up: it refuses by the traces, or finds what the branch finds over the floor's own matrices. Assumes nothing.
+use Prim.Native.Nat.{ℕ, _≤_, _<_}
+use native.Mathlib.Omega.{arith}
+use mathlib.Core.Path.{_≡_, refl, sym, ap, _∙_, subst}
+use mathlib.Core.Logic.{_⊎_, inl, inr}
+use mathlib.Core.Bool.{Bool, true, false, cond}
+use mathlib.Core.List.{List}
+use lib.ListN.{length, getD}
+use lib.Ieee.{Float, nan}
+use Rattle.cells.proofs.Regions.{length-put}
+use Rattle.cells.proofs.Cells.{length-putC}
+use Rattle.hermitian.specs.Work.{shiftMatrix, ShiftRoom}
+use Rattle.conjugate_gradient.specs.Solve.{unfit}
+use Rattle.refusal.specs.declared.Fault.{Fault}
+use Rattle.refusal.specs.declared.Stage.{Stage}
+use Rattle.refusal.specs.declared.Stage.the-variants.{Done, Refused}
+use Rattle.refusal.specs.Refusal.{gaveUp}
+use Rattle.shift.specs.declared.Traces.{Traces}
+use Rattle.shift.specs.Shift.{shiftOf, tracesStage}
+use Rattle.options.specs.declared.Options.{Options}
+use Rattle.options.specs.Options.{guidanceOf}
+use Rattle.options.specs.Pass.{Passed, field, faulty, stageOf}
+use Rattle.layout.specs.declared.Layout.{Layout}
+use Rattle.layout.specs.Layout.{Ordered}
+use Rattle.layout.specs.Matrices.{massAt, energyAt}
+use Rattle.layout.specs.Work.{floorIn, guidanceIn}
+use Rattle.layout.proofs.Regions.{floor-stays}
+use Rattle.setup.specs.Work.{Stands}
+use Rattle.branches.specs.declared.Search.{Search}
+use Rattle.branches.specs.Branches.{Built, branchOf}
+use Rattle.branches.specs.Work.{builtIn, soughtIn, Finds}
+use Rattle.pass.specs.declared.Asked.{Asked}
+use Rattle.pass.specs.Pass.{modeOf, tracesIn, builtOf, afterTraces, fieldOver}
+use Rattle.pass.specs.Work.{guidanceAt, fieldIn, Builds}
+use Rattle.pass.proofs.Below.{region-below}
+use Rattle.pass.proofs.Matrices.{shift-room, built-length, built-below, traces-built, shifted-below, matrices-built}
+
+-- ---- what was found from slices that agree before the floor's areas was found from the others too
+
+pub finds-from : (l : Layout) (k : ℕ) (p q : Passed) (w w₁ : List Float) (u u₁ : List ℕ) {w₂ : List Float} {u₂ : List ℕ} {r : Stage} → p ≡ q
+    → length w₁ ≡ length w → length u₁ ≡ length u → ((j : ℕ) → j < l .angles → getD w₁ j nan ≡ getD w j nan) → ((j : ℕ) → j < k → getD u₁ j 0 ≡ getD u j 0)
+    → Finds l k p w₁ u₁ w₂ u₂ r → Finds l k q w u w₂ u₂ r
+finds-from l k p q w w₁ u u₁ e a b same-reals same-words f = record {
+  answer = f .answer ∙ ap stageOf e;
+  found = λ alpha h. f .found alpha (e ∙ h);
+  all-reals = f .all-reals ∙ a;
+  all-words = f .all-words ∙ b;
+  reals-below = λ j h. f .reals-below j h ∙ same-reals j h;
+  words-below = λ j h. f .words-below j h ∙ same-words j h;
+}
+
+-- a refusal that leaves all before the angles as it was
+pub refusal-found : (l : Layout) (k : ℕ) (p : Passed) (x : Fault) (w w₁ : List Float) (u u₁ : List ℕ) → p ≡ faulty x
+    → length w₁ ≡ length w → length u₁ ≡ length u → ((j : ℕ) → j < l .angles → getD w₁ j nan ≡ getD w j nan) → ((j : ℕ) → j < k → getD u₁ j 0 ≡ getD u j 0)
+    → Finds l k p w u w₁ u₁ (Refused x)
+refusal-found l k p x w w₁ u u₁ e a b same-reals same-words = record {
+  answer = sym (ap stageOf e);
+  found = λ alpha h. let z : _≡_ {A = ℕ} 0 1 = cc in absurd (omega arith);
+  all-reals = a;
+  all-words = b;
+  reals-below = same-reals;
+  words-below = same-words;
+}
+
+-- ---- by the traces
+
+traces-cases : (t : Traces) (next : Passed) → ((tracesStage t ≡ Done) × (afterTraces t next ≡ next)) ⊎ ((x : Fault) × (tracesStage t ≡ Refused x) × (afterTraces t next ≡ faulty x))
+unfolding tracesStage
+traces-cases t next = go (unfit (t .energy)) (unfit (t .mass))
+  where
+    go : (e m : Bool) → ((cond e (Refused (gaveUp 1 0)) (cond m (Refused (gaveUp 2 0)) Done) ≡ Done) × (cond e (faulty (gaveUp 1 0)) (cond m (faulty (gaveUp 2 0)) next) ≡ next)) ⊎ ((x : Fault) × (cond e (Refused (gaveUp 1 0)) (cond m (Refused (gaveUp 2 0)) Done) ≡ Refused x) × (cond e (faulty (gaveUp 1 0)) (cond m (faulty (gaveUp 2 0)) next) ≡ faulty x))
+    go true m = inr (gaveUp 1 0, refl, refl)
+    go false true = inr (gaveUp 2 0, refl, refl)
+    go false false = inl (refl, refl)
+
+pub traces-done : (t : Traces) (next : Passed) → tracesStage t ≡ Done → afterTraces t next ≡ next
+traces-done t next d = go (traces-cases t next)
+  where
+    go : ((tracesStage t ≡ Done) × (afterTraces t next ≡ next)) ⊎ ((x : Fault) × (tracesStage t ≡ Refused x) × (afterTraces t next ≡ faulty x)) → afterTraces t next ≡ next
+    go (inl (a, b)) = b
+    go (inr (x, a, b)) = let z : _≡_ {A = ℕ} 0 1 = cc in absurd (omega arith)
+
+pub traces-refused : (t : Traces) (next : Passed) (x : Fault) → tracesStage t ≡ Refused x → afterTraces t next ≡ faulty x
+traces-refused t next x d = go (traces-cases t next)
+  where
+    go : ((tracesStage t ≡ Done) × (afterTraces t next ≡ next)) ⊎ ((y : Fault) × (tracesStage t ≡ Refused y) × (afterTraces t next ≡ faulty y)) → afterTraces t next ≡ faulty x
+    go (inl (a, b)) = let z : _≡_ {A = ℕ} 0 1 = cc in absurd (omega arith)
+    go (inr (y, a, b)) = cc
+
+-- ---- all of it
+
+module _ (l : Layout) (m : ℕ) (w : List Float) (u : List ℕ) (o : Options) (a : Asked) (ok : Ordered l (length w) (length u)) (s : Stands l m (floorIn l w u) w u)
+    (w₁ : List Float) (t : Traces) (b : Builds l m (modeOf o) w u w₁ t) where
+  same-traces : t ≡ tracesIn o (floorIn l w u)
+  same-traces = traces-built l m w u o ok s t (rw (b .work) at (b .traces))
+
+  work-length : length w₁ ≡ length w
+  work-length = ap length (b .work) ∙ built-length l m w u o ok s
+
+  work-below : (j : ℕ) → j < l .angles → getD w₁ j nan ≡ getD w j nan
+  work-below j h = ap (λ (v : List Float). getD v j nan) (b .work) ∙ built-below l m w u o ok s j (omega arith)
+
+  pub shift-fits : ShiftRoom (length w₁) (energyAt l m) (massAt l m)
+  shift-fits = subst (λ (k : ℕ). ShiftRoom k (energyAt l m) (massAt l m)) (sym work-length) (shift-room l m ok (s .edged .few))
+
+  pub rest-refused : (r : Stage) (x : Fault) → r ≡ tracesStage t → r ≡ Refused x → Finds l (l .counts) (fieldIn l o a w u) w u w₁ u r
+  unfolding fieldIn fieldOver
+  rest-refused r x e d =
+      subst (λ (z : Stage). Finds l (l .counts) (fieldIn l o a w u) w u w₁ u z) (sym d)
+      (refusal-found l (l .counts) (fieldIn l o a w u) x w w₁ u u
+      (ap (λ (z : Traces). afterTraces z (branchOf (builtOf o (floorIn l w u)) (floorIn l w u) o (guidanceAt l a w) (a .iterations))) (sym same-traces) ∙ traces-refused t _ x (sym e ∙ d))
+      work-length refl work-below (λ j h. refl))
+
+  module _ (r : Stage) (e : r ≡ tracesStage t) (d : r ≡ Done) (w₂ : List Float) (shifted : w₂ ≡ shiftMatrix w₁ (energyAt l m) (shiftOf t) (massAt l m)) where
+    abbrev search : Search
+    search = record { guided = a .guided; weight = a .weight; trace = t .energy; iterations = a .iterations }
+
+    -- the slices agree before the matrices
+    same-below : (j : ℕ) → j < l .mass → getD w₂ j nan ≡ getD w j nan
+    same-below j h =
+        ap (λ (v : List Float). getD v j nan) (shifted ∙ ap (λ (v : List Float). shiftMatrix v (energyAt l m) (shiftOf t) (massAt l m)) (b .work))
+        ∙ shifted-below l m w u o ok s t (rw (b .work) at (b .traces)) j h
+
+    shifted-length : length w₂ ≡ length w
+    unfolding shiftMatrix
+    shifted-length = ap length shifted ∙ length-putC _ _ _ ∙ length-put _ _ _ ∙ work-length
+
+    same-floor : floorIn l w₂ u ≡ floorIn l w u
+    same-floor = floor-stays l ok w w₂ u u (λ j h. same-below j (omega arith)) (λ j h. refl)
+
+    same-guidance : guidanceIn l w₂ ≡ guidanceIn l w
+    same-guidance = region-below nan (l .mass) w w₂ same-below (l .guidance) (l .points) (omega arith)
+
+    same-built : builtIn l m (t .energy) w₂ u ≡ builtOf o (floorIn l w u)
+    same-built =
+        ap (λ (v : List Float). builtIn l m (t .energy) v u) (shifted ∙ ap (λ (v : List Float). shiftMatrix v (energyAt l m) (shiftOf t) (massAt l m)) (b .work))
+        ∙ matrices-built l m w u o ok s t (rw (b .work) at (b .traces))
+
+    same-field : soughtIn l m o search w₂ u ≡ fieldIn l o a w u
+    unfolding soughtIn fieldIn fieldOver
+    same-field =
+        rw (same-built, same-floor, same-guidance)
+        (sym (traces-done t _ (sym e ∙ d)) ∙ ap (λ (z : Traces). afterTraces z (branchOf (builtOf o (floorIn l w u)) (floorIn l w u) o (guidanceAt l a w) (a .iterations))) same-traces)
+
+    pub ordered-then : Ordered l (length w₂) (length u)
+    ordered-then = subst (λ (k : ℕ). Ordered l k (length u)) (sym shifted-length) ok
+
+    pub rest-found : {w₃ : List Float} {u₃ : List ℕ} {q : Stage} → Finds l (l .counts) (soughtIn l m o search w₂ u) w₂ u w₃ u₃ q → Finds l (l .counts) (fieldIn l o a w u) w u w₃ u₃ q
+    rest-found f = finds-from l (l .counts) _ _ w w₂ u u same-field shifted-length refl (λ j h. same-below j (omega arith)) (λ j h. refl) f
