@@ -6,7 +6,7 @@ use mathlib.Core.Bool.{Bool, true, false, cond}
 use mathlib.Core.List.{List, [], _∷_, _++_, map}
 use mathlib.Core.Option.{none, some}
 use lib.Dec.{ltb}
-use lib.ListN.{length, getD, List·getD-append}
+use lib.ListN.{length, getD, length-append, length-map, List·getD-append}
 use lib.Seq.{getD-append-add}
 use lib.Ieee.{Float, nan}
 use Rattle.float.specs.Double.{lit}
@@ -100,3 +100,18 @@ module _ (n : ℕ) (pts sizes : List Float) (l : List Side) (whole : length pts 
   -- with even whole coordinates, refinement by the cut sides l keeps each triangle's area
   pub floor-keeps-area : (ts : List Tri) → All (Good n) ts → EvenPoints n pts → KeepsArea n pts (morePoints pts l) (mid n l) ts
   floor-keeps-area ts good even = keeps-area n (mid n l) pts sizes (morePoints pts l) (moreSizes sizes l) placed even ts good
+
+-- ---- how many points and sizes
+
+pub mids-length : (pts : List Float) (s : List Side) → length (midpoints pts s) ≡ 3 * length s
+unfolding midpoints
+mids-length pts [] = refl
+mids-length pts (x ∷ s) = omega (arith, mids-length pts s)
+
+pub points-length : (pts : List Float) (l : List Side) → length (morePoints pts l) ≡ length pts + 3 * length l
+unfolding morePoints
+points-length pts l = length-append pts (midpoints pts l) ∙ omega (arith, mids-length pts l)
+
+pub sizes-length : (sizes : List Float) (l : List Side) → length (moreSizes sizes l) ≡ length sizes + length l
+unfolding moreSizes midSizes
+sizes-length sizes l = length-append sizes (midSizes sizes l) ∙ omega (arith, length-map l (midSize sizes))
