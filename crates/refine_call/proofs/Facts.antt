@@ -8,7 +8,6 @@ use mathlib.Core.List.{List}
 use borrow.Author.Tests.{eqb-true, ltb-false, leb-true}
 use lib.Dec.{eqb, ltb, leb}
 use lib.ListN.{length, replicate, length-replicate, getD-replicate}
-use lib.Seq.{sets}
 use lib.Ieee.{Float}
 use Rattle.mesh.specs.Mesh.{Tri, mid, cuts, refine, refined}
 use Rattle.areas.specs.Points.{morePoints, moreSizes}
@@ -25,11 +24,12 @@ use Rattle.refinement.proofs.Runs.{front}
 use Rattle.refinement.proofs.Triangles.{tris-length, corners-length}
 use Rattle.refinement.proofs.Parts.{refined-most}
 use Rattle.areas.proofs.Points.{points-length, sizes-length}
+use Rattle.refine_floor.specs.Stored.{Stored}
 use Rattle.refine_floor.proofs.Parts.{ends-length}
 use Rattle.refine_call.specs.declared.Counts.{Counts}
 use Rattle.refine_call.specs.declared.Answer.{Answer}
 use Rattle.refine_call.specs.declared.Answer.the-variants.{Refinement}
-use Rattle.refine_call.specs.Call.{passedUp, Called, badThreshold, short, andThen, checkRest, checkCall, Filled, Roomy}
+use Rattle.refine_call.specs.Call.{passedUp, Called, FilledFor, badThreshold, short, andThen, checkRest, checkCall, Filled, Roomy}
 
 -- ---- tests
 
@@ -186,8 +186,8 @@ module _ (threshold : Float) (angles points sizes : List Float) (l : List ℕ) w
   pub filled : {w w′ : List ℕ} {m k c : ℕ} {op os op′ os′ : List Float} {ot oe ot′ oe′ : List ℕ}
       → Roomy (length points) (length l) (length sizes) (length op) (length os) (length ot) (length oe)
       → CutTo 0 65536 (flaggedTri threshold angles) l (length l / 3) w w′ m c
-      → (ot′ ≡ sets ot 0 (cornersOf (refined (mid (length points / 3) (sidesIn 0 65536 w′ m)) (tris l (length l / 3))))) × (k ≡ length (refined (mid (length points / 3) (sidesIn 0 65536 w′ m)) (tris l (length l / 3))))
-      → (op′ ≡ sets op 0 (morePoints points (sidesIn 0 65536 w′ m))) × ((os′ ≡ sets os 0 (moreSizes sizes (sidesIn 0 65536 w′ m))) × (oe′ ≡ sets oe 0 (endsOf (sidesIn 0 65536 w′ m))))
+      → Stored (refined (mid (length points / 3) (sidesIn 0 65536 w′ m)) (tris l (length l / 3))) ot 0 0 ot′ k
+      → FilledFor points sizes (sidesIn 0 65536 w′ m) op os oe op′ os′ oe′
       → Filled (refinementOf threshold angles points sizes (trisOf l)) op os ot oe (record { points = length points / 3 + m; triangles = k; flagged = c; cut = m }) op′ os′ ot′ oe′
   unfolding f n t refinementOf refine
   filled {w} {w′} {m} {k} {c} {op} {os} {ot = ot} {oe} room cut tri put =
@@ -199,9 +199,9 @@ module _ (threshold : Float) (angles points sizes : List Float) (l : List ℕ) w
       let p = points-length points L in
       let z = sizes-length sizes L in
       record {
-        counts = counts-same (third (length (morePoints points L)) (n + m) (omega (arith, p, room .whole, len))) (rw s at (tri .1)) (cut .counted) len;
-        points = rw s at (put .0) ∙ front op (morePoints points L) (omega (arith, p, room .whole, len, room .in-points, cut .few));
-        sizes = rw s at (put .1 .0) ∙ front os (moreSizes sizes L) (omega (arith, z, room .sized, len, room .in-sizes, cut .few));
-        triangles = rw s at (tri .0) ∙ front ot (cornersOf new) (omega (arith, corners-length new, many, room .in-triangles));
-        ends = rw s at (put .1 .1) ∙ front oe (endsOf L) (omega (arith, ends-length L, len, cut .few, room .in-ends));
+        counts = counts-same (third (length (morePoints points L)) (n + m) (omega (arith, p, room .whole, len))) (rw s at (tri .counted) ∙ omega arith) (cut .counted) len;
+        points = rw s at (put .points) ∙ front op (morePoints points L) (omega (arith, p, room .whole, len, room .in-points, cut .few));
+        sizes = rw s at (put .sizes) ∙ front os (moreSizes sizes L) (omega (arith, z, room .sized, len, room .in-sizes, cut .few));
+        triangles = rw s at (tri .stands) ∙ front ot (cornersOf new) (omega (arith, corners-length new, many, room .in-triangles));
+        ends = rw s at (put .ends) ∙ front oe (endsOf L) (omega (arith, ends-length L, len, cut .few, room .in-ends));
       }
