@@ -6,13 +6,17 @@ use mathlib.Core.List.{List}
 use lib.ListN.{length}
 use lib.Ieee.{Float, le}
 use Rattle.float.specs.Double.{lit}
-use Rattle.mesh.specs.Mesh.{Tri, All, Good, cuts}
+use Rattle.mesh.specs.Mesh.{Tri, All, Good, cuts, marked}
 use Rattle.mesh.proofs.Theorem.{refines}
 use Rattle.areas.proofs.Points.{placed, floor-keeps-area, points-length, sizes-length}
 use Rattle.refinement.specs.Flag.{flaggedTri}
 use Rattle.refinement.specs.Floor.{refinementOf}
 use Rattle.refinement.specs.Claim.{countOf, Refinement}
 use Rattle.refinement.proofs.Flags.{varies, turns, endless-angle, endless-difference, flag-is}
+
+flagged-places : (threshold : Float) (alpha points sizes : List Float) (ts : List Tri) → refinementOf threshold alpha points sizes ts .flagged ≡ length (marked (flaggedTri threshold alpha) ts)
+unfolding refinementOf
+flagged-places threshold alpha points sizes ts = refl
 
 module _ (threshold : Float) (alpha points sizes : List Float) (ts : List Tri) (low : le (lit 0) threshold ≡ true) (whole : length points ≡ 3 * countOf points) (sized : length sizes ≡ countOf points) (good : All (Good (countOf points)) ts) where
   pub refinement : Refinement threshold alpha points sizes ts (refinementOf threshold alpha points sizes ts)
@@ -28,7 +32,7 @@ module _ (threshold : Float) (alpha points sizes : List Float) (ts : List Tri) (
         sides = refines (countOf points) (flaggedTri threshold alpha) ts good;
         placed = placed (countOf points) points sizes cut whole sized;
         areas = floor-keeps-area (countOf points) points sizes cut whole sized ts good;
-        flagged-count = refl;
+        flagged-count = flagged-places threshold alpha points sizes ts;
         point-count = points-length points cut;
         size-count = sizes-length sizes cut;
       }
