@@ -1,26 +1,18 @@
 -- A list of corners below n, no triangle of which is degenerate, has what refinement asks of its triangles: as given, and counter-clockwise. Nothing is
 -- asked of the points' positions. Assumes nothing.
-use Prim.Native.Nat.{ℕ, zero, suc, _+_, _*_, _/_, _<_}
+use Prim.Native.Nat.{ℕ, _+_, _*_, _/_, _<_}
 use native.Mathlib.Nat.{mul-div-le, mul-div-cancel-left}
 use native.Mathlib.Omega.{arith}
-use mathlib.Core.Path.{_≡_, refl, sym, ap, _∙_, subst}
+use mathlib.Core.Path.{_≡_, sym, ap, _∙_, subst}
 use mathlib.Core.List.{List}
 use lib.ListN.{length, getD}
 use lib.Ieee.{Float}
 use Rattle.mesh.specs.Mesh.{tri, Good, All}
-use Rattle.edges.specs.Numbering.{triFrom, trisFrom}
+use Rattle.edges.specs.Numbering.{triFrom}
 use Rattle.refinement.specs.Floor.{triAt, tris, trisOf}
+use Rattle.refinement.proofs.Triangles.{tris-held}
 use Rattle.geometries.specs.Geometries.{firstDegenerate, woundUpTo}
 use Rattle.geometries.proofs.Good.{Cornered, all-from, sound-before, wound-length, good-at, good-wound}
-
--- the triangles of the list l, where it stands from c on in a slice
-pub tris-held : (c t : ℕ) (u l : List ℕ) → ((j : ℕ) → j < 3 * t → getD u (c + j) 0 ≡ getD l j 0) → trisFrom c u t ≡ tris l t
-unfolding trisFrom tris
-tris-held c zero u l h = refl
-tris-held c (suc t) u l h =
-    let e₁ : c + (3 * t + 1) ≡ c + 3 * t + 1 = omega arith in
-    let e₂ : c + (3 * t + 2) ≡ c + 3 * t + 2 = omega arith in
-    rw (tris-held c t u l (λ j g. h j (omega arith)), h (3 * t) (omega arith), ← e₁, ← e₂, h (3 * t + 1) (omega arith), h (3 * t + 2) (omega arith))
 
 itself : (l : List ℕ) (j : ℕ) → getD l (0 + j) 0 ≡ getD l j 0
 itself l j = let e : 0 + j ≡ j = omega arith in ap (λ (k : ℕ). getD l k 0) e

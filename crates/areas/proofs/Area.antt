@@ -1,13 +1,13 @@
 -- The pieces of a triangle, on whole coordinates: each has a half or a quarter of its signed area, or of that turned round, and their sizes add to its size. Assumes nothing.
-use mathlib.Core.Path.{_≡_, refl, sym, ap, _∙_, subst}
-use Prim.Native.Nat.{ℕ, zero, suc, _+_, _-_, _*_, _≤_, _<_}
+use mathlib.Core.Path.{_≡_, refl, sym, ap, _∙_}
+use Prim.Native.Nat.{ℕ, _+_, _*_, _≤_}
 use native.Mathlib.Omega.{arith}
-use mathlib.Core.List.{List, [], _∷_, _++_}
+use mathlib.Core.List.{List, [], _∷_}
 use mathlib.Core.Option.{Option, none, some}
-use lib.IntN.{ℤ, pos, negsuc, negℤ, natAbs, subℕ, _+ℤ_, _-ℤ_, _*ℤ_}
-use Rattle.mesh.specs.Mesh.{Tri, tri, total, split, pieces, refined}
+use lib.IntN.{ℤ, pos, natAbs, subℕ, _+ℤ_, _-ℤ_, _*ℤ_}
+use Rattle.mesh.specs.Mesh.{Tri, tri, total, split}
 use Rattle.areas.specs.Area.{cross, signed, twice, Middle, shares, Shared}
-use Rattle.areas.proofs.Diff.{raise, lift, diff-back, abs-mul, diff-same, neg-diff, add-diff, mul-diff, abs-diff}
+use Rattle.areas.proofs.Diff.{raise, lift, diff-back, abs-mul, diff-same, neg-diff, add-diff, mul-diff}
 
 -- the two halves of the shoelace sum
 abbrev pub P : ℕ → ℕ → ℕ → ℕ → ℕ → ℕ → ℕ
@@ -66,7 +66,7 @@ module _ (k : ℕ) (X Y : ℕ → ℤ) where
   own : (x : ℕ) → Half x x x
   own x = omega arith
 
-  half : (p a b : ℕ) → Near k X Y p → Near k X Y a → Near k X Y b → Middle X Y p a b → Half p a b
+  half : (p a b : ℕ) → Near k X Y p → Near k X Y a → Near k X Y b → Middle X Y X Y p a b → Half p a b
   half p a b hp ha hb e = (middle k (X p) (X a) (X b) (hp .0) (ha .0) (hb .0) (e .0), middle k (Y p) (Y a) (Y b) (hp .1) (ha .1) (hb .1) (e .1))
 
   abbrev area-P : ℕ → ℕ → ℕ → ℕ
@@ -96,7 +96,7 @@ module _ (k : ℕ) (X Y : ℕ → ℤ) where
   -- a cut side's midpoint
   abbrev pub Cut : Option ℕ → ℕ → ℕ → Type 0
   Cut none a b = Unit {0}
-  Cut (some p) a b = Near k X Y p × Middle X Y p a b
+  Cut (some p) a b = Near k X Y p × Middle X Y X Y p a b
 
   pub split-shares : (a b c : ℕ) (o₁ o₂ o₃ : Option ℕ) → Near k X Y a → Near k X Y b → Near k X Y c → Cut o₁ a b → Cut o₂ b c → Cut o₃ c a
       → Shared X Y (signed X Y (tri a b c)) (split a b c o₁ o₂ o₃) (shares o₁ o₂ o₃)

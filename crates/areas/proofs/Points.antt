@@ -1,111 +1,117 @@
--- The points of a refined floor are what `keeps-area` asks for, so that its areas are kept. Assumes nothing.
-use mathlib.Core.Path.{_≡_, refl, sym, ap, _∙_, subst}
-use mathlib.Core.Logic.{_⊎_, inl, inr, ⊎-elim}
-use Prim.Native.Nat.{ℕ, zero, suc, _+_, _*_, _≤_, _<_}
+-- The points and sizes of a refined floor lie where `Placed` says, so that its areas are kept. Assumes nothing.
+use mathlib.Core.Path.{_≡_, refl, sym, ap, _∙_}
+use Prim.Native.Nat.{ℕ, zero, _+_, _*_, _<_}
 use native.Mathlib.Omega.{arith}
-use mathlib.Core.Bool.{Bool, true, false, cond, _&&_}
-use mathlib.Core.List.{List, [], _∷_, _++_}
-use mathlib.Core.Option.{Option, none, some}
-use borrow.Author.Tests.{eqb-true}
-use lib.Dec.{T, eqb, ltb}
-use lib.ListN.{length, getD, List·getD-append}
+use mathlib.Core.Bool.{Bool, true, false, cond}
+use mathlib.Core.List.{List, [], _∷_, _++_, map}
+use mathlib.Core.Option.{none, some}
+use lib.Dec.{ltb}
+use lib.ListN.{length, getD, length-append, length-map, List·getD-append}
 use lib.Seq.{getD-append-add}
 use lib.Ieee.{Float, nan}
 use Rattle.float.specs.Double.{lit}
-use Rattle.mesh.specs.Mesh.{Tri, tri, Side, side, key, same, next, place, above, mid, Good, All}
-use Rattle.areas.specs.Area.{evenWhole, halfway, EvenFloor, KeepsArea}
-use Rattle.areas.specs.Points.{EvenPoints, xOf, yOf, midX, midY, midpoints, morePoints}
+use Rattle.mesh.specs.Mesh.{Tri, Side, side, key, place, mid, Good, All}
+use Rattle.mesh.proofs.Cuts.{side-discrete, never, next-some, above-some, place-here, place-past}
+use Rattle.areas.specs.Area.{halfway}
+use Rattle.areas.specs.Points.{xOf, yOf, zOf, sizeOf, midX, midY, midpoint, midpoints, morePoints, midSize, midSizes, moreSizes}
+use Rattle.areas.specs.Claim.{Placed, EvenPoints, KeepsArea}
 use Rattle.areas.proofs.Whole.{halfway-either}
 use Rattle.areas.proofs.Floor.{keeps-area}
 
--- ---- the midpoint at place k
-and-left : (a b : Bool) → a && b ≡ true → a ≡ true
-and-left true b h = refl
-and-left false b h = h
+-- ---- what stands at the place of a side
 
-and-right : (a b : Bool) → a && b ≡ true → b ≡ true
-and-right true b h = h
-and-right false b h = absurd (subst T (sym h) tt)
+-- in a list that has w numbers for each side
+module _ (w : ℕ) (g : Side → List Float) (wide : (s : Side) → length (g s) ≡ w) (each : List Side → List Float) (none-each : each [] ≡ []) (one-more : (s : Side) (l : List Side) → each (s ∷ l) ≡ g s ++ each l) where
+  each-at : (s : Side) (l : List Side) (k j : ℕ) → j < w → place s l ≡ some k → getD (each l) (w * k + j) nan ≡ getD (g s) j nan
+  unfolding place
+  each-at s [] k j b h = never none k refl h
+  each-at s (t ∷ l) k j b h = rw (one-more t l) (go (side-discrete s t) (λ i. each-at s l i j b))
+    where
+      go : Dec (s ≡ t) → ((i : ℕ) → place s l ≡ some i → getD (each l) (w * i + j) nan ≡ getD (g s) j nan) → getD (g t ++ each l) (w * k + j) nan ≡ getD (g s) j nan
+      go (yes e) ih =
+          let z : zero ≡ k = cc (place-here s t l e) in
+          let i : w * k + j ≡ j = ap (λ (x : ℕ). w * x + j) (sym z) ∙ omega arith in
+          rw (i, e) (List·getD-append (g t) (each l) nan j (omega (arith, wide t)))
+      go (no e) ih =
+          let d = next-some (place s l) k (sym (place-past s t l e) ∙ h) in
+          let i : w * k + j ≡ length (g t) + (w * d .0 + j) = ap (λ (x : ℕ). w * x + j) (d .2) ∙ omega (arith, wide t) in
+          rw i (getD-append-add (g t) (each l) (w * d .0 + j) nan ∙ ih (d .0) (d .1))
 
-same-is : (s t : Side) → same s t ≡ true → s ≡ t
-same-is (side a b) (side c d) h = rw (eqb-true a c (and-left (eqb a c) (eqb b d) h), eqb-true b d (and-right (eqb a c) (eqb b d) h))
+mids-at : (pts : List Float) (s : Side) (l : List Side) (k j : ℕ) → j < 3 → place s l ≡ some k → getD (midpoints pts l) (3 * k + j) nan ≡ getD (midpoint pts s) j nan
+unfolding midpoints
+mids-at pts = each-at 3 (midpoint pts) (λ s. refl) (midpoints pts) refl (λ s l. refl)
 
-no-some : {A : Type 0} (k : ℕ) → none ≡ some k → A
-no-some k h = let z : _≡_ {A = ℕ} 0 1 = cc in absurd (omega arith)
+sizes-at : (sizes : List Float) (s : Side) (l : List Side) (k : ℕ) → place s l ≡ some k → getD (midSizes sizes l) k nan ≡ midSize sizes s
+unfolding midSizes
+sizes-at sizes s l k h = let e : k ≡ 1 * k + 0 = omega arith in ap (λ (i : ℕ). getD (map (midSize sizes) l) i nan) e ∙ each-at 1 (λ s. midSize sizes s ∷ []) (λ s. refl) (map (midSize sizes)) refl (λ s l. refl) s l k 0 (omega arith) h
 
-next-of : (o : Option ℕ) (k : ℕ) → next o ≡ some k → (j : ℕ) × (o ≡ some j) × (k ≡ suc j)
-next-of none k h = no-some k h
-next-of (some j) k h = (j, refl, cc)
-
-mids-at : (pts : List Float) (s : Side) (l : List Side) (k : ℕ) → place s l ≡ some k → (getD (midpoints pts l) (3 * k) nan ≡ midX pts s) × (getD (midpoints pts l) (3 * k + 1) nan ≡ midY pts s)
-unfolding place midpoints
-mids-at pts s [] k h = no-some k h
-mids-at pts s (t ∷ l) k h = go (same s t) refl h (λ j. mids-at pts s l j)
-  where
-    go : (b : Bool) → same s t ≡ b → cond b (some zero) (next (place s l)) ≡ some k
-        → ((j : ℕ) → place s l ≡ some j → (getD (midpoints pts l) (3 * j) nan ≡ midX pts s) × (getD (midpoints pts l) (3 * j + 1) nan ≡ midY pts s))
-        → (getD (midX pts t ∷ midY pts t ∷ lit 0 ∷ midpoints pts l) (3 * k) nan ≡ midX pts s) × (getD (midX pts t ∷ midY pts t ∷ lit 0 ∷ midpoints pts l) (3 * k + 1) nan ≡ midY pts s)
-    go true e h ih = let z : k ≡ 0 = cc in rw (z, same-is s t e) (refl, refl)
-    go false e h ih =
-        let n = next-of (place s l) k h in
-        let a : 3 * k ≡ suc (suc (suc (3 * n .0))) = omega (arith, n .2) in
-        let b : 3 * k + 1 ≡ suc (suc (suc (3 * n .0 + 1))) = omega (arith, n .2) in
-        (ap (λ (i : ℕ). getD (midX pts t ∷ midY pts t ∷ lit 0 ∷ midpoints pts l) i nan) a ∙ ih (n .0) (n .1) .0, ap (λ (i : ℕ). getD (midX pts t ∷ midY pts t ∷ lit 0 ∷ midpoints pts l) i nan) b ∙ ih (n .0) (n .1) .1)
-
-above-of : (n : ℕ) (o : Option ℕ) (p : ℕ) → above n o ≡ some p → (k : ℕ) × (o ≡ some k) × (p ≡ n + k)
-above-of n none p h = no-some p h
-above-of n (some k) p h = (k, refl, cc)
-
--- the midpoint's coordinates do not depend on the side's direction
-key-x : (pts : List Float) (u v : ℕ) → midX pts (key u v) ≡ halfway (xOf pts u) (xOf pts v)
+-- half the sum does not depend on the side's direction
+key-half : (z : ℕ → Float) (h : Side → Float) → ((u v : ℕ) → h (side u v) ≡ halfway (z u) (z v)) → (u v : ℕ) → h (key u v) ≡ halfway (z u) (z v)
 unfolding key
-key-x pts u v = go (ltb u v)
+key-half z h is u v = go (ltb u v)
   where
-    go : (b : Bool) → midX pts (cond b (side u v) (side v u)) ≡ halfway (xOf pts u) (xOf pts v)
-    go true = refl
-    go false = halfway-either (xOf pts v) (xOf pts u)
+    go : (b : Bool) → h (cond b (side u v) (side v u)) ≡ halfway (z u) (z v)
+    go true = is u v
+    go false = is v u ∙ halfway-either (z v) (z u)
 
-key-y : (pts : List Float) (u v : ℕ) → midY pts (key u v) ≡ halfway (yOf pts u) (yOf pts v)
-unfolding key
-key-y pts u v = go (ltb u v)
-  where
-    go : (b : Bool) → midY pts (cond b (side u v) (side v u)) ≡ halfway (yOf pts u) (yOf pts v)
-    go true = refl
-    go false = halfway-either (yOf pts v) (yOf pts u)
+-- ---- the refined floor
 
-module _ (n : ℕ) (pts : List Float) (l : List Side) (sized : length pts ≡ 3 * n) where
-  old-x : (v : ℕ) → v < n → xOf (morePoints pts l) v ≡ xOf pts v
+module _ (n : ℕ) (pts sizes : List Float) (l : List Side) (whole : length pts ≡ 3 * n) (sized : length sizes ≡ n) where
+  old-number : (i : ℕ) → i < length pts → getD (morePoints pts l) i nan ≡ getD pts i nan
   unfolding morePoints
-  old-x v h = List·getD-append pts (midpoints pts l) nan (3 * v) (omega arith)
+  old-number i h = List·getD-append pts (midpoints pts l) nan i h
 
-  old-y : (v : ℕ) → v < n → yOf (morePoints pts l) v ≡ yOf pts v
-  unfolding morePoints
-  old-y v h = List·getD-append pts (midpoints pts l) nan (3 * v + 1) (omega arith)
-
-  new-x : (u v p : ℕ) → mid n l u v ≡ some p → xOf (morePoints pts l) p ≡ halfway (xOf pts u) (xOf pts v)
+  new-number : (u v p j : ℕ) → j < 3 → mid n l u v ≡ some p → getD (morePoints pts l) (3 * p + j) nan ≡ getD (midpoint pts (key u v)) j nan
   unfolding morePoints mid
-  new-x u v p e =
-      let k = above-of n (place (key u v) l) p e in
-      let i : 3 * p ≡ length pts + 3 * k .0 = omega (arith, k .2) in
-      ap (λ (j : ℕ). getD (pts ++ midpoints pts l) j nan) i ∙ getD-append-add pts (midpoints pts l) (3 * k .0) nan ∙ mids-at pts (key u v) l (k .0) (k .1) .0 ∙ key-x pts u v
+  new-number u v p j b e =
+      let k = above-some n (place (key u v) l) p e in
+      let i : 3 * p + j ≡ length pts + (3 * k .0 + j) = omega (arith, k .2) in
+      rw i (getD-append-add pts (midpoints pts l) (3 * k .0 + j) nan ∙ mids-at pts (key u v) l (k .0) j b (k .1))
 
-  new-y : (u v p : ℕ) → mid n l u v ≡ some p → yOf (morePoints pts l) p ≡ halfway (yOf pts u) (yOf pts v)
-  unfolding morePoints mid
-  new-y u v p e =
-      let k = above-of n (place (key u v) l) p e in
-      let i : 3 * p + 1 ≡ length pts + (3 * k .0 + 1) = omega (arith, k .2) in
-      ap (λ (j : ℕ). getD (pts ++ midpoints pts l) j nan) i ∙ getD-append-add pts (midpoints pts l) (3 * k .0 + 1) nan ∙ mids-at pts (key u v) l (k .0) (k .1) .1 ∙ key-y pts u v
+  new-size : (u v p : ℕ) → mid n l u v ≡ some p → sizeOf (moreSizes sizes l) p ≡ midSize sizes (key u v)
+  unfolding moreSizes mid
+  new-size u v p e =
+      let k = above-some n (place (key u v) l) p e in
+      let i : p ≡ length sizes + k .0 = omega (arith, k .2) in
+      rw i (getD-append-add sizes (midSizes sizes l) (k .0) nan ∙ sizes-at sizes (key u v) l (k .0) (k .1))
 
-  -- the refined floor is what `keeps-area` asks for
-  pub even-floor : ((v : ℕ) → v < n → T (evenWhole (xOf pts v))) → ((v : ℕ) → v < n → T (evenWhole (yOf pts v))) → EvenFloor n (xOf (morePoints pts l)) (yOf (morePoints pts l)) (mid n l)
-  even-floor hx hy = record {
-    even-x = λ v h. subst (λ (z : Float). T (evenWhole z)) (sym (old-x v h)) (hx v h);
-    even-y = λ v h. subst (λ (z : Float). T (evenWhole z)) (sym (old-y v h)) (hy v h);
-    mid-x = λ u v p hu hv e. new-x u v p e ∙ sym (ap (λ (z : Float). halfway z (xOf (morePoints pts l) v)) (old-x u hu) ∙ ap (λ (z : Float). halfway (xOf pts u) z) (old-x v hv));
-    mid-y = λ u v p hu hv e. new-y u v p e ∙ sym (ap (λ (z : Float). halfway z (yOf (morePoints pts l) v)) (old-y u hu) ∙ ap (λ (z : Float). halfway (yOf pts u) z) (old-y v hv));
+  old-size-of : (v : ℕ) → v < n → sizeOf (moreSizes sizes l) v ≡ sizeOf sizes v
+  unfolding moreSizes
+  old-size-of v h = List·getD-append sizes (midSizes sizes l) nan v (omega arith)
+
+  no-height : (u v p : ℕ) → mid n l u v ≡ some p → zOf (morePoints pts l) p ≡ lit 0
+  no-height u v p e = new-number u v p 2 (omega arith) e
+
+  half-size : (u v : ℕ) → midSize sizes (key u v) ≡ halfway (sizeOf sizes u) (sizeOf sizes v)
+  half-size = key-half (sizeOf sizes) (midSize sizes) (λ u v. refl)
+
+  pub placed : Placed n (mid n l) pts sizes (morePoints pts l) (moreSizes sizes l)
+  placed = record {
+    old-x = λ v h. old-number (3 * v) (omega arith);
+    old-y = λ v h. old-number (3 * v + 1) (omega arith);
+    old-z = λ v h. old-number (3 * v + 2) (omega arith);
+    old-size = old-size-of;
+    mid-x = λ u v p e. let z : 3 * p ≡ 3 * p + 0 = omega arith in ap (λ (i : ℕ). getD (morePoints pts l) i nan) z ∙ new-number u v p 0 (omega arith) e ∙ key-half (xOf pts) (midX pts) (λ u v. refl) u v;
+    mid-y = λ u v p e. new-number u v p 1 (omega arith) e ∙ key-half (yOf pts) (midY pts) (λ u v. refl) u v;
+    mid-z = no-height;
+    mid-size = λ u v p e. new-size u v p e ∙ half-size u v;
   }
 
--- with even whole coordinates, refinement by the cut sides l keeps each triangle's area
-pub floor-keeps-area : (n : ℕ) (pts : List Float) (l : List Side) (ts : List Tri) → length pts ≡ 3 * n → All (Good n) ts → EvenPoints n pts
-    → KeepsArea n (xOf (morePoints pts l)) (yOf (morePoints pts l)) (mid n l) ts
-floor-keeps-area n pts l ts sized good even = keeps-area n (xOf (morePoints pts l)) (yOf (morePoints pts l)) (mid n l) (even-floor n pts l sized (even .even-x) (even .even-y)) ts good
+  -- with even whole coordinates, refinement by the cut sides l keeps each triangle's area
+  pub floor-keeps-area : (ts : List Tri) → All (Good n) ts → EvenPoints n pts → KeepsArea n pts (morePoints pts l) (mid n l) ts
+  floor-keeps-area ts good even = keeps-area n (mid n l) pts sizes (morePoints pts l) (moreSizes sizes l) placed even ts good
+
+-- ---- how many points and sizes
+
+pub mids-length : (pts : List Float) (s : List Side) → length (midpoints pts s) ≡ 3 * length s
+unfolding midpoints
+mids-length pts [] = refl
+mids-length pts (x ∷ s) = omega (arith, mids-length pts s)
+
+pub points-length : (pts : List Float) (l : List Side) → length (morePoints pts l) ≡ length pts + 3 * length l
+unfolding morePoints
+points-length pts l = length-append pts (midpoints pts l) ∙ omega (arith, mids-length pts l)
+
+pub sizes-length : (sizes : List Float) (l : List Side) → length (moreSizes sizes l) ≡ length sizes + length l
+unfolding moreSizes midSizes
+sizes-length sizes l = length-append sizes (midSizes sizes l) ∙ omega (arith, length-map l (midSize sizes))

@@ -1,13 +1,13 @@
 -- Floats that are whole numbers: sums and halves of even ones are exact. Assumes nothing.
 use mathlib.Core.Path.{_≡_, refl, sym, ap, _∙_, subst}
 use Prim.Native.Nat.{ℕ, zero, suc, _+_, _-_, _*_, _/_, _%_, _^_, _≤_, _<_, min}
-use native.Mathlib.Nat.{mul-one, one-mul, mul-comm, mul-assoc, mul-left-comm, mul-right-comm, mul-pos, add-mul, add-comm, mul-div-cancel, mul-mod-left, div-add-mod', le-of-mul-le-mul-right, lt-of-mul-lt-mul-right, mul-le-mul-right, zero-lt-suc, mul-sub}
+use native.Mathlib.Nat.{mul-one, mul-comm, mul-assoc, mul-left-comm, mul-right-comm, mul-pos, add-mul, add-comm, mul-div-cancel, mul-mod-left, div-add-mod', le-of-mul-le-mul-right, lt-of-mul-lt-mul-right, mul-le-mul-right, zero-lt-suc, mul-sub}
 use native.Mathlib.Omega.{arith}
-use mathlib.Core.Bool.{Bool, true, false, not, cond, _&&_, _||_, Bool·beq}
-use borrow.Author.Tests.{ltb-true, ltb-false, le-leb, eq-eqb}
+use mathlib.Core.Bool.{Bool, true, false, cond, _&&_, _||_, Bool·beq}
+use borrow.Author.Tests.{ltb-true, ltb-false, eq-eqb}
 use lib.Dec.{T, ltb, leb, eqb, eqb→eq, leb→le, le→leb}
-use lib.IntN.{ℤ, pos, negsuc, negℤ, natAbs, subℕ, _+ℤ_}
-use lib.Ieee.{Float, nan, inf, fin, Format, binary64, prec, up, down, round, sum, add, mul, ofBits, ofInt, toSigned, unlike, eq}
+use lib.IntN.{ℤ, pos, negℤ, natAbs, subℕ, _+ℤ_}
+use lib.Ieee.{Float, nan, inf, fin, Format, binary64, prec, up, down, round, sum, add, mul, ofBits, ofInt, toSigned, eq}
 use lib.Ieee.Fits.{down-pos, and-i, and-l, and-r, eq→eqb}
 use lib.Ieee.Exact.{HasValue}
 use lib.Ieee.Back.{round-whole}

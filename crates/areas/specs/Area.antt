@@ -1,13 +1,13 @@
 -- Twice the area of a triangle on whole coordinates, exactly. Definitions only.
-use Prim.Native.Nat.{ℕ, _+_, _*_, _%_, _≤_, _<_}
+use Prim.Native.Nat.{ℕ, _*_, _%_}
 use mathlib.Core.Path.{_≡_}
-use mathlib.Core.Bool.{Bool, true, false, _&&_}
+use mathlib.Core.Bool.{Bool, false, _&&_}
 use mathlib.Core.List.{List, [], _∷_}
 use mathlib.Core.Option.{Option, none, some}
-use lib.Dec.{T, eqb, leb}
+use lib.Dec.{eqb, leb}
 use lib.IntN.{ℤ, pos, negsuc, natAbs, _+ℤ_, _-ℤ_, _*ℤ_}
-use lib.Ieee.{Float, nan, inf, fin, binary64, up, down, add, mul, eq, ofInt, ofBits, toSigned}
-use Rattle.mesh.specs.Mesh.{Tri, tri, total, pieces, refined, Good, All}
+use lib.Ieee.{Float, nan, inf, fin, binary64, up, down, add, mul, ofBits, toSigned}
+use Rattle.mesh.specs.Mesh.{Tri, tri, pieces}
 
 -- an even whole number of size at most 1,048,576: m * 2 ^ e, with no remainder by 2. A zero of either sign is one
 unfoldable pub evenWhole : Float → Bool
@@ -40,9 +40,9 @@ signed X Y (tri a b c) = cross (X a) (Y a) (X b) (Y b) (X c) (Y c)
 unfoldable pub twice : (ℕ → ℤ) → (ℕ → ℤ) → Tri → ℕ
 twice X Y t = natAbs (signed X Y t)
 
--- p is the middle of a and b
-abbrev pub Middle : (ℕ → ℤ) → (ℕ → ℤ) → ℕ → ℕ → ℕ → Type 0
-Middle X Y p a b = (X p +ℤ X p ≡ X a +ℤ X b) × (Y p +ℤ Y p ≡ Y a +ℤ Y b)
+-- the point p, of the coordinates X′ and Y′, is the middle of a and b, of the coordinates X and Y
+abbrev pub Middle : (ℕ → ℤ) → (ℕ → ℤ) → (ℕ → ℤ) → (ℕ → ℤ) → ℕ → ℕ → ℕ → Type 0
+Middle X Y X′ Y′ p a b = (X′ p +ℤ X′ p ≡ X a +ℤ X b) × (Y′ p +ℤ Y′ p ≡ Y a +ℤ Y b)
 
 -- the signed areas of a triangle's pieces, in quarters of its own, for each of the eight patterns. Two of them turn the winding round
 abbrev pub shares : Option ℕ → Option ℕ → Option ℕ → List ℤ
@@ -62,20 +62,6 @@ Shared X Y s [] (k ∷ ks) = ⊥
 Shared X Y s (t ∷ ts) [] = ⊥
 Shared X Y s (t ∷ ts) (k ∷ ks) = (pos 4 *ℤ signed X Y t ≡ k *ℤ s) × Shared X Y s ts ks
 
-abbrev pub SharedOf : (ℕ → ℤ) → (ℕ → ℤ) → (ℕ → ℕ → Option ℕ) → Tri → Type 0
-SharedOf X Y m (tri a b c) = Shared X Y (signed X Y (tri a b c)) (pieces m (tri a b c)) (shares (m a b) (m b c) (m c a))
-
--- ---- the claim, of a refined floor: its points' coordinates x and y, the old ones being those below n, its midpoints m, and the old triangles ts
--- what is given: the old coordinates are even whole numbers, and a midpoint's are what refine_once makes of its ends'
-pub record EvenFloor (n : ℕ) (x y : ℕ → Float) (m : ℕ → ℕ → Option ℕ) : Type 0 where
-  pub even-x : (v : ℕ) → v < n → T (evenWhole (x v))
-  pub even-y : (v : ℕ) → v < n → T (evenWhole (y v))
-  pub mid-x : (u v p : ℕ) → u < n → v < n → m u v ≡ some p → x p ≡ halfway (x u) (x v)
-  pub mid-y : (u v p : ℕ) → u < n → v < n → m u v ≡ some p → y p ≡ halfway (y u) (y v)
-
--- what holds: a midpoint's coordinates are whole numbers, exactly halfway; the areas of each triangle's pieces add to its own; each piece has its share of the signed area; and the floor keeps its area
-pub record KeepsArea (n : ℕ) (x y : ℕ → Float) (m : ℕ → ℕ → Option ℕ) (ts : List Tri) : Type 0 where
-  pub exact : (u v p : ℕ) → u < n → v < n → m u v ≡ some p → T (isWhole (x p)) × T (isWhole (y p)) × Middle (λ i. coord (x i)) (λ i. coord (y i)) p u v
-  pub each : All (λ t. total (twice (λ i. coord (x i)) (λ i. coord (y i))) (pieces m t) ≡ twice (λ i. coord (x i)) (λ i. coord (y i)) t) ts
-  pub wound : All (SharedOf (λ i. coord (x i)) (λ i. coord (y i)) m) ts
-  pub all : total (twice (λ i. coord (x i)) (λ i. coord (y i))) (refined m ts) ≡ total (twice (λ i. coord (x i)) (λ i. coord (y i))) ts
+-- of a triangle on the coordinates X and Y, and its pieces on X′ and Y′
+abbrev pub SharedOf : (ℕ → ℤ) → (ℕ → ℤ) → (ℕ → ℤ) → (ℕ → ℤ) → (ℕ → ℕ → Option ℕ) → Tri → Type 0
+SharedOf X Y X′ Y′ m (tri a b c) = Shared X′ Y′ (signed X Y (tri a b c)) (pieces m (tri a b c)) (shares (m a b) (m b c) (m c a))

@@ -1,12 +1,11 @@
 -- The points and the sizes of a refined floor: the old ones, then each cut side's midpoint, in refine_once's operation order. Definitions only.
-use Prim.Native.Nat.{ℕ, _+_, _*_, _<_}
+use Prim.Native.Nat.{ℕ, _+_, _*_}
 use mathlib.Core.List.{List, [], _∷_, _++_, map}
 use lib.ListN.{getD}
-use lib.Dec.{T}
 use lib.Ieee.{Float, nan}
 use Rattle.float.specs.Double.{lit}
 use Rattle.mesh.specs.Mesh.{Side, side}
-use Rattle.areas.specs.Area.{halfway, evenWhole}
+use Rattle.areas.specs.Area.{halfway}
 
 -- a floor's points are its numbers x, y, z, in one list
 abbrev pub xOf : List Float → ℕ → Float
@@ -14,6 +13,13 @@ xOf pts v = getD pts (3 * v) nan
 
 abbrev pub yOf : List Float → ℕ → Float
 yOf pts v = getD pts (3 * v + 1) nan
+
+abbrev pub zOf : List Float → ℕ → Float
+zOf pts v = getD pts (3 * v + 2) nan
+
+-- a floor's sizes are one number for each point
+abbrev pub sizeOf : List Float → ℕ → Float
+sizeOf sizes v = getD sizes v nan
 
 -- a midpoint's x and y; its z is 0, whatever its ends' are
 abbrev pub midX : List Float → Side → Float
@@ -35,15 +41,10 @@ morePoints pts l = pts ++ midpoints pts l
 
 -- a midpoint's size: half the sum
 abbrev pub midSize : List Float → Side → Float
-midSize sizes (side u v) = halfway (getD sizes u nan) (getD sizes v nan)
+midSize sizes (side u v) = halfway (sizeOf sizes u) (sizeOf sizes v)
 
 unfoldable pub midSizes : List Float → List Side → List Float
 midSizes sizes l = map (midSize sizes) l
 
 unfoldable pub moreSizes : List Float → List Side → List Float
 moreSizes sizes l = sizes ++ midSizes sizes l
-
--- "even whole coordinates up to 1,048,576 in size", of n points
-pub record EvenPoints (n : ℕ) (pts : List Float) : Type 0 where
-  pub even-x : (v : ℕ) → v < n → T (evenWhole (xOf pts v))
-  pub even-y : (v : ℕ) → v < n → T (evenWhole (yOf pts v))

@@ -1,18 +1,85 @@
 -- The claim `Refines` of specs/Claim.antt, for every list of triangles with corners in range and pairwise different. Assumes nothing.
-use Prim.Native.Nat.{ℕ, zero, suc, _+_, _*_, _≤_, _<_}
+use Prim.Native.Nat.{ℕ, zero, suc, _+_, _≤_, _<_}
 use native.Mathlib.Omega.{arith}
-use mathlib.Core.Path.{_≡_, refl, sym, ap, ap₂, _∙_, subst}
-use mathlib.Core.Logic.{_≢_, _↔_, _⊎_, inl, inr, ⊎-elim}
-use mathlib.Core.Bool.{Bool, true, false, and-comm}
+use mathlib.Core.Path.{_≡_, refl, sym, ap, ap₂, _∙_}
+use mathlib.Core.Logic.{_≢_, _↔_, inl, inr}
+use mathlib.Core.Bool.{Bool, and-comm}
 use mathlib.Core.List.{List, [], _∷_, _++_, append-assoc}
 use mathlib.Core.Option.{Option, none, some}
-use lib.ListN.{length, getD}
-use Rattle.mesh.specs.Mesh.{Tri, tri, Side, side, key, next, place, mid, cuts, above, marked, Same, Mids, Good, All, Apart, at, lies, one, isNone, total, places, count, split, pieces, refined, refine}
-use Rattle.mesh.specs.Claim.{Refines, cutsOf}
+use lib.ListN.{length}
+use Rattle.mesh.specs.Mesh.{Tri, tri, Side, key, next, place, mid, cuts, above, marked, Good, All, at, lies, one, total, count, split, pieces, refined, refine}
+use Rattle.mesh.specs.Claim.{listed, InRange, Refines, cutsOf}
+use Rattle.mesh.proofs.Weigh.{F, F-zero, F-one, around}
 use Rattle.mesh.proofs.Local.{Distinct}
-use Rattle.mesh.proofs.Whole.{All-map, good-distinct, old-side, half-side}
+use Rattle.mesh.proofs.Whole.{All-map, good-distinct, good-in-range, count-around, total-zero, old-side, half-side}
 use Rattle.mesh.proofs.Inner.{inner-side}
-use Rattle.mesh.proofs.Cuts.{mids, uncut, cuts-numbered, place-here, place-past, side-discrete, next-some, above-some, never}
+pub use Rattle.mesh.proofs.Cuts.{place-below}
+use Rattle.mesh.proofs.Cuts.{key-same, same-key, side-discrete, place-here, place-past, next-none, above-some, above-none, never, mids, marked-all}
+use Rattle.mesh.proofs.Order.{cuts-met, cut-sides, good-ends}
+
+-- ---- which sides are cut
+
+cons-out : (s t : Side) (l : List Side) → (place s (t ∷ l) ≡ none) ↔ ((s ≢ t) × (place s l ≡ none))
+cons-out s t l = (λ e. (λ q. never (place s (t ∷ l)) zero e (place-here s t l q), go e (side-discrete s t)), λ e. place-past s t l (e .0) ∙ ap next (e .1))
+  where
+    go : place s (t ∷ l) ≡ none → Dec (s ≡ t) → place s l ≡ none
+    go e (yes q) = never (place s (t ∷ l)) zero e (place-here s t l q)
+    go e (no q) = next-none (place s l) (sym (place-past s t l q) ∙ e)
+
+-- a side that is none of a triangle's
+abbrev Lacks : Side → Tri → Type 0
+Lacks s (tri a b c) = (s ≢ key a b) × (s ≢ key b c) × (s ≢ key c a)
+
+listed-out : (s : Side) (ts : List Tri) → (place s (listed ts) ≡ none) ↔ All (Lacks s) ts
+unfolding listed
+listed-out s [] = (λ e. tt, λ e. unfold place in refl)
+listed-out s (tri a b c ∷ ts) =
+    let o₁ = cons-out s (key a b) (key b c ∷ key c a ∷ listed ts) in
+    let o₂ = cons-out s (key b c) (key c a ∷ listed ts) in
+    let o₃ = cons-out s (key c a) (listed ts) in
+    let ih = listed-out s ts in (
+      λ e.
+          let r₁ = o₁ .0 e in
+          let r₂ = o₂ .0 (r₁ .1) in
+          let r₃ = o₃ .0 (r₂ .1) in
+          ((r₁ .0, r₂ .0, r₃ .0), ih .0 (r₃ .1)),
+      λ e. o₁ .1 (e .0 .0, o₂ .1 (e .0 .1, o₃ .1 (e .0 .2, ih .1 (e .1)))),
+    )
+
+lacks-zero : (u v : ℕ) (t : Tri) → Lacks (key u v) t → around (F u v) t ≡ 0
+lacks-zero u v (tri a b c) h = omega (arith, one-side a b (h .0), one-side b c (h .1), one-side c a (h .2))
+  where
+    one-side : (a b : ℕ) → key u v ≢ key a b → F u v a b ≡ 0
+    one-side a b d = F-zero u v a b (λ s t. d (same-key u v a b (inl (s, t)))) (λ s t. d (same-key u v a b (inr (s, t))))
+
+zero-lacks : (u v : ℕ) → u ≢ v → (t : Tri) → around (F u v) t ≡ 0 → Lacks (key u v) t
+zero-lacks u v ne (tri a b c) h = (λ q. omega (arith, one-side a b q), λ q. omega (arith, one-side b c q), λ q. omega (arith, one-side c a q))
+  where
+    one-side : (a b : ℕ) → key u v ≡ key a b → F u v a b ≡ 1
+    one-side a b q = F-one u v a b ne (key-same u v a b q)
+
+zero-total : (f : Tri → ℕ) (ts : List Tri) → All (λ t. f t ≡ 0) ts → total f ts ≡ 0
+zero-total f [] h = refl
+zero-total f (t ∷ ts) h = omega (arith, h .0, zero-total f ts (h .1))
+
+-- (a) a side is not cut exactly where it lies in no flagged triangle
+uncut : (n u v : ℕ) (f : Tri → Bool) (ts : List Tri) → u ≢ v → All Distinct ts → (mid n (cuts f ts) u v ≡ none) ↔ (count u v (marked f ts) ≡ 0)
+unfolding mid
+uncut n u v f ts ne h =
+    let c = count-around u v ne (marked f ts) (marked-all Distinct f ts h) in
+    let o = listed-out (key u v) (marked f ts) in
+    let same = cuts-met f ts .same (key u v) in (
+      λ e.
+          c ∙ zero-total (around (F u v)) (marked f ts) (
+          All-map (Lacks (key u v)) (λ t. around (F u v) t ≡ 0) (lacks-zero u v) (marked f ts) (o .0 (same .0 (above-none n _ e)))
+          ),
+      λ e.
+          ap (above n) (same .1 (o .1 (
+          All-map (λ t. around (F u v) t ≡ 0) (Lacks (key u v)) (zero-lacks u v ne) (marked f ts) (total-zero (around (F u v)) (marked f ts) (sym c ∙ e))
+          ))),
+    )
+
+-- ---- the claim
 
 count-swap : (x y : ℕ) (ts : List Tri) → count x y ts ≡ count y x ts
 unfolding lies
@@ -36,15 +103,6 @@ pub refined-append : (m : ℕ → ℕ → Option ℕ) (s r : List Tri) → refin
 refined-append m [] r = refl
 refined-append m (t ∷ s) r = ap (λ (l : List Tri). pieces m t ++ l) (refined-append m s r) ∙ sym (append-assoc (pieces m t) (refined m s) (refined m r))
 
-pub place-below : (s : Side) (l : List Side) (k : ℕ) → place s l ≡ some k → k < length l
-unfolding place
-place-below s [] k h = never none k refl h
-place-below s (x ∷ l) k h = go (λ j. place-below s l j) (side-discrete s x)
-  where
-    go : ((j : ℕ) → place s l ≡ some j → j < length l) → Dec (s ≡ x) → k < suc (length l)
-    go ih (yes p) = let z : zero ≡ k = cc (place-here s x l p) in omega arith
-    go ih (no p) = let d = next-some (place s l) k (sym (place-past s x l p) ∙ h) in omega (arith, d .2, ih (d .0) (d .1))
-
 module _ (n : ℕ) (f : Tri → Bool) (ts : List Tri) (good : All (Good n) ts) where
   cut-iff : (u v : ℕ) → u ≢ v → ((k : ℕ) × (mid n (cuts f ts) u v ≡ some k)) ↔ (count u v (marked f ts) ≢ 0)
   cut-iff u v ne = (λ k z. never (mid n (cuts f ts) u v) (k .0) (iff .1 z) (k .1), λ h. go (mid n (cuts f ts) u v) refl h)
@@ -60,20 +118,21 @@ module _ (n : ℕ) (f : Tri → Bool) (ts : List Tri) (good : All (Good n) ts) w
   unfolding mid
   midpoint-range u v k h = let d = above-some n (place (key u v) (cuts f ts)) k h in omega (arith, d .2, place-below (key u v) (cuts f ts) (d .0) (d .1))
 
-  number-of : (u v k : ℕ) → k < length (cuts f ts) → getD (cuts f ts) k (side 0 0) ≡ key u v → mid n (cuts f ts) u v ≡ some (n + k)
+  number-of : (u v k : ℕ) → (mid n (cuts f ts) u v ≡ some (n + k)) ↔ (place (key u v) (cuts f ts) ≡ some k)
   unfolding mid
-  number-of u v k h e = rw (← e) (ap (above n) (cuts-numbered f ts k h))
+  number-of u v k = (λ h. let d = above-some n (place (key u v) (cuts f ts)) (n + k) h in d .1 ∙ ap some (omega (arith, d .2)), λ h. ap (above n) h)
 
-  pub refines : Refines n f ts (refine n f ts) (mid n (cuts f ts))
+  pub refines : Refines n f ts (refine n f ts) (cuts f ts) (mid n (cuts f ts))
   unfolding refine
   refines =
       let m = mid n (cuts f ts) in
       let M = mids n (cuts f ts) in
       record {
         cut = cut-iff;
-        midpoint = midpoint-range;
-        once = cuts-numbered f ts;
+        cut-sides = cut-sides n f ts (All-map (Good n) (InRange n) (good-in-range n) ts good);
+        two-ends = good-ends n f ts good;
         numbers = number-of;
+        midpoint = midpoint-range;
         only = M .only;
         flip = M .flip;
         uncut = λ x y hx hy ne e. old-side n m M x y hx hy ne ts good ∙ rw e (omega arith);

@@ -1,11 +1,12 @@
 -- The whole list: in how many places each side lies after the refinement. Assumes nothing.
-use Prim.Native.Nat.{ℕ, zero, suc, _+_, _*_, _≤_, _<_}
+use Prim.Native.Nat.{ℕ, _+_, _*_, _≤_, _<_}
 use native.Mathlib.Omega.{arith}
-use mathlib.Core.Path.{_≡_, refl, sym, ap, ap₂, _∙_, subst}
-use mathlib.Core.Logic.{_≢_, _⊎_, inl, inr, ⊎-elim}
+use mathlib.Core.Path.{_≡_, refl, sym, ap, ap₂, _∙_}
+use mathlib.Core.Logic.{_≢_}
 use mathlib.Core.List.{List, [], _∷_, _++_}
-use mathlib.Core.Option.{Option, none, some}
-use Rattle.mesh.specs.Mesh.{Tri, tri, Same, Mids, Good, All, one, isNone, total, places, count, pieces, refined}
+use mathlib.Core.Option.{Option, some}
+use Rattle.mesh.specs.Mesh.{Tri, tri, Mids, Good, All, one, isNone, total, count, pieces, refined}
+use Rattle.mesh.specs.Claim.{InRange}
 use Rattle.mesh.proofs.Weigh.{F, around, places-around}
 use Rattle.mesh.proofs.Local.{Distinct, split-distinct, old-pieces, half-pieces}
 
@@ -21,12 +22,15 @@ pub All-append : {A : Type 0} (P : A → Type 0) (s t : List A) → All P s → 
 All-append P [] t h k = k
 All-append P (x ∷ s) t h k = (h .0, All-append P s t (h .1) k)
 
-pub All-map : (P Q : Tri → Type 0) → ((t : Tri) → P t → Q t) → (ts : List Tri) → All P ts → All Q ts
+pub All-map : {A : Type 0} (P Q : A → Type 0) → ((t : A) → P t → Q t) → (ts : List A) → All P ts → All Q ts
 All-map P Q f [] h = tt
 All-map P Q f (t ∷ ts) h = (f t (h .0), All-map P Q f ts (h .1))
 
 pub good-distinct : (n : ℕ) (t : Tri) → Good n t → Distinct t
 good-distinct n (tri a b c) g = (g .3, g .4, g .5)
+
+pub good-in-range : (n : ℕ) (t : Tri) → Good n t → InRange n t
+good-in-range n (tri a b c) g = (g .0, g .1, g .2)
 
 pub All-both : (P Q : Tri → Type 0) (ts : List Tri) → All P ts → All Q ts → All (λ t. P t × Q t) ts
 All-both P Q [] h k = tt
@@ -43,7 +47,7 @@ count-around x y ne (tri a b c ∷ ts) h =
     ap₂ _+_ (places-around x y a b c ne (h .0 .0) (h .0 .1) (h .0 .2)) (count-around x y ne ts (h .1))
 
 module _ (n : ℕ) (m : ℕ → ℕ → Option ℕ) (M : Mids n m) where
-  refined-distinct : (ts : List Tri) → All (Good n) ts → All Distinct (refined m ts)
+  pub refined-distinct : (ts : List Tri) → All (Good n) ts → All Distinct (refined m ts)
   refined-distinct [] h = tt
   refined-distinct (tri a b c ∷ ts) h =
       All-append Distinct (pieces m (tri a b c)) (refined m ts)

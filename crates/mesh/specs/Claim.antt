@@ -1,27 +1,68 @@
 -- What refinement does to the sides of a list of triangles, as one claim: the part of demand 3 that is about numbers of points alone.
--- Its words are those of document 01, "Demand 3 is a single claim about a whole solve". Definitions only.
+-- Its words are those of document 01, "Refinement between the passes". Definitions only.
 use Prim.Native.Nat.{ℕ, suc, _+_, _≤_, _<_}
 use mathlib.Core.Path.{_≡_}
 use mathlib.Core.Logic.{_≢_, _↔_}
 use mathlib.Core.Bool.{Bool, not}
-use mathlib.Core.List.{List, _∷_, _++_}
+use mathlib.Core.List.{List, [], _∷_, _++_}
 use mathlib.Core.Option.{Option, none, some}
-use lib.ListN.{length, getD}
-use Rattle.mesh.specs.Mesh.{Tri, tri, side, key, Same, Numbered, cuts, marked, count, Apart, pieces, refined, one, isNone}
+use lib.ListN.{length}
+use Rattle.mesh.specs.Mesh.{Tri, tri, Side, side, key, place, Same, Numbered, marked, count, Good, All, Apart, pieces, refined, one, isNone}
+
+-- ---- the list of cut sides
+
+-- the sides of a list of triangles as refine_once goes through them: triangle by triangle, and a b, b c, c a of each
+unfoldable pub listed : List Tri → List Side
+listed [] = []
+listed (tri a b c ∷ ts) = key a b ∷ key b c ∷ key c a ∷ listed ts
+
+-- l has the sides that the list `all` has, each once, in the order first met
+pub record FirstMet (all l : List Side) : Type 0 where
+  -- a side is in the one exactly if it is in the other
+  pub same : (s : Side) → (place s l ≡ none) ↔ (place s all ≡ none)
+  -- each once
+  pub once : Numbered l
+  -- of two sides, the one that stands first in l was met first
+  pub order : (s t : Side) (j k p q : ℕ) → place s l ≡ some j → place t l ≡ some k → place s all ≡ some p → place t all ≡ some q → j < k → p < q
+
+-- two of n points, the lower first
+abbrev pub LowerFirst : ℕ → Side → Type 0
+LowerFirst n (side a b) = (a ≤ b) × (b < n)
+
+-- two different points, the lower first
+abbrev pub TwoEnds : Side → Type 0
+TwoEnds (side a b) = a < b
+
+-- corners in range: corners may repeat, for the refinement call has no row 19
+abbrev pub InRange : ℕ → Tri → Type 0
+InRange n (tri a b c) = (a < n) × (b < n) × (c < n)
+
+-- the list l of the cut sides of triangles ts with corners in range, flagged by f
+pub record CutSides (n : ℕ) (f : Tri → Bool) (ts : List Tri) (l : List Side) : Type 0 where
+  -- "sides of flagged triangles are cut", no others, and each is listed once, "in order first met"
+  pub met : FirstMet (listed (marked f ts)) l
+  -- the lower end first
+  pub lower-first : All (LowerFirst n) l
+  -- the two ends are one point only where a flagged triangle has a corner twice
+  pub two-ends : All (Good n) (marked f ts) → All TwoEnds l
+
+-- ---- the claim
 
 -- how many sides of a triangle are cut: document 01's k
 abbrev pub cutsOf : (ℕ → ℕ → Option ℕ) → Tri → ℕ
 cutsOf m (tri a b c) = one (not (isNone (m a b))) + (one (not (isNone (m b c))) + one (not (isNone (m c a))))
 
--- the triangles `ts` of n points, flagged by f, become the triangles `new`, and m gives the midpoint of a side that is cut
-pub record Refines (n : ℕ) (f : Tri → Bool) (ts new : List Tri) (m : ℕ → ℕ → Option ℕ) : Type 0 where
+-- the triangles `ts` of n points, flagged by f, become the triangles `new`; l lists the cut sides, and m gives the midpoint of a side that is cut
+pub record Refines (n : ℕ) (f : Tri → Bool) (ts new : List Tri) (l : List Side) (m : ℕ → ℕ → Option ℕ) : Type 0 where
   -- a side is cut exactly when it lies in a flagged triangle
   pub cut : (u v : ℕ) → u ≢ v → ((k : ℕ) × (m u v ≡ some k)) ↔ (count u v (marked f ts) ≢ 0)
+  -- the cut sides are listed once, in the order first met, each of two different points with the lower first
+  pub cut-sides : CutSides n f ts l
+  pub two-ends : All TwoEnds l
+  -- "midpoints are numbered from n": the side at place k of the list, and no other, has the midpoint n + k
+  pub numbers : (u v k : ℕ) → (m u v ≡ some (n + k)) ↔ (place (key u v) l ≡ some k)
   -- a midpoint is one of the new points, which follow the n old ones
-  pub midpoint : (u v k : ℕ) → m u v ≡ some k → (n ≤ k) × (k < n + length (cuts f ts))
-  -- the list of cut sides has each once, and the one at place k, in the order first met, has the midpoint n + k
-  pub once : Numbered (cuts f ts)
-  pub numbers : (u v k : ℕ) → k < length (cuts f ts) → getD (cuts f ts) k (side 0 0) ≡ key u v → m u v ≡ some (n + k)
+  pub midpoint : (u v k : ℕ) → m u v ≡ some k → (n ≤ k) × (k < n + length l)
   -- "a midpoint m that no other side has", and the same one either way round
   pub only : (u v x y k : ℕ) → m u v ≡ some k → m x y ≡ some k → Same u v x y
   pub flip : (u v : ℕ) → m u v ≡ m v u

@@ -39,7 +39,9 @@ abbrev pub isNone : Option ℕ → Bool
 isNone none = true
 isNone (some k) = false
 
--- "in order first met": a side that is met goes to the end of the list, unless it is there
+-- "in order first met": a side that is met goes to the end of the list, unless it is there.
+-- So the list grows at its end alone, and a side keeps its place whatever is met later:
+-- a list kept sorted by the ends of its sides would not do
 unfoldable pub met : List Side → Side → List Side
 met l s = cond (isNone (place s l)) (l ++ (s ∷ [])) l
 

@@ -1,18 +1,16 @@
 -- What an accepted call knows of its slices, and what they hold when it is done. Assumes nothing.
-use Prim.Native.Nat.{ℕ, zero, suc, _+_, _*_, _/_, _%_, _≤_, _<_}
+use Prim.Native.Nat.{ℕ, _+_, _*_, _/_, _%_, _≤_}
 use native.Mathlib.Nat.{div-add-mod'}
 use native.Mathlib.Omega.{arith}
 use mathlib.Core.Path.{_≡_, refl, sym, ap, _∙_, subst}
 use mathlib.Core.Bool.{Bool, true, false, not, cond, _&&_, _||_}
-use mathlib.Core.List.{List, [], _∷_, _++_}
-use mathlib.Core.Option.{Option}
+use mathlib.Core.List.{List}
 use borrow.Author.Tests.{eqb-true, ltb-false, leb-true}
-use lib.Dec.{T, eqb, ltb, leb}
-use lib.ListN.{length, length-append, length-map, replicate, length-replicate, getD-replicate}
-use lib.Seq.{sets}
+use lib.Dec.{eqb, ltb, leb}
+use lib.ListN.{length, replicate, length-replicate, getD-replicate}
 use lib.Ieee.{Float}
-use Rattle.mesh.specs.Mesh.{Tri, Side, mid, cuts, marked, refine, refined, pieces}
-use Rattle.areas.specs.Points.{midpoints, midSize, midSizes, morePoints, moreSizes}
+use Rattle.mesh.specs.Mesh.{Tri, mid, cuts, refine, refined}
+use Rattle.areas.specs.Points.{morePoints, moreSizes}
 use Rattle.edges.specs.Table.{Held, sidesIn, loOf, hiOf, last, pairs}
 use Rattle.edges.proofs.Chain.{length-pairs}
 use Rattle.floor.specs.declared.Refusal.{Refusal}
@@ -20,15 +18,18 @@ use Rattle.floor.specs.declared.Check.{Check}
 use Rattle.floor.specs.declared.Check.the-variants.{Sound, Refused}
 use Rattle.floor.specs.Checks.{row, wellFormed, checkFloor}
 use Rattle.refinement.specs.Flag.{flaggedTri}
-use Rattle.refinement.specs.Floor.{tris, trisOf, cornersOf, endsOf, over, Refined, refinementOf}
+use Rattle.refinement.specs.Floor.{tris, trisOf, cornersOf, endsOf, Refined, refinementOf}
 use Rattle.refinement.specs.Steps.{CutTo}
 use Rattle.refinement.proofs.Runs.{front}
-use Rattle.refinement.proofs.Parts.{tris-length, refined-most}
-use Rattle.refine_floor.proofs.Parts.{corners-length, ends-length, mids-length}
+use Rattle.refinement.proofs.Triangles.{tris-length, corners-length}
+use Rattle.refinement.proofs.Parts.{refined-most}
+use Rattle.areas.proofs.Points.{points-length, sizes-length}
+use Rattle.refine_floor.specs.Stored.{Stored}
+use Rattle.refine_floor.proofs.Parts.{ends-length}
 use Rattle.refine_call.specs.declared.Counts.{Counts}
 use Rattle.refine_call.specs.declared.Answer.{Answer}
 use Rattle.refine_call.specs.declared.Answer.the-variants.{Refinement}
-use Rattle.refine_call.specs.Call.{passedUp, Called, badThreshold, short, andThen, checkRest, checkCall, countsOf, Filled, Roomy}
+use Rattle.refine_call.specs.Call.{passedUp, Called, FilledFor, badThreshold, short, andThen, checkRest, checkCall, Filled, Roomy}
 
 -- ---- tests
 
@@ -132,14 +133,6 @@ roomy points triangles sizes angles threshold op os ot oe e =
 
 -- ---- lengths
 
-points-length : (pts : List Float) (l : List Side) → length (morePoints pts l) ≡ length pts + 3 * length l
-unfolding morePoints
-points-length pts l = length-append pts (midpoints pts l) ∙ omega (arith, mids-length pts l)
-
-all-sizes : (zs : List Float) (l : List Side) → length (moreSizes zs l) ≡ length zs + length l
-unfolding moreSizes midSizes
-all-sizes zs l = length-append zs (midSizes zs l) ∙ omega (arith, length-map l (midSize zs))
-
 counts-same : {p p′ k k′ c c′ m m′ : ℕ} → p ≡ p′ → k ≡ k′ → c ≡ c′ → m ≡ m′
     → _≡_ {A = Counts} (record { points = p; triangles = k; flagged = c; cut = m }) (record { points = p′; triangles = k′; flagged = c′; cut = m′ })
 counts-same e₁ e₂ e₃ e₄ = rw (e₁, e₂, e₃, e₄)
@@ -193,8 +186,8 @@ module _ (threshold : Float) (angles points sizes : List Float) (l : List ℕ) w
   pub filled : {w w′ : List ℕ} {m k c : ℕ} {op os op′ os′ : List Float} {ot oe ot′ oe′ : List ℕ}
       → Roomy (length points) (length l) (length sizes) (length op) (length os) (length ot) (length oe)
       → CutTo 0 65536 (flaggedTri threshold angles) l (length l / 3) w w′ m c
-      → (ot′ ≡ sets ot 0 (cornersOf (refined (mid (length points / 3) (sidesIn 0 65536 w′ m)) (tris l (length l / 3))))) × (k ≡ length (refined (mid (length points / 3) (sidesIn 0 65536 w′ m)) (tris l (length l / 3))))
-      → (op′ ≡ sets op 0 (morePoints points (sidesIn 0 65536 w′ m))) × ((os′ ≡ sets os 0 (moreSizes sizes (sidesIn 0 65536 w′ m))) × (oe′ ≡ sets oe 0 (endsOf (sidesIn 0 65536 w′ m))))
+      → Stored (refined (mid (length points / 3) (sidesIn 0 65536 w′ m)) (tris l (length l / 3))) ot 0 0 ot′ k
+      → FilledFor points sizes (sidesIn 0 65536 w′ m) op os oe op′ os′ oe′
       → Filled (refinementOf threshold angles points sizes (trisOf l)) op os ot oe (record { points = length points / 3 + m; triangles = k; flagged = c; cut = m }) op′ os′ ot′ oe′
   unfolding f n t refinementOf refine
   filled {w} {w′} {m} {k} {c} {op} {os} {ot = ot} {oe} room cut tri put =
@@ -204,11 +197,11 @@ module _ (threshold : Float) (angles points sizes : List Float) (l : List ℕ) w
       let new = refined (mid n L) (trisOf l) in
       let many : length new ≤ 4 * t = subst (λ (z : ℕ). length new ≤ 4 * z) (tris-length l t) (refined-most (mid n L) (trisOf l)) in
       let p = points-length points L in
-      let z = all-sizes sizes L in
+      let z = sizes-length sizes L in
       record {
-        counts = counts-same (third (length (morePoints points L)) (n + m) (omega (arith, p, room .whole, len))) (rw s at (tri .1)) (cut .counted) len;
-        points = rw s at (put .0) ∙ front op (morePoints points L) (omega (arith, p, room .whole, len, room .in-points, cut .few));
-        sizes = rw s at (put .1 .0) ∙ front os (moreSizes sizes L) (omega (arith, z, room .sized, len, room .in-sizes, cut .few));
-        triangles = rw s at (tri .0) ∙ front ot (cornersOf new) (omega (arith, corners-length new, many, room .in-triangles));
-        ends = rw s at (put .1 .1) ∙ front oe (endsOf L) (omega (arith, ends-length L, len, cut .few, room .in-ends));
+        counts = counts-same (third (length (morePoints points L)) (n + m) (omega (arith, p, room .whole, len))) (rw s at (tri .counted) ∙ omega arith) (cut .counted) len;
+        points = rw s at (put .points) ∙ front op (morePoints points L) (omega (arith, p, room .whole, len, room .in-points, cut .few));
+        sizes = rw s at (put .sizes) ∙ front os (moreSizes sizes L) (omega (arith, z, room .sized, len, room .in-sizes, cut .few));
+        triangles = rw s at (tri .stands) ∙ front ot (cornersOf new) (omega (arith, corners-length new, many, room .in-triangles));
+        ends = rw s at (put .ends) ∙ front oe (endsOf L) (omega (arith, ends-length L, len, cut .few, room .in-ends));
       }

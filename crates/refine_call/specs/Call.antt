@@ -12,6 +12,8 @@ use Rattle.float.specs.Double.{lit, isFinite}
 use Rattle.floor.specs.declared.Check.{Check}
 use Rattle.floor.specs.declared.Check.the-variants.{Sound, Refused}
 use Rattle.floor.specs.Checks.{row, wellFormed, checkFloor}
+use Rattle.mesh.specs.Mesh.{Side}
+use Rattle.areas.specs.Points.{morePoints, moreSizes}
 use Rattle.refinement.specs.Floor.{Refined, refinementOf, trisOf, cornersOf, endsOf, over}
 use Rattle.refine_call.specs.declared.Counts.{Counts}
 use Rattle.refine_call.specs.declared.Answer.{Answer}
@@ -42,7 +44,7 @@ unfoldable pub checkCall : List Float → List ℕ → List Float → ℕ → Fl
 checkCall points triangles sizes angles threshold op os ot oe =
     cond (wellFormed (length points) (length triangles)) (andThen (checkFloor points triangles sizes) (checkRest (length points / 3) (length triangles / 3) angles threshold op os ot oe)) (Refused (row 1))
 
--- document 01's number and place of a refusal, and the counts of an accepted call
+-- the counts of an accepted call: of cut sides, each once, as many as the list of them has (`Refinement` of crate refinement, `sides .cut-sides`)
 abbrev pub countsOf : Refined → Counts
 countsOf r = record { points = length (r .points) / 3; triangles = length (r .triangles); flagged = r .flagged; cut = length (r .cut) }
 
@@ -68,7 +70,18 @@ pub record Called (c : Check) (r : Refined) (op os : List Float) (ot oe : List �
   pub triangles : ot′ ≡ left c (cornersOf (r .triangles)) ot
   pub ends : oe′ ≡ left c (endsOf (r .cut)) oe
 
--- the four slices of an accepted call, as runs of stores
+-- the whole call: its points, triangles, sizes, angles and threshold, the four result slices, the answer, and the slices after it
+abbrev pub CalledOn : List Float → List ℕ → List Float → List Float → Float → List Float → List Float → List ℕ → List ℕ → Answer → List Float → List Float → List ℕ → List ℕ → Type 0
+CalledOn points triangles sizes angles threshold op os ot oe =
+    Called (checkCall points triangles sizes (length angles) threshold (length op) (length os) (length ot) (length oe)) (refinementOf threshold angles points sizes (trisOf triangles)) op os ot oe
+
+-- the points, the sizes and the ends of the floor with points pts and sizes zs, refined at the cut sides l
+pub record FilledFor (pts zs : List Float) (l : List Side) (op os : List Float) (oe : List ℕ) (op′ os′ : List Float) (oe′ : List ℕ) : Type 0 where
+  pub points : op′ ≡ sets op 0 (morePoints pts l)
+  pub sizes : os′ ≡ sets os 0 (moreSizes zs l)
+  pub ends : oe′ ≡ sets oe 0 (endsOf l)
+
+-- the four slices of an accepted call
 pub record Filled (r : Refined) (op os : List Float) (ot oe : List ℕ) (a : Counts) (op′ os′ : List Float) (ot′ oe′ : List ℕ) : Type 0 where
   pub counts : a ≡ countsOf r
   pub points : op′ ≡ over (r .points) op

@@ -3,11 +3,9 @@
 ghost use mathlib.Core.Path.{_≡_};
 ghost use Prim.Native.Nat.{_+_, _*_, _/_, _<_, _≤_};
 ghost use lib.ListN.{length};
-ghost use lib.Seq.{sets};
-ghost use Rattle.areas.specs.Points.{morePoints, moreSizes};
 ghost use Rattle.edges.specs.Table.{Held, sidesIn};
-ghost use Rattle.refinement.specs.Floor.{refinementOf, trisOf, endsOf};
-ghost use Rattle.refine_call.specs.Call.{badThreshold, short, checkRest, checkCall, passedUp, Called, Filled, Roomy};
+ghost use Rattle.refinement.specs.Floor.{refinementOf, trisOf};
+ghost use Rattle.refine_call.specs.Call.{badThreshold, short, checkRest, checkCall, passedUp, CalledOn, FilledFor, Filled, Roomy};
 
 // How many points and triangles the refined floor has, how many triangles were flagged, and how many sides cut.
 pub struct Counts {
@@ -128,7 +126,8 @@ fn put_floor(
     oe: &mut [u32],
 )
     requires { ⌜ ((65536 + 3 * m ≤ length (now w)) × (length (now points) + 3 * m ≤ length (now op))) × ((length (now sizes) + m ≤ length (now os)) × (2 * m ≤ length (now oe))) ⌝ }
-    ensures { λ _. ⌜ (now (op .exit) ≡ sets (now (op .entry)) 0 (morePoints (now (points .entry)) (sidesIn 0 65536 (now (w .entry)) m))) × ((now (os .exit) ≡ sets (now (os .entry)) 0 (moreSizes (now (sizes .entry)) (sidesIn 0 65536 (now (w .entry)) m))) × (now (oe .exit) ≡ sets (now (oe .entry)) 0 (endsOf (sidesIn 0 65536 (now (w .entry)) m)))) ⌝ }
+    ensures { λ _. ⌜ FilledFor (now (points .entry)) (now (sizes .entry)) (sidesIn 0 65536 (now (w .entry)) m)
+        (now (op .entry)) (now (os .entry)) (now (oe .entry)) (now (op .exit)) (now (os .exit)) (now (oe .exit)) ⌝ }
 {
     refine_floor::put_points(points, w, 0, 65536, m, op);
     refine_floor::put_sizes(sizes, w, 0, 65536, m, os);
@@ -150,7 +149,8 @@ fn refine_over(
 ) -> Counts
     requires { ⌜ Held 0 65536 (now w) 0 × (length (now w) ≡ 360448) ⌝ }
     requires { ⌜ Roomy (length (now points)) (length (now triangles)) (length (now sizes)) (length (now op)) (length (now os)) (length (now ot)) (length (now oe)) ⌝ }
-    ensures { λ r. ⌜ Filled (refinementOf threshold (now (angles .entry)) (now (points .entry)) (now (sizes .entry)) (trisOf (now (triangles .entry)))) (now (op .entry)) (now (os .entry)) (now (ot .entry)) (now (oe .entry)) r (now (op .exit)) (now (os .exit)) (now (ot .exit)) (now (oe .exit)) ⌝ }
+    ensures { λ r. ⌜ Filled (refinementOf threshold (now (angles .entry)) (now (points .entry)) (now (sizes .entry)) (trisOf (now (triangles .entry))))
+        (now (op .entry)) (now (os .entry)) (now (ot .entry)) (now (oe .entry)) r (now (op .exit)) (now (os .exit)) (now (ot .exit)) (now (oe .exit)) ⌝ }
 {
     let n = points.len() / 3;
     let t = triangles.len() / 3;
@@ -179,7 +179,8 @@ fn refine_sound(
     oe: &mut [u32],
 ) -> Counts
     requires { ⌜ Roomy (length (now points)) (length (now triangles)) (length (now sizes)) (length (now op)) (length (now os)) (length (now ot)) (length (now oe)) ⌝ }
-    ensures { λ r. ⌜ Filled (refinementOf threshold (now (angles .entry)) (now (points .entry)) (now (sizes .entry)) (trisOf (now (triangles .entry)))) (now (op .entry)) (now (os .entry)) (now (ot .entry)) (now (oe .entry)) r (now (op .exit)) (now (os .exit)) (now (ot .exit)) (now (oe .exit)) ⌝ }
+    ensures { λ r. ⌜ Filled (refinementOf threshold (now (angles .entry)) (now (points .entry)) (now (sizes .entry)) (trisOf (now (triangles .entry))))
+        (now (op .entry)) (now (os .entry)) (now (ot .entry)) (now (oe .entry)) r (now (op .exit)) (now (os .exit)) (now (ot .exit)) (now (oe .exit)) ⌝ }
 {
     let mut w = [0u32; 360448];
     refine_over(
@@ -208,7 +209,8 @@ pub fn refine(
     ot: &mut [u32],
     oe: &mut [u32],
 ) -> Answer
-    ensures { λ r. ⌜ Called (checkCall (now (points .entry)) (now (triangles .entry)) (now (sizes .entry)) (length (now (angles .entry))) threshold (length (now (op .entry))) (length (now (os .entry))) (length (now (ot .entry))) (length (now (oe .entry)))) (refinementOf threshold (now (angles .entry)) (now (points .entry)) (now (sizes .entry)) (trisOf (now (triangles .entry)))) (now (op .entry)) (now (os .entry)) (now (ot .entry)) (now (oe .entry)) r (now (op .exit)) (now (os .exit)) (now (ot .exit)) (now (oe .exit)) ⌝ }
+    ensures { λ r. ⌜ CalledOn (now (points .entry)) (now (triangles .entry)) (now (sizes .entry)) (now (angles .entry)) threshold
+        (now (op .entry)) (now (os .entry)) (now (ot .entry)) (now (oe .entry)) r (now (op .exit)) (now (os .exit)) (now (ot .exit)) (now (oe .exit)) ⌝ }
 {
     let checked = check_call(
         points,

@@ -1,22 +1,25 @@
 -- The pieces, ends and midpoints of a list with one more triangle or side, as runs of stores. Assumes nothing.
-use Prim.Native.Nat.{ℕ, zero, suc, _+_, _*_, _≤_, _<_}
+use Prim.Native.Nat.{ℕ, _+_, _*_, _≤_, _<_}
 use native.Mathlib.Omega.{arith}
 use native.Mathlib.Numerals.{add-one}
-use mathlib.Core.Path.{_≡_, refl, sym, ap, _∙_, subst}
+use mathlib.Core.Path.{_≡_, refl, sym, ap, _∙_}
 use mathlib.Core.List.{List, [], _∷_, _++_, append-nil, map}
 use mathlib.Core.Option.{Option}
 use lib.ListN.{length, length-append, length-map, getD, set, take}
 use lib.Seq.{sets, length-sets}
 use lib.Ieee.{Float}
-use Rattle.mesh.specs.Mesh.{Tri, tri, Side, side, mid, pieces, refined}
+use Rattle.mesh.specs.Mesh.{Tri, Side, side, mid, pieces, refined}
 use Rattle.mesh.proofs.Theorem.{refined-append}
 use Rattle.areas.specs.Points.{midpoint, midpoints}
+use Rattle.areas.proofs.Points.{mids-length}
 use Rattle.edges.specs.Table.{pairs, sidesIn, loOf, hiOf, Held}
 use Rattle.edges.proofs.Chain.{length-pairs}
 use Rattle.edges.proofs.Numbering.{held-within}
 use Rattle.refinement.specs.Floor.{tris, triAt, cornersOf, endsOf}
 use Rattle.refinement.specs.Steps.{Rows}
-use Rattle.refinement.proofs.Parts.{four}
+use Rattle.refine_floor.specs.Stored.{Stored}
+use Rattle.refinement.proofs.Triangles.{corners-length, corners-append}
+use Rattle.refinement.proofs.Parts.{take-rows, four}
 use Rattle.runs.proofs.Runs.{sets-append, copy-more}
 
 -- the next number of a copy to the front
@@ -25,65 +28,58 @@ copy-again l s j d h = let e : j ≡ 0 + j = omega arith in ap (λ (k : ℕ). se
 
 -- ---- triangles
 
-corners-append : (s t : List Tri) → cornersOf (s ++ t) ≡ cornersOf s ++ cornersOf t
-unfolding cornersOf
-corners-append [] t = refl
-corners-append (tri a b c ∷ s) t = ap (λ (l : List ℕ). a ∷ b ∷ c ∷ l) (corners-append s t)
-
-pub corners-length : (s : List Tri) → length (cornersOf s) ≡ 3 * length s
-unfolding cornersOf
-corners-length [] = refl
-corners-length (tri a b c ∷ s) = omega (arith, corners-length s)
-
 pub pieces-put : {ts : List Tri} {count : ℕ} {rows out′ : List ℕ} (out : List ℕ) (a k : ℕ) → Rows ts count rows → out′ ≡ sets out a (take (3 * count) rows)
-    → (out′ ≡ sets out a (cornersOf ts)) × (k + count ≡ k + length ts)
-pieces-put out a k h e = (e ∙ ap (sets out a) (h .corners), omega (arith, h .many))
+    → Stored ts out a k out′ (k + count)
+pieces-put out a k h e = record { stands = e ∙ ap (sets out a) (take-rows h); counted = omega (arith, h .many) }
 
-pub refined-none : (m : ℕ → ℕ → Option ℕ) (l out : List ℕ) (at : ℕ) → (out ≡ sets out at (cornersOf (refined m (tris l 0)))) × (0 ≡ length (refined m (tris l 0)))
+-- the pieces of the first i triangles of l stand from `at` on, k of them
+pub record Stands (m : ℕ → ℕ → Option ℕ) (l out₀ : List ℕ) (at i : ℕ) (out : List ℕ) (k : ℕ) : Type 0 where
+  pub stored : Stored (refined m (tris l i)) out₀ at 0 out k
+  pub few : k ≤ 4 * i
+  pub same-length : length out ≡ length out₀
+
+pub stands-none : (m : ℕ → ℕ → Option ℕ) (l out : List ℕ) (at : ℕ) → Stands m l out at 0 out 0
 unfolding tris cornersOf
-refined-none m l out at = (refl, refl)
+stands-none m l out at = record { stored = record { stands = refl; counted = refl }; few = omega arith; same-length = refl }
 
 one-more : (m : ℕ → ℕ → Option ℕ) (l : List ℕ) (i : ℕ) → refined m (tris l (i + 1)) ≡ refined m (tris l i) ++ pieces m (triAt l i)
 unfolding tris
 one-more m l i = rw (add-one i) (refined-append m (tris l i) (triAt l i ∷ []) ∙ ap (λ (r : List Tri). refined m (tris l i) ++ r) (append-nil (pieces m (triAt l i))))
 
--- the pieces stand from `at` on; those of triangle i go to the place a behind them
-pub refined-again : (m : ℕ → ℕ → Option ℕ) (l out₀ : List ℕ) {out out′ : List ℕ} (at i : ℕ) {a k k′ : ℕ} → a ≡ at + 3 * k
-    → (out ≡ sets out₀ at (cornersOf (refined m (tris l i)))) × (k ≡ length (refined m (tris l i)))
-    → (out′ ≡ sets out a (cornersOf (pieces m (triAt l i)))) × (k′ ≡ k + length (pieces m (triAt l i)))
-    → (out′ ≡ sets out₀ at (cornersOf (refined m (tris l (i + 1))))) × (k′ ≡ length (refined m (tris l (i + 1))))
-refined-again m l out₀ {out} {out′} at i {a} {k} {k′} z h s =
+-- those of triangle i go to the place a behind them
+pub stands-again : {m : ℕ → ℕ → Option ℕ} {l out₀ out out′ : List ℕ} {at i a k k′ : ℕ} → a ≡ at + 3 * k → Stands m l out₀ at i out k → Stored (pieces m (triAt l i)) out a k out′ k′
+    → Stands m l out₀ at (i + 1) out′ k′
+stands-again {m} {l} {out₀} {out} {out′} {at} {i} {a} {k} {k′} z h s =
     let old = refined m (tris l i) in
     let new = pieces m (triAt l i) in
-    let here : a ≡ at + length (cornersOf old) = omega (arith, corners-length old, h .1) in
-    rw (one-more m l i) (
-      s .0 ∙ rw (here, h .0) (sets-append out₀ at (cornersOf old) (cornersOf new)) ∙ ap (sets out₀ at) (sym (corners-append old new)),
-      s .1 ∙ rw (length-append old new) (omega (arith, h .1)),
-    )
+    let here : a ≡ at + length (cornersOf old) = omega (arith, corners-length old, h .stored .counted) in
+    record {
+      stored = rw (one-more m l i) (record {
+        stands = s .stands ∙ rw (here, h .stored .stands) (sets-append out₀ at (cornersOf old) (cornersOf new)) ∙ ap (sets out₀ at) (sym (corners-append old new));
+        counted = s .counted ∙ rw (length-append old new) (omega (arith, h .stored .counted));
+      });
+      few = omega (arith, h .few, s .counted, four m (triAt l i));
+      same-length = ap length (s .stands) ∙ length-sets out a (cornersOf new) ∙ h .same-length;
+    }
 
 -- ---- triangles in the slice that has the table
 
--- what stands there after the first i triangles of l: k pieces, from `at` on
+-- the table stays where it is
 pub record Within (n o N m : ℕ) (l w₀ : List ℕ) (at i : ℕ) (w : List ℕ) (k : ℕ) : Type 0 where
-  pub stands : (w ≡ sets w₀ at (cornersOf (refined (mid n (sidesIn o N w₀ m)) (tris l i)))) × (k ≡ length (refined (mid n (sidesIn o N w₀ m)) (tris l i)))
-  pub few : k ≤ 4 * i
+  pub stands : Stands (mid n (sidesIn o N w₀ m)) l w₀ at i w k
   pub held : Held o N w m
-  pub same-length : length w ≡ length w₀
 
 pub within-none : (n o N m : ℕ) (l w : List ℕ) (at : ℕ) → Held o N w m → Within n o N m l w at 0 w 0
-within-none n o N m l w at h = record { stands = refined-none (mid n (sidesIn o N w m)) l w at; few = omega arith; held = h; same-length = refl }
+within-none n o N m l w at h = record { stands = stands-none (mid n (sidesIn o N w m)) l w at; held = h }
 
 pub within-again : {n o N m : ℕ} {l w₀ : List ℕ} {at i : ℕ} {w w′ : List ℕ} {k k′ : ℕ} → o + N + 3 * m ≤ at → Held o N w₀ m → Within n o N m l w₀ at i w k
-    → (w′ ≡ sets w (at + 3 * k) (cornersOf (pieces (mid n (sidesIn o N w m)) (triAt l i)))) × (k′ ≡ k + length (pieces (mid n (sidesIn o N w m)) (triAt l i)))
-    → Within n o N m l w₀ at (i + 1) w′ k′
+    → Stored (pieces (mid n (sidesIn o N w m)) (triAt l i)) w (at + 3 * k) k w′ k′ → Within n o N m l w₀ at (i + 1) w′ k′
 within-again {n} {o} {N} {m} {l} {w₀} {at} {i} {w} {w′} {k} {k′} behind h t s =
-    let old = held-within o N m at w₀ (cornersOf (refined (mid n (sidesIn o N w₀ m)) (tris l i))) behind (t .stands .0) h in
-    let new = refined-again (mid n (sidesIn o N w₀ m)) l w₀ at i refl (t .stands) (rw (old .1) at s) in
+    let old = held-within o N m at w₀ (cornersOf (refined (mid n (sidesIn o N w₀ m)) (tris l i))) behind (t .stands .stored .stands) h in
+    let new = stands-again refl (t .stands) (rw (old .1) at s) in
     record {
       stands = new;
-      few = omega (arith, t .few, s .1, four (mid n (sidesIn o N w m)) (triAt l i));
-      held = held-within o N m at w₀ (cornersOf (refined (mid n (sidesIn o N w₀ m)) (tris l (i + 1)))) behind (new .0) h .0;
-      same-length = ap length (new .0) ∙ length-sets w₀ at (cornersOf (refined (mid n (sidesIn o N w₀ m)) (tris l (i + 1))));
+      held = held-within o N m at w₀ (cornersOf (refined (mid n (sidesIn o N w₀ m)) (tris l (i + 1)))) behind (new .stored .stands) h .0;
     }
 
 -- ---- ends
@@ -124,11 +120,6 @@ mids-append : (pts : List Float) (s t : List Side) → midpoints pts (s ++ t) �
 unfolding midpoints
 mids-append pts [] t = refl
 mids-append pts (x ∷ s) t = ap (λ (l : List Float). midpoint pts x ++ l) (mids-append pts s t)
-
-pub mids-length : (pts : List Float) (s : List Side) → length (midpoints pts s) ≡ 3 * length s
-unfolding midpoints
-mids-length pts [] = refl
-mids-length pts (x ∷ s) = omega (arith, mids-length pts s)
 
 module _ (pts : List Float) (o N : ℕ) (w : List ℕ) where
   pub mids-none : (out : List Float) (at : ℕ) → out ≡ sets out at (midpoints pts (sidesIn o N w 0))

@@ -1,1 +1,2 @@
 pub mod Guidance
+pub mod Stored

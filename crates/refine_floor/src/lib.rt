@@ -8,7 +8,8 @@ ghost use lib.Seq.{sets};
 ghost use Rattle.mesh.specs.Mesh.{side, mid, pieces, refined};
 ghost use Rattle.areas.specs.Points.{xOf, yOf, midpoint, midpoints, midSize, midSizes, morePoints, moreSizes};
 ghost use Rattle.edges.specs.Table.{Held, sidesIn, loOf, hiOf};
-ghost use Rattle.refinement.specs.Floor.{tris, triAt, cornersOf, endsOf};
+ghost use Rattle.refinement.specs.Floor.{tris, triAt, endsOf};
+ghost use Rattle.refine_floor.specs.Stored.{Stored};
 ghost use Rattle.refine_floor.specs.Guidance.{midAngleOn, midAngles, moreAngles};
 
 // ---- triangles
@@ -27,7 +28,7 @@ fn refine_triangle(
 ) -> usize
     requires { ⌜ Held base nb (now w) m ⌝ }
     requires { ⌜ (3 * i + 3 ≤ length (now l)) × ((n + m < 2 ^ 32) × (3 * k + 12 ≤ length (now out))) ⌝ }
-    ensures { λ r. ⌜ (now (out .exit) ≡ sets (now (out .entry)) (3 * k) (cornersOf (pieces (mid n (sidesIn base nb (now (w .entry)) m)) (triAt (now (l .entry)) i)))) × (r ≡ k + length (pieces (mid n (sidesIn base nb (now (w .entry)) m)) (triAt (now (l .entry)) i))) ⌝ }
+    ensures { λ r. ⌜ Stored (pieces (mid n (sidesIn base nb (now (w .entry)) m)) (triAt (now (l .entry)) i)) (now (out .entry)) (3 * k) k (now (out .exit)) r ⌝ }
 {
     let p = refinement::pieces_of(l, i, n, w, base, nb, m);
     let rows = p.rows;
@@ -48,7 +49,7 @@ pub fn refine_triangles(
 ) -> usize
     requires { ⌜ Held base nb (now w) m ⌝ }
     requires { ⌜ (3 * t ≤ length (now l)) × ((n + m < 2 ^ 32) × (12 * t ≤ length (now out))) ⌝ }
-    ensures { λ r. ⌜ (now (out .exit) ≡ sets (now (out .entry)) 0 (cornersOf (refined (mid n (sidesIn base nb (now (w .entry)) m)) (tris (now (l .entry)) t)))) × (r ≡ length (refined (mid n (sidesIn base nb (now (w .entry)) m)) (tris (now (l .entry)) t))) ⌝ }
+    ensures { λ r. ⌜ Stored (refined (mid n (sidesIn base nb (now (w .entry)) m)) (tris (now (l .entry)) t)) (now (out .entry)) 0 0 (now (out .exit)) r ⌝ }
 {
     let mut k = 0;
     let mut i = 0;
@@ -73,7 +74,7 @@ fn refine_triangle_within(
 ) -> usize
     requires { ⌜ Held base nb (now w) m ⌝ }
     requires { ⌜ (3 * i + 3 ≤ length (now l)) × ((n + m < 2 ^ 32) × (at + 3 * k + 12 ≤ length (now w))) ⌝ }
-    ensures { λ r. ⌜ (now (w .exit) ≡ sets (now (w .entry)) (at + 3 * k) (cornersOf (pieces (mid n (sidesIn base nb (now (w .entry)) m)) (triAt (now (l .entry)) i)))) × (r ≡ k + length (pieces (mid n (sidesIn base nb (now (w .entry)) m)) (triAt (now (l .entry)) i))) ⌝ }
+    ensures { λ r. ⌜ Stored (pieces (mid n (sidesIn base nb (now (w .entry)) m)) (triAt (now (l .entry)) i)) (now (w .entry)) (at + 3 * k) k (now (w .exit)) r ⌝ }
 {
     let p = refinement::pieces_of(l, i, n, w, base, nb, m);
     let rows = p.rows;
@@ -94,7 +95,7 @@ pub fn refine_triangles_within(
 ) -> usize
     requires { ⌜ Held base nb (now w) m ⌝ }
     requires { ⌜ ((3 * t ≤ length (now l)) × (n + m < 2 ^ 32)) × ((base + nb + 3 * m ≤ at) × (at + 12 * t ≤ length (now w))) ⌝ }
-    ensures { λ r. ⌜ (now (w .exit) ≡ sets (now (w .entry)) at (cornersOf (refined (mid n (sidesIn base nb (now (w .entry)) m)) (tris (now (l .entry)) t)))) × (r ≡ length (refined (mid n (sidesIn base nb (now (w .entry)) m)) (tris (now (l .entry)) t))) ⌝ }
+    ensures { λ r. ⌜ Stored (refined (mid n (sidesIn base nb (now (w .entry)) m)) (tris (now (l .entry)) t)) (now (w .entry)) at 0 (now (w .exit)) r ⌝ }
 {
     let mut k = 0;
     let mut i = 0;

@@ -7,8 +7,8 @@ use mathlib.Core.List.{List, [], _∷_, _++_, append-assoc, append-nil}
 use lib.ListN.{length, length-append, getD}
 use lib.Seq.{sets}
 use Rattle.mesh.specs.Mesh.{Tri, tri, Side, side}
-use Rattle.refinement.specs.Floor.{tris, triAt, cornersOf, endsOf}
-use Rattle.refinement.proofs.Parts.{tris-length}
+use Rattle.refinement.specs.Floor.{tris, triAt, endsOf}
+use Rattle.refinement.proofs.Triangles.{tris-length}
 use Rattle.refine_call.specs.declared.Counts.{Counts}
 use Rattle.columns.specs.Columns.{lineOf}
 use Rattle.columns.proofs.Columns.{line-length}
@@ -42,25 +42,6 @@ triangles-again l out₀ at i h e =
     let p : at + 19 * i ≡ at + length (triangleLines (tris l i)) = omega (arith, triangles-long (tris l i), tris-length l i) in
     rw (add-one i) (e ∙ rw h (sets-next out₀ at (at + 19 * i) (triangleLines (tris l i)) (lineAt l i) p)
     ∙ ap (sets out₀ at) (sym (triangles-append (tris l i) (triAt l i ∷ []) ∙ ap (λ (s : List ℕ). triangleLines (tris l i) ++ s) (one-triangle (getD l (3 * i) 0) (getD l (3 * i + 1) 0) (getD l (3 * i + 2) 0)))))
-
--- the triangles of the corners of a list of triangles, whatever follows them
-tris-shift : (a b c : ℕ) (l : List ℕ) (i : ℕ) → tris (a ∷ b ∷ c ∷ l) (suc i) ≡ tri a b c ∷ tris l i
-unfolding tris
-tris-shift a b c l zero = refl
-tris-shift a b c l (suc i) =
-    let e₁ : 3 * suc i + 1 ≡ suc (suc (suc (3 * i + 1))) = omega arith in
-    let e₂ : 3 * suc i + 2 ≡ suc (suc (suc (3 * i + 2))) = omega arith in
-    let e₀ : 3 * suc i ≡ suc (suc (suc (3 * i))) = omega arith in
-    rw (tris-shift a b c l i, e₁, e₂, e₀) refl
-
-no-tris : (l : List ℕ) → tris l 0 ≡ []
-unfolding tris
-no-tris l = refl
-
-pub tris-of : (ts : List Tri) (rest : List ℕ) → tris (cornersOf ts ++ rest) (length ts) ≡ ts
-unfolding cornersOf
-tris-of [] rest = no-tris rest
-tris-of (tri a b c ∷ ts) rest = tris-shift a b c (cornersOf ts ++ rest) (length ts) ∙ ap (λ (s : List Tri). tri a b c ∷ s) (tris-of ts rest)
 
 -- ---- sides
 

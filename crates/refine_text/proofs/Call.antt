@@ -18,8 +18,9 @@ use Rattle.refinement.specs.Floor.{Refined, refinementOf, trisOf, cornersOf, en
 use Rattle.refine_call.specs.declared.Answer.{Answer}
 use Rattle.refine_call.specs.Call.{badThreshold, short, andThen, checkRest, checkCall, answerOf, Called}
 use Rattle.refine_lines.specs.Lines.{refusedLine, bytesFor, Holds}
-use Rattle.refinement.proofs.Parts.{tris-length, refined-most}
-use Rattle.refine_lines.proofs.Lines.{tris-of, sides-of}
+use Rattle.refinement.proofs.Triangles.{tris-length, tris-of}
+use Rattle.refinement.proofs.Parts.{refined-most}
+use Rattle.refine_lines.proofs.Lines.{sides-of}
 use Rattle.refine_text.specs.Printed.{longest, written, isSound}
 use Rattle.refine_text.specs.Steps.{bytesOf, Sized}
 

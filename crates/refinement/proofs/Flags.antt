@@ -1,14 +1,17 @@
--- A triangle is flagged exactly where one of its sides turns by more than the threshold, a side that turns by no number counting as 0. Assumes nothing.
+-- How far the field turns along a side and over a triangle, and that a triangle is flagged exactly where one of its sides turns by more than the
+-- threshold. Assumes nothing.
 use mathlib.Core.Path.{_≡_, refl, sym, ap, _∙_, subst}
-use Prim.Native.Nat.{ℕ, zero, suc, _+_, _*_, _≤_, _<_}
+use Prim.Native.Nat.{ℕ, zero, suc, _+_, _*_, _<_}
 use native.Mathlib.Omega.{arith}
-use mathlib.Core.Bool.{Bool, true, false, not, cond, _&&_, _||_, Bool·beq}
-use borrow.Author.Tests.{ltb-true, ltb-false, lt-ltb, le-ltb, eq-eqb, ne-eqb, eqb-true, eqb-false}
+use mathlib.Core.Bool.{Bool, true, false, not, cond, _&&_, _||_}
+use mathlib.Core.List.{List}
+use borrow.Author.Tests.{ltb-true, ltb-false, lt-ltb, le-ltb, eq-eqb, eqb-true, eqb-false}
 use lib.Dec.{T, ltb, eqb}
-use lib.Ieee.{Float, nan, inf, fin, binary64, up, down, below, level, lt, le, eq, ne, ofBits, rem, sub}
+use lib.Ieee.{Float, nan, inf, fin, up, down, below, level, lt, le, ne, ofBits, rem, sub}
 use Rattle.float.specs.Double.{lit, isFinite, remEuclid, maxOf, minOf, FRAC-PI-2, _⊖_}
-use Rattle.refinement.specs.Flag.{turnAlong, variation, flagged}
-use Rattle.float.proofs.Less.{right-number, level-self, lt-max}
+use Rattle.mesh.specs.Mesh.{Tri, tri}
+use Rattle.refinement.specs.Flag.{turnAlong, turnsBy, largest, variation, flagged, angle, flaggedTri, turnsMore}
+use Rattle.float.proofs.Less.{right-number, level-self, trans, lt-max}
 
 no : {A : Type 0} → false ≡ true → A
 no h = absurd (subst T (sym h) tt)
@@ -64,7 +67,7 @@ not-below true false a b = go (ltb 0 (a + b)) refl
     go true p = refl
     go false p = rw (eq-eqb a b (omega (arith, ltb-false 0 (a + b) p)), eq-eqb a 0 (omega (arith, ltb-false 0 (a + b) p)))
 
-pub not-le : (x y : Float) → ne x x ≡ false → ne y y ≡ false → not (le x y) ≡ lt y x
+not-le : (x y : Float) → ne x x ≡ false → ne y y ≡ false → not (le x y) ≡ lt y x
 unfolding ne le
 not-le nan y h g = no' h
 not-le (inf s) nan h g = no' g
@@ -79,40 +82,42 @@ not-le (fin s m e) (inf true) h g = refl
 not-le (fin s m e) (inf false) h g = refl
 not-le (fin s m e) (fin t n d) h g = not-below s t (m * up e * down d) (n * up d * down e)
 
-max-number : (a b : Float) → ne a a ≡ false → ne (maxOf a b) (maxOf a b) ≡ false
-max-number a b h = go (lt a b) (ne a a) refl refl
+-- ---- the largest turn
+
+-- a number that is not below 0
+abbrev Floored : Float → Type 0
+Floored x = (ne x x ≡ false) × (lt x (lit 0) ≡ false)
+
+zero-floored : Floored (lit 0)
+unfolding ne lt ofBits
+zero-floored = (refl, refl)
+
+max-floored : (a b : Float) → Floored a → Floored (maxOf a b)
+max-floored a b h = go (lt a b) (ne a a) refl refl
   where
-    go : (l z : Bool) → lt a b ≡ l → ne a a ≡ z → ne (cond l b (cond z b a)) (cond l b (cond z b a)) ≡ false
-    go true z p q = right-number a b p
-    go false true p q = no' (sym q ∙ h)
+    above : (z : Bool) → lt b (lit 0) ≡ z → lt a b ≡ true → lt b (lit 0) ≡ false
+    above true e p = no' (sym (trans a b (lit 0) p e) ∙ h .1)
+    above false e p = e
+
+    go : (l z : Bool) → lt a b ≡ l → ne a a ≡ z → Floored (cond l b (cond z b a))
+    go true z p q = (right-number a b p, above (lt b (lit 0)) refl p)
+    go false true p q = no' (sym q ∙ h .0)
     go false false p q = h
 
-zero-number : ne (lit 0) (lit 0) ≡ false
-unfolding ne ofBits
-zero-number = refl
+-- `max` drops a NaN, and 0
+max-nan : (x : Float) → Floored x → maxOf x nan ≡ x
+max-nan x h = rw (not-below-nan x, h .0)
+  where
+    not-below-nan : (x : Float) → lt x nan ≡ false
+    not-below-nan nan = unfold lt in refl
+    not-below-nan (inf s) = unfold lt in refl
+    not-below-nan (fin s m e) = unfold lt in refl
 
-le-number : (t : Float) → le (lit 0) t ≡ true → ne t t ≡ false
-le-number nan h = no (unfold le ofBits in h)
-le-number (inf true) h = unfold ne in refl
-le-number (inf false) h = unfold ne in refl
-le-number (fin s m e) h = unfold ne in ap not (level-self s (m * up e * down e))
+max-zero : (x : Float) → Floored x → maxOf x (lit 0) ≡ x
+max-zero x h = rw (h .1, h .0)
 
-pub flagged-side : (t a b c : Float) → le (lit 0) t ≡ true → flagged t a b c ≡ lt t (turnAlong a b) || lt t (turnAlong b c) || lt t (turnAlong c a)
-unfolding flagged variation
-flagged-side t a b c h =
-    let x = turnAlong a b in
-    let y = turnAlong b c in
-    let z = turnAlong c a in
-    let n₁ = max-number (lit 0) x zero-number in
-    let n₂ = max-number (maxOf (lit 0) x) y n₁ in
-    let n₃ = max-number (maxOf (maxOf (lit 0) x) y) z n₂ in
-    let zero-not : lt t (lit 0) ≡ false = sym (not-le (lit 0) t zero-number (le-number t h)) ∙ ap not h in
-    not-le (maxOf (maxOf (maxOf (lit 0) x) y) z) t n₃ (le-number t h)
-    ∙ lt-max t (maxOf (maxOf (lit 0) x) y) z
-    ∙ ap (λ (q : Bool). q || lt t z) (lt-max t (maxOf (lit 0) x) y ∙ ap (λ (q : Bool). q || lt t y) (lt-max t (lit 0) x ∙ ap (λ (q : Bool). q || lt t x) zero-not))
-
--- a side whose difference of angles is not finite turns by no number, so it never passes a threshold
-pub turn-none : (a b : Float) → isFinite (a ⊖ b) ≡ false → turnAlong a b ≡ nan
+-- a side whose difference of angles is not finite turns by no number in the Rust
+turn-none : (a b : Float) → isFinite (a ⊖ b) ≡ false → turnAlong a b ≡ nan
 unfolding turnAlong
 turn-none a b h = go (a ⊖ b) h
   where
@@ -120,3 +125,71 @@ turn-none a b h = go (a ⊖ b) h
     go nan h = unfold rem lt sub ne ofBits in refl
     go (inf s) h = unfold rem lt sub ne ofBits in refl
     go (fin s m e) h = no' h
+
+-- so that `max` takes it for 0
+max-turn : (x a b : Float) → Floored x → maxOf x (turnAlong a b) ≡ maxOf x (turnsBy a b)
+unfolding turnsBy
+max-turn x a b h = go (isFinite (a ⊖ b)) refl
+  where
+    go : (f : Bool) → isFinite (a ⊖ b) ≡ f → maxOf x (turnAlong a b) ≡ maxOf x (cond f (turnAlong a b) (lit 0))
+    go true e = refl
+    go false e = ap (maxOf x) (turn-none a b e) ∙ max-nan x h ∙ sym (max-zero x h)
+
+pub varies : (a b c : Float) → variation a b c ≡ largest (turnsBy a b) (turnsBy b c) (turnsBy c a)
+unfolding variation
+varies a b c =
+    let h = max-floored (lit 0) (turnsBy a b) zero-floored in
+    let g = max-floored (maxOf (lit 0) (turnsBy a b)) (turnsBy b c) h in
+    ap (λ (x : Float). maxOf (maxOf x (turnAlong b c)) (turnAlong c a)) (max-turn (lit 0) a b zero-floored)
+    ∙ ap (λ (x : Float). maxOf x (turnAlong c a)) (max-turn (maxOf (lit 0) (turnsBy a b)) b c h)
+    ∙ max-turn (maxOf (maxOf (lit 0) (turnsBy a b)) (turnsBy b c)) c a g
+
+-- ---- the turn along a side
+
+pub turns : (a b : Float) → isFinite (a ⊖ b) ≡ true → turnsBy a b ≡ minOf (remEuclid (a ⊖ b) FRAC-PI-2) (FRAC-PI-2 ⊖ remEuclid (a ⊖ b) FRAC-PI-2)
+unfolding turnsBy turnAlong
+turns a b h = rw h
+
+pub endless-difference : (a b : Float) → isFinite (a ⊖ b) ≡ false → turnsBy a b ≡ lit 0
+unfolding turnsBy
+endless-difference a b h = rw h
+
+endless : (a b : Float) → isFinite a && isFinite b ≡ false → isFinite (a ⊖ b) ≡ false
+unfolding sub
+endless nan b h = refl
+endless (inf s) nan h = refl
+endless (inf true) (inf true) h = refl
+endless (inf true) (inf false) h = refl
+endless (inf false) (inf true) h = refl
+endless (inf false) (inf false) h = refl
+endless (inf s) (fin t n d) h = refl
+endless (fin s m e) nan h = refl
+endless (fin s m e) (inf t) h = refl
+endless (fin s m e) (fin t n d) h = no' h
+
+pub endless-angle : (a b : Float) → isFinite a && isFinite b ≡ false → turnsBy a b ≡ lit 0
+endless-angle a b h = endless-difference a b (endless a b h)
+
+-- ---- the test
+
+le-number : (t : Float) → le (lit 0) t ≡ true → ne t t ≡ false
+le-number nan h = no (unfold le ofBits in h)
+le-number (inf true) h = unfold ne in refl
+le-number (inf false) h = unfold ne in refl
+le-number (fin s m e) h = unfold ne in ap not (level-self s (m * up e * down e))
+
+-- the largest of three is above a threshold from 0 on exactly if one is
+above-one : (t x y z : Float) → le (lit 0) t ≡ true → not (le (largest x y z) t) ≡ lt t x || lt t y || lt t z
+above-one t x y z h =
+    let n₁ = max-floored (lit 0) x zero-floored in
+    let n₂ = max-floored (maxOf (lit 0) x) y n₁ in
+    let n₃ = max-floored (maxOf (maxOf (lit 0) x) y) z n₂ in
+    let zero-not : lt t (lit 0) ≡ false = sym (not-le (lit 0) t (zero-floored .0) (le-number t h)) ∙ ap not h in
+    not-le (maxOf (maxOf (maxOf (lit 0) x) y) z) t (n₃ .0) (le-number t h)
+    ∙ lt-max t (maxOf (maxOf (lit 0) x) y) z
+    ∙ ap (λ (q : Bool). q || lt t z) (lt-max t (maxOf (lit 0) x) y ∙ ap (λ (q : Bool). q || lt t y) (lt-max t (lit 0) x ∙ ap (λ (q : Bool). q || lt t x) zero-not))
+
+pub flag-is : (threshold : Float) (alpha : List Float) → le (lit 0) threshold ≡ true → (t : Tri) → flaggedTri threshold alpha t ≡ turnsMore threshold alpha t
+unfolding flaggedTri flagged
+flag-is threshold alpha h (tri a b c) =
+    ap (λ (v : Float). not (le v threshold)) (varies (angle alpha a) (angle alpha b) (angle alpha c)) ∙ above-one threshold _ _ _ h

@@ -1,4 +1,5 @@
 pub mod Runs
+pub mod Triangles
 pub mod Parts
 pub mod Flags
 pub mod Claim

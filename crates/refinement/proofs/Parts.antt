@@ -1,21 +1,21 @@
 -- Triangles and sides in lists of numbers, one more at a time: the cut sides, the pieces and the midpoints of a list with one more triangle or side.
 -- Assumes nothing.
-use Prim.Native.Nat.{ℕ, zero, suc, _+_, _-_, _*_, _^_, _≤_, _<_}
+use Prim.Native.Nat.{ℕ, zero, suc, _+_, _-_, _*_, _≤_}
 use native.Mathlib.Omega.{arith}
 use native.Mathlib.Numerals.{add-one}
-use mathlib.Core.Path.{_≡_, refl, sym, ap, ap₂, _∙_, subst}
+use mathlib.Core.Path.{_≡_, refl, sym, ap, _∙_, subst}
 use mathlib.Core.Logic.{_≢_}
 use mathlib.Core.Bool.{Bool, true, false, cond}
-use mathlib.Core.List.{List, [], _∷_, _++_, append-assoc, append-nil}
+use mathlib.Core.List.{List, [], _∷_, _++_, append-nil}
 use mathlib.Core.Option.{Option, none, some}
-use lib.ListN.{length, getD, take, length-append}
-use lib.Ieee.{Float, nan}
-use Rattle.mesh.specs.Mesh.{Tri, tri, Side, side, key, sides, met, metAll, place, above, mid, sidesAfter, cuts, marked, one, split, pieces, refined}
-use Rattle.mesh.proofs.Theorem.{refined-append}
-use Rattle.edges.specs.Table.{Held, Outside, sidesIn, MetTri, pairs, plus, unplus}
-use Rattle.refinement.specs.Flag.{flaggedTri}
-use Rattle.refinement.specs.Floor.{tris, triAt, cornersOf, endsOf}
-use Rattle.refinement.specs.Steps.{CutStep, CutTo, Rows}
+use lib.ListN.{length, take, replicate, length-append}
+use lib.Seq.{take-append-seam}
+use Rattle.mesh.specs.Mesh.{Tri, tri, Side, sides, metAll, above, sidesAfter, cuts, marked, one, split, pieces, refined}
+use Rattle.edges.specs.Table.{Held, MetTri, pairs, plus, unplus}
+use Rattle.refinement.specs.declared.Cut.{Cut}
+use Rattle.refinement.specs.Floor.{tris, triAt, cornersOf}
+use Rattle.refinement.specs.Steps.{CutStep, CutTo, rowsOf, Rows}
+use Rattle.refinement.proofs.Triangles.{corners-length}
 
 -- ---- one more triangle
 
@@ -55,7 +55,8 @@ one-most false = omega arith
 
 -- ---- the cut sides: a step, and the loop
 
-pub step-flagged : {o N : ℕ} {b : Bool} {w w′ : List ℕ} {m m′ p q r c : ℕ} {t : Tri} → b ≡ true → MetTri o N w m w′ m′ p q r t → CutStep o N b t w m c w′ m′ (c + 1)
+pub step-flagged : {o N : ℕ} {f : Tri → Bool} {w w′ : List ℕ} {m′ p q r : ℕ} {cut : Cut} {t : Tri} → f t ≡ true → MetTri o N w (cut .sides) w′ m′ p q r t
+    → CutStep o N f t w cut w′ (record { sides = m′; flagged = cut .flagged + 1 })
 step-flagged e s = record {
   held = s .held;
   now-cut = rw e (s .now-met);
@@ -65,7 +66,7 @@ step-flagged e s = record {
   outside = s .outside;
 }
 
-pub step-passed : {o N : ℕ} {b : Bool} {w : List ℕ} {m c : ℕ} {t : Tri} → b ≡ false → Held o N w m → CutStep o N b t w m c w m c
+pub step-passed : {o N : ℕ} {f : Tri → Bool} {w : List ℕ} {cut : Cut} {t : Tri} → f t ≡ false → Held o N w (cut .sides) → CutStep o N f t w cut w cut
 step-passed e h = record {
   held = h;
   now-cut = rw e refl;
@@ -86,8 +87,8 @@ cut-none f l h = record {
   outside = record { same = refl; before = λ j q. refl; behind = λ j q. refl };
 }
 
-pub cut-again : {o N : ℕ} {f : Tri → Bool} {l : List ℕ} {i : ℕ} {w w₁ w₂ : List ℕ} {m₁ c₁ m₂ c₂ : ℕ} → CutTo o N f l i w w₁ m₁ c₁
-    → CutStep o N (f (triAt l i)) (triAt l i) w₁ m₁ c₁ w₂ m₂ c₂ → CutTo o N f l (i + 1) w w₂ m₂ c₂
+pub cut-again : {o N : ℕ} {f : Tri → Bool} {l : List ℕ} {i : ℕ} {w w₁ w₂ : List ℕ} {cut₁ cut₂ : Cut} → CutTo o N f l i w w₁ (cut₁ .sides) (cut₁ .flagged)
+    → CutStep o N f (triAt l i) w₁ cut₁ w₂ cut₂ → CutTo o N f l (i + 1) w w₂ (cut₂ .sides) (cut₂ .flagged)
 unfolding tris
 cut-again {f = f} {l} {i} h s =
     rw (add-one i) (record {
@@ -131,12 +132,15 @@ rows-of m {p} {q} {r} {count} {rows} a b c e₁ e₂ e₃ h =
     (subst (λ (o : Option ℕ). Rows (split a b c (m a b) o (unplus r)) count rows) (ap unplus e₂ ∙ unplus-plus (m b c))
     (subst (λ (o : Option ℕ). Rows (split a b c o (unplus q) (unplus r)) count rows) (ap unplus e₁ ∙ unplus-plus (m a b)) h))
 
--- ---- how many
+-- ---- rows of corners
 
-pub tris-length : (l : List ℕ) (i : ℕ) → length (tris l i) ≡ i
-unfolding tris
-tris-length l zero = refl
-tris-length l (suc i) = length-append (tris l i) _ ∙ omega (arith, tris-length l i)
+pub take-rows : {ts : List Tri} {count : ℕ} {rows : List ℕ} → Rows ts count rows → take (3 * count) rows ≡ cornersOf ts
+unfolding rowsOf
+take-rows {ts} {count} {rows} h =
+    let e : 3 * count ≡ length (cornersOf ts) = omega (arith, h .many, corners-length ts) in
+    rw (h .corners, e) (take-append-seam (cornersOf ts) (replicate (12 - 3 * length ts) 0))
+
+-- ---- how many
 
 -- a triangle has at most four pieces
 pub four : (m : ℕ → ℕ → Option ℕ) (t : Tri) → length (pieces m t) ≤ 4

@@ -1,7 +1,6 @@
 -- The refinement of a floor, as one definition: points, sizes, triangles, cut sides and the count of flagged triangles, all that refine_once returns.
 -- Beside it, triangles and sides as they lie in a list of numbers. Definitions only.
 use Prim.Native.Nat.{ℕ, zero, suc, _+_, _*_, _/_}
-use mathlib.Core.Bool.{Bool}
 use mathlib.Core.List.{List, [], _∷_, _++_}
 use lib.ListN.{length, getD, drop}
 use lib.Ieee.{Float}

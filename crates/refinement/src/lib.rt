@@ -64,7 +64,7 @@ fn cut_triangle(
 ) -> Cut
     requires { ⌜ Held base nb (now w) (cut .sides) ⌝ }
     requires { ⌜ (3 * i + 3 ≤ length (now l)) × ((base + nb + 3 * (cut .sides + 3) ≤ length (now w)) × ((cut .sides + 3 < 2 ^ 32) × (cut .flagged < 2 ^ 32))) ⌝ }
-    ensures { λ r. ⌜ CutStep base nb (flaggedTri threshold (now (alpha .entry)) (triAt (now (l .entry)) i)) (triAt (now (l .entry)) i) (now (w .entry)) (cut .sides) (cut .flagged) (now (w .exit)) (r .sides) (r .flagged) ⌝ }
+    ensures { λ r. ⌜ CutStep base nb (flaggedTri threshold (now (alpha .entry))) (triAt (now (l .entry)) i) (now (w .entry)) cut (now (w .exit)) r ⌝ }
 {
     let a = l[3 * i];
     let b = l[3 * i + 1];
@@ -118,7 +118,7 @@ pub fn middle(w: &[u32], base: usize, nb: usize, m: usize, n: usize, u: u32, v: 
     (n + r) as u32
 }
 
-// The pieces of a triangle: how many, and their corners in list order.
+// The pieces of a triangle: how many, and their corners in list order, with 0 behind them.
 pub struct Pieces {
     pub count: usize,
     pub rows: [u32; 12],

@@ -1,10 +1,7 @@
 -- `refine_call::refine` meets its contract: each return opens the definition and rewrites it by the tests and the calls on its way; the laws are in proofs/Facts.
 use borrow.Author.Needs.{needs}
-use mathlib.Core.Path.{_≡_, refl, sym, ap, _∙_, subst}
-use native.Mathlib.Omega.{arith}
-use borrow.Author.Tests.{eq-eqb, ne-eqb, le-ltb, lt-ltb}
-use Rattle.refine_call.specs.Call.{badThreshold, short, andThen, checkRest, checkCall, passedUp, Roomy}
-use Rattle.refine_call.proofs.Facts.{formed, roomy, zeros-held, filled, called-refused, called-done, rest-sound, rest-refused}
+use mathlib.Core.Path.{sym, _∙_}
+use Rattle.refine_call.proofs.Facts.{roomy, called-refused, called-done}
 use Rattle.refine_call.proofs.refine.Statement.{statement}
 use Rattle.refine_call.proofs.refine.Tie as tie
 

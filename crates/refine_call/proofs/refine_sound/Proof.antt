@@ -1,10 +1,6 @@
 -- `refine_call::refine_sound` is safe: what it calls asks holds where it is called; the laws are in proofs/Facts.
 use borrow.Author.Needs.{needs}
-use mathlib.Core.Path.{_≡_, refl, sym, ap, _∙_, subst}
-use native.Mathlib.Omega.{arith}
-use borrow.Author.Tests.{eq-eqb, ne-eqb, le-ltb, lt-ltb}
-use Rattle.refine_call.specs.Call.{badThreshold, short, andThen, checkRest, checkCall, passedUp, Roomy}
-use Rattle.refine_call.proofs.Facts.{formed, roomy, zeros-held, filled, called-refused, called-done, rest-sound, rest-refused}
+use Rattle.refine_call.proofs.Facts.{zeros-held}
 use Rattle.refine_call.proofs.refine_sound.Statement.{statement}
 use Rattle.refine_call.proofs.refine_sound.Tie as tie
 

@@ -1,6 +1,5 @@
 -- `refine_floor::put_mid_size` meets its contract: each return opens the definition and rewrites it by the tests and the calls on its way; the laws are in proofs/Parts.
 use borrow.Author.Needs.{needs}
-use Prim.Native.Nat.{_-_}
 use Rattle.refine_floor.proofs.put_mid_size.Statement.{statement}
 use Rattle.refine_floor.proofs.put_mid_size.Tie as tie
 

@@ -1,6 +1,5 @@
 -- `refine_floor::refine_triangle` meets its contract: each return opens the definition and rewrites it by the tests and the calls on its way; the laws are in proofs/Parts.
 use borrow.Author.Needs.{needs}
-use Prim.Native.Nat.{_-_}
 use Rattle.refine_floor.proofs.Parts.{pieces-put}
 use Rattle.refine_floor.proofs.refine_triangle.Statement.{statement}
 use Rattle.refine_floor.proofs.refine_triangle.Tie as tie

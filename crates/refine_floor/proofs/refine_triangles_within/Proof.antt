@@ -17,7 +17,7 @@ loop-holds : tie.Need-loop-holds Inv-loop μ-loop
 loop-holds c = (omega arith, within-none _ _ _ _ _ _ _ (c .before .before .pre .0))
 
 refine-triangle-within-requires : tie.Need-refine-triangle-within-requires Inv-loop μ-loop
-refine-triangle-within-requires c κs = (c .before .before .loop .inv .1 .held, (omega arith, (c .before .before .before .before .before .pre .1 .0 .1, omega (arith, c .before .before .loop .inv .1 .few, c .before .before .loop .inv .1 .same-length))))
+refine-triangle-within-requires c κs = (c .before .before .loop .inv .1 .held, (omega arith, (c .before .before .before .before .before .pre .1 .0 .1, omega (arith, c .before .before .loop .inv .1 .stands .few, c .before .before .loop .inv .1 .stands .same-length))))
 
 add-i : tie.Need-add-i Inv-loop μ-loop
 add-i c = search needs
@@ -29,10 +29,10 @@ loop-again : tie.Need-loop-again Inv-loop μ-loop
 loop-again c = (omega arith, within-again (c .before .before .before .before .before .before .before .before .pre .1 .1 .0) (c .before .before .before .before .before .before .before .before .pre .0) (c .before .before .before .before .before .loop .inv .1) (c .before .before .refine-triangle-within .ensures))
 
 same-length : tie.Need-same-length Inv-loop μ-loop
-same-length c = c .before .loop .inv .1 .same-length
+same-length c = c .before .loop .inv .1 .stands .same-length
 
 returns : tie.Need-returns Inv-loop μ-loop
-returns c = let e : c .before .loop .i ≡ c .before .before .before .before .args .t = omega arith in rw e at (c .before .loop .inv .1 .stands)
+returns c = let e : c .before .loop .i ≡ c .before .before .before .before .args .t = omega arith in rw e at (c .before .loop .inv .1 .stands .stored)
 
 pub refine-triangles-within-spec : {M : Type 1} → statement M
 refine-triangles-within-spec =

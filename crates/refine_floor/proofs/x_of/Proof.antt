@@ -1,6 +1,5 @@
 -- `refine_floor::x_of` meets its contract: each return opens the definition and rewrites it by the tests and the calls on its way.
 use borrow.Author.Needs.{needs}
-use Prim.Native.Nat.{_-_}
 use mathlib.Core.Path.{_∙_}
 use Rattle.refine_floor.proofs.x_of.Statement.{statement}
 use Rattle.refine_floor.proofs.x_of.Tie as tie

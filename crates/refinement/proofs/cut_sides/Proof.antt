@@ -1,8 +1,8 @@
 -- `refinement::cut_sides` meets its contract: the loop keeps what `Inv-loop` says, and what is left to do falls at each turn; the laws are in proofs/Parts.
 use borrow.Author.Needs.{needs}
-use mathlib.Core.Path.{_≡_, refl, sym, ap, _∙_}
+use mathlib.Core.Path.{_≡_}
 use native.Mathlib.Omega.{arith}
-use Rattle.refinement.proofs.Parts.{step-flagged, step-passed, cut-none, cut-again, unplus-none, unplus-some, above-plus, above-zero, rows-of}
+use Rattle.refinement.proofs.Parts.{cut-none, cut-again}
 use Prim.Native.Nat.{_-_, _≤_}
 use Rattle.refinement.specs.Flag.{flaggedTri}
 use Rattle.refinement.specs.Steps.{CutTo}

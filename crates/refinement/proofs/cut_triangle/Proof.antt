@@ -1,8 +1,7 @@
 -- `refinement::cut_triangle` meets its contract: each return opens the definition and rewrites it by the tests and the calls on its way; the laws are in proofs/Parts.
 use borrow.Author.Needs.{needs}
-use mathlib.Core.Path.{_≡_, refl, sym, ap, _∙_}
-use native.Mathlib.Omega.{arith}
-use Rattle.refinement.proofs.Parts.{step-flagged, step-passed, cut-none, cut-again, unplus-none, unplus-some, above-plus, above-zero, rows-of}
+use mathlib.Core.Path.{sym, _∙_}
+use Rattle.refinement.proofs.Parts.{step-flagged, step-passed}
 use Rattle.refinement.proofs.cut_triangle.Statement.{statement}
 use Rattle.refinement.proofs.cut_triangle.Tie as tie
 

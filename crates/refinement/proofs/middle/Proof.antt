@@ -1,8 +1,6 @@
 -- `refinement::middle` meets its contract: each return opens the definition and rewrites it by the tests and the calls on its way; the laws are in proofs/Parts.
 use borrow.Author.Needs.{needs}
-use mathlib.Core.Path.{_≡_, refl, sym, ap, _∙_}
-use native.Mathlib.Omega.{arith}
-use Rattle.refinement.proofs.Parts.{step-flagged, step-passed, cut-none, cut-again, unplus-none, unplus-some, above-plus, above-zero, rows-of}
+use Rattle.refinement.proofs.Parts.{above-plus, above-zero}
 use Rattle.mesh.specs.Mesh.{mid, place, key}
 use Rattle.edges.specs.Table.{sidesIn}
 use Rattle.refinement.proofs.middle.Statement.{statement}

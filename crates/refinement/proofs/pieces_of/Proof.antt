@@ -2,9 +2,7 @@
 use Rattle.mesh.specs.Mesh.{mid}
 use Rattle.edges.specs.Table.{sidesIn}
 use borrow.Author.Needs.{needs}
-use mathlib.Core.Path.{_≡_, refl, sym, ap, _∙_}
-use native.Mathlib.Omega.{arith}
-use Rattle.refinement.proofs.Parts.{step-flagged, step-passed, cut-none, cut-again, unplus-none, unplus-some, above-plus, above-zero, rows-of}
+use Rattle.refinement.proofs.Parts.{rows-of}
 use Rattle.refinement.proofs.pieces_of.Statement.{statement}
 use Rattle.refinement.proofs.pieces_of.Tie as tie
 

@@ -1,6 +1,6 @@
 -- `refinement::put_rows` meets its contract: the loop keeps what `Inv-loop` says, and what is left to do falls at each turn; the laws are in crate runs, proofs/Runs.
 use borrow.Author.Needs.{needs}
-use mathlib.Core.Path.{_≡_, refl, sym, ap, _∙_}
+use mathlib.Core.Path.{_≡_, refl, ap, _∙_}
 use native.Mathlib.Omega.{arith}
 use Prim.Native.Nat.{_-_, _≤_}
 use lib.ListN.{length, take}

@@ -1,14 +1,15 @@
 -- `refinement::split_triangle` meets its contract: each return opens the definition and rewrites it by the tests and the calls on its way; the laws are in proofs/Parts.
 use borrow.Author.Needs.{needs}
-use mathlib.Core.Path.{_≡_, refl, sym, ap, _∙_}
+use mathlib.Core.Path.{refl}
 use native.Mathlib.Omega.{arith}
-use Rattle.refinement.proofs.Parts.{step-flagged, step-passed, cut-none, cut-again, unplus-none, unplus-some, above-plus, above-zero, rows-of}
+use Rattle.refinement.proofs.Parts.{unplus-none, unplus-some}
 use Rattle.refinement.specs.Floor.{cornersOf}
+use Rattle.refinement.specs.Steps.{rowsOf}
 use Rattle.refinement.proofs.split_triangle.Statement.{statement}
 use Rattle.refinement.proofs.split_triangle.Tie as tie
 
 returns : tie.Need-returns
-unfolding cornersOf
+unfolding cornersOf rowsOf
 returns c = rw (unplus-none _ (c .before .before .if1 .taken), unplus-none _ (c .before .if2 .taken), unplus-none _ (c .if3 .taken)) (record { many = refl; few = omega arith; corners = refl })
 
 sub-t11 : tie.Need-sub-t11
@@ -18,7 +19,7 @@ sub-t12 : tie.Need-sub-t12
 sub-t12 c = search needs
 
 returns-2 : tie.Need-returns-2
-unfolding cornersOf
+unfolding cornersOf rowsOf
 returns-2 c = rw (unplus-none _ (c .before .before .if1 .taken), unplus-none _ (c .before .if2 .taken), unplus-some _ (c .if3 .left)) (record { many = refl; few = omega arith; corners = refl })
 
 sub-t14 : tie.Need-sub-t14
@@ -28,7 +29,7 @@ sub-t15 : tie.Need-sub-t15
 sub-t15 c = search needs
 
 returns-3 : tie.Need-returns-3
-unfolding cornersOf
+unfolding cornersOf rowsOf
 returns-3 c = rw (unplus-none _ (c .before .before .if1 .taken), unplus-some _ (c .before .if2 .left), unplus-none _ (c .if4 .taken)) (record { many = refl; few = omega arith; corners = refl })
 
 sub-t17 : tie.Need-sub-t17
@@ -47,7 +48,7 @@ sub-t21 : tie.Need-sub-t21
 sub-t21 c = search needs
 
 returns-4 : tie.Need-returns-4
-unfolding cornersOf
+unfolding cornersOf rowsOf
 returns-4 c = rw (unplus-none _ (c .before .before .if1 .taken), unplus-some _ (c .before .if2 .left), unplus-some _ (c .if4 .left)) (record { many = refl; few = omega arith; corners = refl })
 
 sub-t24 : tie.Need-sub-t24
@@ -57,7 +58,7 @@ sub-t25 : tie.Need-sub-t25
 sub-t25 c = search needs
 
 returns-5 : tie.Need-returns-5
-unfolding cornersOf
+unfolding cornersOf rowsOf
 returns-5 c = rw (unplus-some _ (c .before .before .if1 .left), unplus-none _ (c .before .if5 .taken), unplus-none _ (c .if6 .taken)) (record { many = refl; few = omega arith; corners = refl })
 
 sub-t27 : tie.Need-sub-t27
@@ -76,7 +77,7 @@ sub-t31 : tie.Need-sub-t31
 sub-t31 c = search needs
 
 returns-6 : tie.Need-returns-6
-unfolding cornersOf
+unfolding cornersOf rowsOf
 returns-6 c = rw (unplus-some _ (c .before .before .if1 .left), unplus-none _ (c .before .if5 .taken), unplus-some _ (c .if6 .left)) (record { many = refl; few = omega arith; corners = refl })
 
 sub-t33 : tie.Need-sub-t33
@@ -95,7 +96,7 @@ sub-t37 : tie.Need-sub-t37
 sub-t37 c = search needs
 
 returns-7 : tie.Need-returns-7
-unfolding cornersOf
+unfolding cornersOf rowsOf
 returns-7 c = rw (unplus-some _ (c .before .before .if1 .left), unplus-some _ (c .before .if5 .left), unplus-none _ (c .if7 .taken)) (record { many = refl; few = omega arith; corners = refl })
 
 sub-t39 : tie.Need-sub-t39
@@ -126,7 +127,7 @@ sub-t47 : tie.Need-sub-t47
 sub-t47 c = search needs
 
 returns-8 : tie.Need-returns-8
-unfolding cornersOf
+unfolding cornersOf rowsOf
 returns-8 c = rw (unplus-some _ (c .before .before .if1 .left), unplus-some _ (c .before .if5 .left), unplus-some _ (c .if7 .left)) (record { many = refl; few = omega arith; corners = refl })
 
 pub split-triangle-spec : {M : Type 1} → statement M
