@@ -22,15 +22,15 @@ module _ {ℓ} {A : Type ℓ} (d : A) (w : List A) (b n : ℕ) (f : ℕ → A) w
   unfolding writeTo
   length-writeTo i = length-over _ d i (region d w b n) ∙ length-region d w b n
 
-  write-none : w ≡ put w b (writeTo 0)
+  pub write-none : w ≡ put w b (writeTo 0)
   unfolding writeTo
   write-none = rw (over-none, put-region)
 
-  write-again : b + n ≤ length w → (i : ℕ) → i < n → {w₁ w₂ : List A} → w₁ ≡ put w b (writeTo i) → w₂ ≡ set w₁ (b + i) (f i) → w₂ ≡ put w b (writeTo (i + 1))
+  pub write-again : b + n ≤ length w → (i : ℕ) → i < n → {w₁ w₂ : List A} → w₁ ≡ put w b (writeTo i) → w₂ ≡ set w₁ (b + i) (f i) → w₂ ≡ put w b (writeTo (i + 1))
   unfolding writeTo
   write-again h i l e₁ e₂ = e₂ ∙ rw e₁ (over-region (λ j z. f j) d w b (region d w b n) (length-region d w b n) h i l)
 
-  write-done : {w₁ : List A} {i : ℕ} → i ≤ n → n ≤ i → w₁ ≡ put w b (writeTo i) → w₁ ≡ put w b (tab f n)
+  pub write-done : {w₁ : List A} {i : ℕ} → i ≤ n → n ≤ i → w₁ ≡ put w b (writeTo i) → w₁ ≡ put w b (tab f n)
   unfolding writeTo
   write-done {w₁} {i} l g e =
       let z : i ≡ n = omega arith in

@@ -1,0 +1,84 @@
+-- What stands at each place of a refined floor's points: the old point there, or the midpoint of a cut side. And the loops that store planes. Assumes nothing.
+use Prim.Native.Nat.{ℕ, zero, suc, _+_, _*_, _/_, _-_, _≤_, _<_}
+use native.Mathlib.Omega.{arith}
+use native.Mathlib.Decide.{ℕ-discrete}
+use mathlib.Core.Path.{_≡_, refl, sym, ap, _∙_}
+use mathlib.Core.List.{List, [], _∷_, _++_}
+use lib.ListN.{length, getD, List·getD-append}
+use lib.Seq.{getD-append-add, ext-getD}
+use lib.Ieee.{Float, nan}
+use Rattle.cells.specs.Region.{tab, put}
+use Rattle.cells.proofs.Loops.{length-tab, getD-tab}
+use Rattle.mesh.specs.Mesh.{Side, side}
+use Rattle.areas.specs.Area.{halfway}
+use Rattle.areas.specs.Points.{midpoint, midpoints, morePoints}
+use Rattle.edges.specs.Table.{pairs}
+use Rattle.edges.proofs.Chain.{length-pairs}
+use Rattle.planes.specs.declared.Cuts.{Cuts}
+use Rattle.planes.specs.Planes.{cutsIn, midwayAt, coordinateAt, coordinatePlane, PointsIn}
+
+mids-at : (pts : List Float) (l : List Side) (j k : ℕ) → k < 3 → j < length l → getD (midpoints pts l) (3 * j + k) nan ≡ getD (midpoint pts (getD l j (side 0 0))) k nan
+unfolding midpoints
+mids-at pts [] j k b h = absurd (omega arith)
+mids-at pts (s ∷ l) zero k b h = let e : 3 * 0 + k ≡ k = omega arith in rw e (List·getD-append (midpoint pts s) (midpoints pts l) nan k b)
+mids-at pts (s ∷ l) (suc j) k b h =
+    let e : 3 * suc j + k ≡ 3 + (3 * j + k) = omega arith in
+    rw e (getD-append-add (midpoint pts s) (midpoints pts l) (3 * j + k) nan ∙ mids-at pts l j k b (omega arith))
+
+pairs-at : (lo hi : ℕ → ℕ) (m j : ℕ) → j < m → getD (pairs lo hi m) j (side 0 0) ≡ side (lo j) (hi j)
+unfolding pairs
+pairs-at lo hi zero j h = absurd (omega arith)
+pairs-at lo hi (suc m) j h = go (ℕ-discrete j m) (pairs-at lo hi m j)
+  where
+    go : Dec (j ≡ m) → (j < m → getD (pairs lo hi m) j (side 0 0) ≡ side (lo j) (hi j)) → getD (pairs lo hi m ++ (side (lo m) (hi m) ∷ [])) j (side 0 0) ≡ side (lo j) (hi j)
+    go (yes e) before =
+        let i : j ≡ length (pairs lo hi m) + 0 = omega (arith, length-pairs lo hi m) in
+        ap (λ (k : ℕ). getD (pairs lo hi m ++ (side (lo m) (hi m) ∷ [])) k (side 0 0)) i ∙ getD-append-add (pairs lo hi m) (side (lo m) (hi m) ∷ []) 0 (side 0 0) ∙ rw e
+    go (no e) before = List·getD-append (pairs lo hi m) (side (lo m) (hi m) ∷ []) (side 0 0) j (omega (arith, length-pairs lo hi m)) ∙ before (omega arith)
+
+pub cuts-length : (c : Cuts) (u : List ℕ) → length (cutsIn c u) ≡ c .sides
+unfolding cutsIn
+cuts-length c u = length-pairs (λ k. getD u (c .ends + 3 * k) 0) (λ k. getD u (c .ends + 3 * k + 1) 0) (c .sides)
+
+-- an old point
+pub old-coordinate : (pts : List Float) (l : List Side) (k v : ℕ) → k < 2 → length pts ≡ 3 * (length pts / 3) → v < length pts / 3 → getD pts (3 * v + k) nan ≡ coordinateAt pts l k v
+unfolding coordinateAt morePoints
+old-coordinate pts l k v b whole h = sym (List·getD-append pts (midpoints pts l) nan (3 * v + k) (omega arith))
+
+midpoint-at : (pts : List Float) (s : Side) (a b k : ℕ) → k < 2 → s ≡ side a b → getD (midpoint pts s) k nan ≡ halfway (getD pts (3 * a + k) nan) (getD pts (3 * b + k) nan)
+midpoint-at pts s a b zero h e =
+    let p : 3 * a + 0 ≡ 3 * a = omega arith in
+    let q : 3 * b + 0 ≡ 3 * b = omega arith in
+    rw (e, p, q)
+midpoint-at pts s a b (suc zero) h e = rw e
+midpoint-at pts s a b (suc (suc k)) h e = absurd (omega arith)
+
+-- a midpoint
+pub new-coordinate : (pts : List Float) (c : Cuts) (u : List ℕ) (k v : ℕ) → k < 2 → length pts ≡ 3 * (length pts / 3) → length pts / 3 ≤ v → v < length pts / 3 + c .sides
+    → midwayAt pts c u k (v - length pts / 3) ≡ coordinateAt pts (cutsIn c u) k v
+unfolding coordinateAt morePoints midwayAt
+new-coordinate pts c u k v b whole h g =
+    let j = v - length pts / 3 in
+    let i : 3 * v + k ≡ length pts + (3 * j + k) = omega arith in
+    let m : j < length (cutsIn c u) = omega (arith, cuts-length c u) in
+    sym (ap (λ (x : ℕ). getD (pts ++ midpoints pts (cutsIn c u)) x nan) i
+    ∙ getD-append-add pts (midpoints pts (cutsIn c u)) (3 * j + k) nan
+    ∙ mids-at pts (cutsIn c u) j k (omega arith) m
+    ∙ midpoint-at pts (getD (cutsIn c u) j (side 0 0)) (getD u (c .ends + 3 * j) 0) (getD u (c .ends + 3 * j + 1) 0) k b (at j (omega arith)))
+  where
+    at : (j : ℕ) → j < c .sides → getD (cutsIn c u) j (side 0 0) ≡ side (getD u (c .ends + 3 * j) 0) (getD u (c .ends + 3 * j + 1) 0)
+    at j h = unfold cutsIn in pairs-at (λ k. getD u (c .ends + 3 * k) 0) (λ k. getD u (c .ends + 3 * k + 1) 0) (c .sides) j h
+
+-- ---- the loop
+
+pub plane-done : (w : List Float) (at : ℕ) (pts : List Float) (c : Cuts) (u : List ℕ) (k : ℕ) {w₁ : List Float}
+    → w₁ ≡ put w at (tab (coordinateAt pts (cutsIn c u) k) (length pts / 3 + c .sides)) → w₁ ≡ put w at (coordinatePlane pts (cutsIn c u) k)
+unfolding coordinatePlane
+plane-done w at pts c u k e = e ∙ rw (cuts-length c u)
+
+-- a list that is stored element by element
+pub list-done : (w : List ℕ) (at : ℕ) (l : List ℕ) {w₁ : List ℕ} → w₁ ≡ put w at (tab (λ j. getD l j 0) (length l)) → w₁ ≡ put w at l
+list-done w at l e = e ∙ ap (put w at) (tab-getD l)
+  where
+    tab-getD : (l : List ℕ) → tab (λ j. getD l j 0) (length l) ≡ l
+    tab-getD l = ext-getD 0 _ l (length-tab _ (length l)) (λ i h. getD-tab _ (length l) i 0 (omega (arith, length-tab (λ j. getD l j 0) (length l))))
