@@ -1,5 +1,5 @@
 // Midpoints and areas of a refined floor. specs/Points.antt has its points and sizes in floating point, specs/Area.antt exact areas on whole
-// coordinates, and the proofs show that there midpoints are exact and that the pieces of each triangle have its area.
+// coordinates, and specs/Claim.antt what is proved of them: old points stay, midpoints are exact, and the pieces of each triangle have its area.
 ghost use mathlib.Core.Path.{_≡_};
 ghost use Rattle.areas.specs.Area.{halfway};
 

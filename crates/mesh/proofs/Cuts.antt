@@ -168,11 +168,11 @@ place-end s (x ∷ l) h = go (place-end s l) (side-discrete s x)
 -- "in order first met": a side that is met goes behind all that were met before, unless it is there
 met-behind : (l : List Side) (s : Side) → met l s ≡ l ++ cond (isNone (place s l)) (s ∷ []) []
 unfolding met
-met-behind l s = go (isNone (place s l)) refl
+met-behind l s = go (isNone (place s l))
   where
-    go : (b : Bool) → isNone (place s l) ≡ b → met l s ≡ l ++ cond b (s ∷ []) []
-    go true e = rw e
-    go false e = rw e (sym (append-nil l))
+    go : (b : Bool) → cond b (l ++ (s ∷ [])) l ≡ l ++ cond b (s ∷ []) []
+    go true = refl
+    go false = sym (append-nil l)
 
 pub met-new : (l : List Side) (s : Side) → place s l ≡ none → met l s ≡ l ++ (s ∷ [])
 met-new l s h = met-behind l s ∙ rw h

@@ -81,7 +81,7 @@ uncut n u v f ts ne h =
 
 -- ---- the claim
 
-count-swap : (x y : ℕ) (ts : List Tri) → count x y ts ≡ count y x ts
+pub count-swap : (x y : ℕ) (ts : List Tri) → count x y ts ≡ count y x ts
 unfolding lies
 count-swap x y [] = refl
 count-swap x y (t ∷ ts) = ap₂ _+_ (ap one (and-comm (at x t) (at y t))) (count-swap x y ts)

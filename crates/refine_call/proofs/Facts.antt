@@ -36,15 +36,15 @@ use Rattle.refine_call.specs.Call.{passedUp, Called, FilledFor, badThres
 no : {A : Type 0} (x : Refusal) → Refused x ≡ Sound → A
 no x e = let z : _≡_ {A = ℕ} 0 1 = cc in absurd (omega arith)
 
-passed : (b : Bool) (x : Refusal) (rest : Check) → cond b (Refused x) rest ≡ Sound → (b ≡ false) × (rest ≡ Sound)
+pub passed : (b : Bool) (x : Refusal) (rest : Check) → cond b (Refused x) rest ≡ Sound → (b ≡ false) × (rest ≡ Sound)
 passed true x rest e = no x e
 passed false x rest e = (refl, e)
 
-passed-last : (b : Bool) (x : Refusal) (rest : Check) → cond b rest (Refused x) ≡ Sound → (b ≡ true) × (rest ≡ Sound)
+pub passed-last : (b : Bool) (x : Refusal) (rest : Check) → cond b rest (Refused x) ≡ Sound → (b ≡ true) × (rest ≡ Sound)
 passed-last true x rest e = (refl, e)
 passed-last false x rest e = no x e
 
-passed-both : (c rest : Check) → andThen c rest ≡ Sound → (c ≡ Sound) × (rest ≡ Sound)
+pub passed-both : (c rest : Check) → andThen c rest ≡ Sound → (c ≡ Sound) × (rest ≡ Sound)
 passed-both Sound rest e = (refl, e)
 passed-both (Refused x) rest e = no x e
 
@@ -52,7 +52,7 @@ and-both : (a b : Bool) → (a && b) ≡ true → (a ≡ true) × (b ≡ true)
 and-both true b e = (refl, e)
 and-both false b e = let z : _≡_ {A = ℕ} 0 1 = cc in absurd (omega arith)
 
-or-none : (a b : Bool) → (a || b) ≡ false → (a ≡ false) × (b ≡ false)
+pub or-none : (a b : Bool) → (a || b) ≡ false → (a ≡ false) × (b ≡ false)
 or-none false b e = (refl, e)
 or-none true b e = let z : _≡_ {A = ℕ} 0 1 = cc in absurd (omega arith)
 
@@ -72,13 +72,13 @@ formed p q e =
     let c = and-both (leb (p / 3) 16384) _ (b .1) in
     (leb-true (p / 3) 16384 (c .0), leb-true (q / 3) 32768 (c .1))
 
-whole-points : (p q : ℕ) → wellFormed p q ≡ true → p ≡ 3 * (p / 3)
+pub whole-points : (p q : ℕ) → wellFormed p q ≡ true → p ≡ 3 * (p / 3)
 unfolding wellFormed
 whole-points p q e =
     let a = eqb-true (p % 3) 0 (and-both (eqb (p % 3) 0) _ e .0) in
     omega (arith, div-add-mod' p 3, a)
 
-sizes-are : (points : List Float) (triangles : List ℕ) (sizes : List Float) → checkFloor points triangles sizes ≡ Sound → length sizes ≡ length points / 3
+pub sizes-are : (points : List Float) (triangles : List ℕ) (sizes : List Float) → checkFloor points triangles sizes ≡ Sound → length sizes ≡ length points / 3
 unfolding checkFloor
 sizes-are points triangles sizes e =
     let a = passed (eqb (length points / 3) 0) (row 3) _ e in

@@ -1,5 +1,6 @@
 // Refinement as a call of its own, with the angles given: document 01's refusals, and refine_once's floor in four lent slices.
-// No work is lent to it: the table of the cut sides stands in an array of its own. specs/Call.antt says what it answers and writes.
+// No work is lent to it: the table of the cut sides stands in an array of its own. specs/Call.antt says what it answers and writes, specs/Claim.antt
+// what holds of that.
 ghost use mathlib.Core.Path.{_≡_};
 ghost use Prim.Native.Nat.{_+_, _*_, _/_, _<_, _≤_};
 ghost use lib.ListN.{length};

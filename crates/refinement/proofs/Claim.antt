@@ -8,6 +8,7 @@ use lib.Ieee.{Float, le}
 use Rattle.float.specs.Double.{lit}
 use Rattle.mesh.specs.Mesh.{Tri, All, Good, cuts, marked}
 use Rattle.mesh.proofs.Theorem.{refines}
+use Rattle.mesh.proofs.Good.{refined-good}
 use Rattle.areas.proofs.Points.{placed, floor-keeps-area, points-length, sizes-length}
 use Rattle.refinement.specs.Flag.{flaggedTri}
 use Rattle.refinement.specs.Floor.{refinementOf}
@@ -30,6 +31,7 @@ module _ (threshold : Float) (alpha points sizes : List Float) (ts : List Tri) (
         endless-difference = endless-difference;
         flag = flag-is threshold alpha low;
         sides = refines (countOf points) (flaggedTri threshold alpha) ts good;
+        good = refined-good (countOf points) (flaggedTri threshold alpha) ts good;
         placed = placed (countOf points) points sizes cut whole sized;
         areas = floor-keeps-area (countOf points) points sizes cut whole sized ts good;
         flagged-count = flagged-places threshold alpha points sizes ts;

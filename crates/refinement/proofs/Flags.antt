@@ -178,6 +178,16 @@ le-number (inf true) h = unfold ne in refl
 le-number (inf false) h = unfold ne in refl
 le-number (fin s m e) h = unfold ne in ap not (level-self s (m * up e * down e))
 
+-- what row 12 leaves
+pub low : (t : Float) → isFinite t ≡ true → lt t (lit 0) ≡ false → le (lit 0) t ≡ true
+low nan f h = no f
+low (inf s) f h = no f
+low (fin s m e) f h = back (le (lit 0) (fin s m e)) (not-le (lit 0) (fin s m e) (zero-floored .0) (unfold ne in ap not (level-self s (m * up e * down e))) ∙ h)
+  where
+    back : (b : Bool) → not b ≡ false → b ≡ true
+    back true e = refl
+    back false e = no' e
+
 -- the largest of three is above a threshold from 0 on exactly if one is
 above-one : (t x y z : Float) → le (lit 0) t ≡ true → not (le (largest x y z) t) ≡ lt t x || lt t y || lt t z
 above-one t x y z h =

@@ -1,12 +1,19 @@
--- Triangles as they lie in a list of numbers, three corners each: how many they are, and the same triangles in a longer slice. Assumes nothing.
+-- Triangles as they lie in a list of numbers, three corners each: how many they are, the same triangles in a longer slice, and
+-- their corners in range. Assumes nothing.
 use Prim.Native.Nat.{ℕ, zero, suc, _+_, _*_, _<_}
 use native.Mathlib.Omega.{arith}
 use mathlib.Core.Path.{_≡_, refl, ap, _∙_}
+use mathlib.Core.Bool.{Bool, true, false, _||_}
 use mathlib.Core.List.{List, [], _∷_, _++_}
+use borrow.Author.Tests.{leb-false}
+use lib.Dec.{leb}
 use lib.ListN.{length, getD, length-append}
-use Rattle.mesh.specs.Mesh.{Tri, tri}
+use Rattle.mesh.specs.Mesh.{Tri, tri, All}
+use Rattle.mesh.specs.Claim.{InRange}
+use Rattle.mesh.proofs.Whole.{All-append}
 use Rattle.edges.specs.Numbering.{trisFrom}
-use Rattle.refinement.specs.Floor.{tris, cornersOf}
+use Rattle.floor.specs.Checks.{badCorner}
+use Rattle.refinement.specs.Floor.{triAt, tris, cornersOf}
 
 pub tris-length : (l : List ℕ) (i : ℕ) → length (tris l i) ≡ i
 unfolding tris
@@ -50,3 +57,21 @@ tris-held c (suc t) u l h =
     let e₁ : c + (3 * t + 1) ≡ c + 3 * t + 1 = omega arith in
     let e₂ : c + (3 * t + 2) ≡ c + 3 * t + 2 = omega arith in
     rw (tris-held c t u l (λ j g. h j (omega arith)), h (3 * t) (omega arith), ← e₁, ← e₂, h (3 * t + 1) (omega arith), h (3 * t + 2) (omega arith))
+
+-- ---- corners in range: what row 8 leaves
+
+or-none : (a b : Bool) → (a || b) ≡ false → (a ≡ false) × (b ≡ false)
+or-none false b e = (refl, e)
+or-none true b e = let z : _≡_ {A = ℕ} 0 1 = cc in absurd (omega arith)
+
+corner-in : (l : List ℕ) (n i : ℕ) → badCorner l n i ≡ false → InRange n (triAt l i)
+unfolding badCorner
+corner-in l n i e =
+    let a = or-none (leb n (getD l (3 * i) 0)) _ e in
+    let b = or-none (leb n (getD l (3 * i + 1) 0)) _ (a .1) in
+    (leb-false n (getD l (3 * i) 0) (a .0), leb-false n (getD l (3 * i + 1) 0) (b .0), leb-false n (getD l (3 * i + 2) 0) (b .1))
+
+pub in-range : (l : List ℕ) (n t : ℕ) → ((i : ℕ) → i < t → badCorner l n i ≡ false) → All (InRange n) (tris l t)
+unfolding tris
+in-range l n zero h = tt
+in-range l n (suc t) h = All-append (InRange n) (tris l t) (triAt l t ∷ []) (in-range l n t (λ i q. h i (omega arith))) (corner-in l n t (h t (omega arith)), tt)

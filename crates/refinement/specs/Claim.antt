@@ -8,7 +8,7 @@ use mathlib.Core.Option.{Option}
 use lib.ListN.{length}
 use lib.Ieee.{Float}
 use Rattle.float.specs.Double.{lit, isFinite, remEuclid, minOf, FRAC-PI-2, _⊖_}
-use Rattle.mesh.specs.Mesh.{Tri, mid, marked}
+use Rattle.mesh.specs.Mesh.{Tri, mid, marked, All, Good}
 use Rattle.mesh.specs.Claim.{Refines}
 use Rattle.areas.specs.Claim.{Placed, EvenPoints, KeepsArea}
 use Rattle.refinement.specs.Flag.{variation, largest, turnsBy, flaggedTri, turnsMore}
@@ -35,6 +35,8 @@ pub record Refinement (threshold : Float) (alpha points sizes : List Float) (ts 
   pub flag : (t : Tri) → flaggedTri threshold alpha t ≡ turnsMore threshold alpha t
   -- which sides are cut, their midpoints, in how many triangles each side lies, and the order of the pieces
   pub sides : Refines (countOf points) (flaggedTri threshold alpha) ts (r .triangles) (r .cut) (midpointOf points r)
+  -- the new triangles have corners in range and pairwise different again
+  pub good : All (Good (countOf points + length (r .cut))) (r .triangles)
   -- old points and sizes stay, and where the midpoints lie
   pub placed : Placed (countOf points) (midpointOf points r) points sizes (r .points) (r .sizes)
   -- "areas are exact": on even whole coordinates the pieces of each triangle have its area, in x and y and without sign
