@@ -3,8 +3,8 @@ use Prim.Native.Nat.{ℕ, zero, suc, _+_, _*_, _/_, _-_, _≤_, _<_}
 use native.Mathlib.Omega.{arith}
 use native.Mathlib.Decide.{ℕ-discrete}
 use mathlib.Core.Path.{_≡_, refl, sym, ap, _∙_}
-use mathlib.Core.List.{List, [], _∷_, _++_}
-use lib.ListN.{length, getD, List·getD-append}
+use mathlib.Core.List.{List, [], _∷_, _++_, map}
+use lib.ListN.{length, length-append, length-map, getD, List·getD-append}
 use lib.Seq.{getD-append-add, ext-getD}
 use lib.Ieee.{Float, nan}
 use Rattle.cells.specs.Region.{tab, put}
@@ -15,7 +15,8 @@ use Rattle.areas.specs.Points.{midpoint, midpoints, morePoints}
 use Rattle.edges.specs.Table.{pairs}
 use Rattle.edges.proofs.Chain.{length-pairs}
 use Rattle.planes.specs.declared.Cuts.{Cuts}
-use Rattle.planes.specs.Planes.{cutsIn, midwayAt, coordinateAt, coordinatePlane, PointsIn}
+use Rattle.planes.specs.Planes.{cutsIn, midwayAt, coordinateAt, coordinatePlane, meanOn, cutAt, valuePlane}
+use Rattle.planes.specs.declared.Mean.{Mean}
 
 mids-at : (pts : List Float) (l : List Side) (j k : ℕ) → k < 3 → j < length l → getD (midpoints pts l) (3 * j + k) nan ≡ getD (midpoint pts (getD l j (side 0 0))) k nan
 unfolding midpoints
@@ -76,9 +77,44 @@ pub plane-done : (w : List Float) (at : ℕ) (pts : List Float) (c : Cuts) (u : 
 unfolding coordinatePlane
 plane-done w at pts c u k e = e ∙ rw (cuts-length c u)
 
+-- ---- one value for each point
+
+pub cut-at : (c : Cuts) (u : List ℕ) (j : ℕ) → j < c .sides → getD (cutsIn c u) j (side 0 0) ≡ cutAt c u j
+unfolding cutsIn
+cut-at c u j h = pairs-at (λ k. getD u (c .ends + 3 * k) 0) (λ k. getD u (c .ends + 3 * k + 1) 0) (c .sides) j h
+
+map-at : (f : Side → Float) (l : List Side) (j : ℕ) → j < length l → getD (map f l) j nan ≡ f (getD l j (side 0 0))
+map-at f [] j h = absurd (omega arith)
+map-at f (s ∷ l) zero h = refl
+map-at f (s ∷ l) (suc j) h = map-at f l j (omega arith)
+
+pub old-value : (kind : Mean) (values : List Float) (l : List Side) (v : ℕ) → v < length values → getD values v nan ≡ getD (valuePlane kind values l) v nan
+unfolding valuePlane
+old-value kind values l v h = sym (List·getD-append values (map (meanOn kind values) l) nan v h)
+
+pub new-value : (kind : Mean) (values : List Float) (c : Cuts) (u : List ℕ) (v : ℕ) → length values ≤ v → v < length values + c .sides
+    → meanOn kind values (cutAt c u (v - length values)) ≡ getD (valuePlane kind values (cutsIn c u)) v nan
+unfolding valuePlane
+new-value kind values c u v h g =
+    let j = v - length values in
+    let i : v ≡ length values + j = omega arith in
+    let m : j < length (cutsIn c u) = omega (arith, cuts-length c u) in
+    sym (ap (λ (x : ℕ). getD (values ++ map (meanOn kind values) (cutsIn c u)) x nan) i
+    ∙ getD-append-add values (map (meanOn kind values) (cutsIn c u)) j nan
+    ∙ map-at (meanOn kind values) (cutsIn c u) j m
+    ∙ ap (meanOn kind values) (cut-at c u j (omega arith)))
+
+length-plane : (kind : Mean) (values : List Float) (c : Cuts) (u : List ℕ) → length (valuePlane kind values (cutsIn c u)) ≡ length values + c .sides
+unfolding valuePlane
+length-plane kind values c u = length-append values _ ∙ omega (arith, length-map (cutsIn c u) (meanOn kind values), cuts-length c u)
+
 -- a list that is stored element by element
+tab-getD : {A : Type 0} (d : A) (l : List A) {n : ℕ} → length l ≡ n → tab (λ j. getD l j d) n ≡ l
+tab-getD d l {n} e = ext-getD d _ l (length-tab _ n ∙ sym e) (λ i h. getD-tab _ n i d (omega (arith, length-tab (λ j. getD l j d) n)))
+
 pub list-done : (w : List ℕ) (at : ℕ) (l : List ℕ) {w₁ : List ℕ} → w₁ ≡ put w at (tab (λ j. getD l j 0) (length l)) → w₁ ≡ put w at l
-list-done w at l e = e ∙ ap (put w at) (tab-getD l)
-  where
-    tab-getD : (l : List ℕ) → tab (λ j. getD l j 0) (length l) ≡ l
-    tab-getD l = ext-getD 0 _ l (length-tab _ (length l)) (λ i h. getD-tab _ (length l) i 0 (omega (arith, length-tab (λ j. getD l j 0) (length l))))
+list-done w at l e = e ∙ ap (put w at) (tab-getD 0 l refl)
+
+pub values-done : (w : List Float) (at : ℕ) (kind : Mean) (values : List Float) (c : Cuts) (u : List ℕ) {w₁ : List Float}
+    → w₁ ≡ put w at (tab (λ v. getD (valuePlane kind values (cutsIn c u)) v nan) (length values + c .sides)) → w₁ ≡ put w at (valuePlane kind values (cutsIn c u))
+values-done w at kind values c u e = e ∙ ap (put w at) (tab-getD nan (valuePlane kind values (cutsIn c u)) (length-plane kind values c u))

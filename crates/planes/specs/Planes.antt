@@ -1,15 +1,18 @@
 -- The planes of a floor refined at its cut sides, as lists: x or y of each point, the old points and then the midpoints. Definitions only.
 use Prim.Native.Nat.{ℕ, _+_, _*_, _/_, _≤_, _<_}
 use mathlib.Core.Path.{_≡_}
-use mathlib.Core.List.{List}
+use mathlib.Core.List.{List, _++_, map}
 use lib.ListN.{length, getD}
 use lib.Ieee.{Float, nan}
 use Rattle.cells.specs.Region.{tab}
-use Rattle.mesh.specs.Mesh.{Side}
+use Rattle.mesh.specs.Mesh.{Side, side}
 use Rattle.areas.specs.Area.{halfway}
 use Rattle.areas.specs.Points.{morePoints}
 use Rattle.edges.specs.Table.{pairs}
+use Rattle.guidance.specs.Guidance.{midAngle}
 use Rattle.planes.specs.declared.Cuts.{Cuts}
+use Rattle.planes.specs.declared.Mean.{Mean}
+use Rattle.planes.specs.declared.Mean.the-variants.{Half, Angle}
 
 -- the cut sides
 unfoldable pub cutsIn : Cuts → List ℕ → List Side
@@ -26,6 +29,22 @@ coordinateAt points cuts k v = getD (morePoints points cuts) (3 * v + k) nan
 unfoldable pub coordinatePlane : List Float → List Side → ℕ → List Float
 coordinatePlane points cuts k = tab (coordinateAt points cuts k) (length points / 3 + length cuts)
 
+-- ---- one value for each point
+
+unfoldable pub meanOf : Mean → Float → Float → Float
+meanOf Half a b = halfway a b
+meanOf Angle a b = midAngle a b
+
+abbrev pub meanOn : Mean → List Float → Side → Float
+meanOn kind values (side a b) = meanOf kind (getD values a nan) (getD values b nan)
+
+abbrev pub cutAt : Cuts → List ℕ → ℕ → Side
+cutAt c u j = side (getD u (c .ends + 3 * j) 0) (getD u (c .ends + 3 * j + 1) 0)
+
+-- the values at the old points, and then those at the midpoints: crate areas' `moreSizes` of halves, and refine_floor's `moreAngles` of angles
+unfoldable pub valuePlane : Mean → List Float → List Side → List Float
+valuePlane kind values cuts = values ++ map (meanOn kind values) cuts
+
 -- ---- lengths and offsets
 
 pub record PointsIn (points : ℕ) (c : Cuts) (k numbers : ℕ) : Type 0 where
@@ -36,3 +55,7 @@ pub record PointsIn (points : ℕ) (c : Cuts) (k numbers : ℕ) : Type 0 where
 pub record PlaneRoom (points : ℕ) (c : Cuts) (k numbers at work : ℕ) : Type 0 where
   pub points-in : PointsIn points c k numbers
   pub plane-in : at + (points / 3 + c .sides) ≤ work
+
+pub record ValueRoom (values : ℕ) (c : Cuts) (numbers at work : ℕ) : Type 0 where
+  pub ends-in : c .ends + 3 * c .sides ≤ numbers
+  pub values-in : at + (values + c .sides) ≤ work
