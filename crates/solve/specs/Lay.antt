@@ -1,0 +1,64 @@
+-- A floor and its guidance laid out for a pass: the slice with its planes stored, and what the pass over it finds. Definitions only.
+use Prim.Native.Nat.{ℕ, _+_, _*_, _/_, _≤_}
+use mathlib.Core.Path.{_≡_}
+use mathlib.Core.Bool.{Bool, true, cond}
+use mathlib.Core.List.{List}
+use lib.ListN.{length}
+use lib.Ieee.{Float}
+use Rattle.cells.specs.Region.{put}
+use Rattle.mesh.specs.Mesh.{Side, Tri}
+use Rattle.areas.specs.Points.{morePoints, moreSizes}
+use Rattle.edges.specs.Numbering.{trisFrom, Below}
+use Rattle.refine_floor.specs.Guidance.{moreAngles}
+use Rattle.planes.specs.declared.Cuts.{Cuts}
+use Rattle.planes.specs.declared.Mean.the-variants.{Half, Angle}
+use Rattle.planes.specs.Planes.{cutsIn, coordinatePlane, valuePlane, PointsIn}
+use Rattle.layout.specs.declared.Base.{Base}
+use Rattle.layout.specs.declared.Layout.{Layout}
+use Rattle.layout.specs.Layout.{Fits, Ordered}
+use Rattle.options.specs.declared.Options.{Options}
+use Rattle.options.specs.Options.{guidanceOf}
+use Rattle.options.specs.Pass.{Passed, floorOf}
+use Rattle.pass.specs.declared.Asked.{Asked}
+use Rattle.pass.specs.Pass.{passOf}
+
+-- ---- the slice with the planes
+
+unfoldable pub pointsLaid : List Float → List Float → List Side → Layout → List Float → List Float
+pointsLaid points sizes cuts l w = put (put (put w (l .x) (coordinatePlane points cuts 0)) (l .y) (coordinatePlane points cuts 1)) (l .sizes) (valuePlane Half sizes cuts)
+
+unfoldable pub guidanceLaid : Bool → List Float → List Side → Layout → List Float → List Float
+guidanceLaid guided angles cuts l w = cond guided (put w (l .guidance) (valuePlane Angle angles cuts)) w
+
+-- ---- what the pass over it finds
+
+unfoldable pub passOver : Options → Asked → List Float → List Float → List Float → List Side → List Tri → Passed
+passOver o a points sizes angles cuts ts =
+    passOf (floorOf (morePoints points cuts) ts (moreSizes sizes cuts)) o (guidanceOf (a .guided) (a .weight) (moreAngles angles cuts)) (a .iterations)
+
+-- the same, of the cut sides and the triangles that stand in the u32 work
+abbrev pub passAt : Base → Options → Asked → Cuts → List Float → List Float → List Float → List ℕ → Passed
+passAt at o a c points sizes angles u = passOver o a points sizes angles (cutsIn c u) (trisFrom (at .words) u (at .triangles))
+
+-- ---- lengths and offsets
+
+pub record LayRoom (points sizes : ℕ) (c : Cuts) (numbers : ℕ) (l : Layout) (work : ℕ) : Type 0 where
+  pub whole : points ≡ 3 * (points / 3)
+  pub sized : sizes ≡ points / 3
+  pub ends-in : c .ends + 3 * c .sides ≤ numbers
+  pub x-in : l .x + (points / 3 + c .sides) ≤ work
+  pub y-in : l .y + (points / 3 + c .sides) ≤ work
+  pub sizes-in : l .sizes + (points / 3 + c .sides) ≤ work
+
+pub record GuidanceRoom (guided : Bool) (angles : ℕ) (c : Cuts) (numbers : ℕ) (l : Layout) (work : ℕ) : Type 0 where
+  pub ends-in : c .ends + 3 * c .sides ≤ numbers
+  pub guidance-in : guided ≡ true → l .guidance + (angles + c .sides) ≤ work
+
+-- a floor of these points, sizes and cut sides, with that guidance, can be laid out and passed over where it begins at `at`
+pub record MakeRoom (at : Base) (guided : Bool) (points sizes angles : ℕ) (c : Cuts) (work numbers : ℕ) : Type 0 where
+  pub whole : points ≡ 3 * (points / 3)
+  pub sized : sizes ≡ points / 3
+  pub guided-all : guided ≡ true → angles ≡ points / 3
+  pub ends-in : c .ends + 3 * c .sides ≤ numbers
+  pub all-points : at .points ≡ points / 3 + c .sides
+  pub fits : Fits at work numbers
