@@ -10,8 +10,8 @@ use lib.Ieee.{Float}
 use Rattle.mesh.specs.Mesh.{tri, Good, All}
 use Rattle.edges.specs.Numbering.{triFrom, trisFrom}
 use Rattle.refinement.specs.Floor.{triAt, tris, trisOf}
-use Rattle.geometries.specs.Geometries.{firstDegenerate, woundUpTo}
-use Rattle.geometries.proofs.Good.{Cornered, all-from, sound-before, wound-length, good-at, good-wound}
+use Rattle.geometries.specs.Geometries.{firstDegenerate, woundUpTo, Cornered}
+use Rattle.geometries.proofs.Good.{all-from, sound-before, wound-length, good-at, good-wound}
 
 -- the triangles of the list l, where it stands from c on in a slice
 pub tris-held : (c t : ℕ) (u l : List ℕ) → ((j : ℕ) → j < 3 * t → getD u (c + j) 0 ≡ getD l j 0) → trisFrom c u t ≡ tris l t
