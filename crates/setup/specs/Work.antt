@@ -6,7 +6,6 @@ use lib.ListN.{length, getD}
 use lib.Ieee.{Float, nan}
 use Rattle.cells.specs.Region.{region}
 use Rattle.cells.specs.Cell.{regionC}
-use Rattle.mesh.specs.Mesh.{All, Good}
 use Rattle.edges.specs.Table.{NumbersOf}
 use Rattle.edges.specs.Numbering.{triFrom, Below}
 use Rattle.floor.specs.Floor.{Floor, triangleAt}

@@ -1,7 +1,7 @@
--- `gradients::is_unweighed` meets its contract: each return follows from the tests and the calls on its way.
+-- `gradients::no_weight` meets its contract: each return follows from the tests and the calls on its way.
 use borrow.Author.Needs.{needs}
-use Rattle.gradients.proofs.is_unweighed.Statement.{statement}
-use Rattle.gradients.proofs.is_unweighed.Tie as tie
+use Rattle.gradients.proofs.no_weight.Statement.{statement}
+use Rattle.gradients.proofs.no_weight.Tie as tie
 
 is-finite-requires : tie.Need-is-finite-requires
 is-finite-requires c κs = search needs
@@ -12,5 +12,5 @@ returns c = rw (← c .before .is-finite .ensures, c .if1 .taken)
 returns-2 : tie.Need-returns-2
 returns-2 c = rw (← c .before .is-finite .ensures, c .if1 .left)
 
-pub is-unweighed-spec : {M : Type 1} → statement M
-is-unweighed-spec = tie.close (tie.spec is-finite-requires returns returns-2)
+pub no-weight-spec : {M : Type 1} → statement M
+no-weight-spec = tie.close (tie.spec is-finite-requires returns returns-2)
