@@ -9,7 +9,8 @@ use lib.Ieee.{Float}
 use Rattle.float.specs.Double.{_⊘_}
 use Rattle.complex.specs.declared.Complex.{Complex}
 use Rattle.cells.specs.Region.{tab}
-use Rattle.mesh.specs.Mesh.{Tri, Side, side, sidesAfter}
+use Rattle.mesh.specs.Mesh.{Tri, Side, sidesAfter}
+use Rattle.edges.specs.Table.{lower, upper}
 use Rattle.floor.specs.declared.Check.{Check}
 use Rattle.floor.specs.declared.Check.the-variants as check
 use Rattle.floor.specs.Floor.{Floor, pointsOf, trianglesOf, valueAt, triangleAt}
@@ -65,12 +66,6 @@ gradientsY f = tab (λ v. sumY f v ⊘ weightOf f v) (pointsOf f)
 
 unfoldable pub edgesOf : Floor → List Side
 edgesOf f = sidesAfter [] (woundOf f)
-
-abbrev pub lower : Side → ℕ
-lower (side a b) = a
-
-abbrev pub upper : Side → ℕ
-upper (side a b) = b
 
 -- the Rust's `edge_a` and `edge_b`
 unfoldable pub lowersOf : Floor → List ℕ
