@@ -10,8 +10,8 @@ use mathlib.Core.List.{List, [], _∷_, _++_}
 use mathlib.Core.Option.{some}
 use borrow.Author.Tests.{eq-eqb, ne-eqb}
 use lib.Dec.{eqb}
-use lib.ListN.{length, getD, set, length-set, replicate, length-replicate}
-use lib.Seq.{getD-set-same, getD-set-other, sets, length-sets}
+use lib.ListN.{length, length-append, getD, List·getD-append, set, length-set, replicate, length-replicate}
+use lib.Seq.{getD-at, getD-set-same, getD-set-other, sets, length-sets}
 use Rattle.mesh.specs.Mesh.{Side, side, key, Tri, tri, place, met, metAll, sides, sidesAfter, one}
 use Rattle.mesh.proofs.Theorem.{place-below}
 use Rattle.runs.proofs.Runs.{sets-before, sets-behind}
@@ -127,6 +127,20 @@ pub tris-same : (c i : ℕ) (w w′ : List ℕ) → ((j : ℕ) → j < c + 3 * i
 unfolding trisFrom
 tris-same c zero w w′ h = refl
 tris-same c (suc i) w w′ h = rw (tris-same c i w w′ (λ j g. h j (omega arith)), h (c + 3 * i) (omega arith), h (c + 3 * i + 1) (omega arith), h (c + 3 * i + 2) (omega arith))
+
+pub length-tris : (c : ℕ) (w : List ℕ) (t : ℕ) → length (trisFrom c w t) ≡ t
+unfolding trisFrom
+length-tris c w zero = refl
+length-tris c w (suc t) = length-append (trisFrom c w t) (triFrom c w t ∷ []) ∙ omega (arith, length-tris c w t)
+
+pub tri-at : (c : ℕ) (w : List ℕ) (t i : ℕ) (d : Tri) → i < t → getD (trisFrom c w t) i d ≡ triFrom c w i
+unfolding trisFrom
+tri-at c w zero i d h = absurd (omega arith)
+tri-at c w (suc t) i d h = go (ℕ-discrete i t) (λ l. tri-at c w t i d l)
+  where
+    go : Dec (i ≡ t) → (i < t → getD (trisFrom c w t) i d ≡ triFrom c w i) → getD (trisFrom c w t ++ (triFrom c w t ∷ [])) i d ≡ triFrom c w i
+    go (yes e) old = rw e (getD-at (trisFrom c w t) (triFrom c w t) [] d t (length-tris c w t))
+    go (no e) old = List·getD-append (trisFrom c w t) (triFrom c w t ∷ []) d i (omega (arith, length-tris c w t)) ∙ old (omega arith)
 
 pub numbered-none : (c e o N : ℕ) (w : List ℕ) → Held o N w 0 → NumberedTo c e o N 0 w w 0
 unfolding pairs trisFrom sidesAfter

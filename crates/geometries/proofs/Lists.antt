@@ -1,6 +1,7 @@
 -- What a caller reads of the slices after `geometries`, and points and triangles given in another way that are the same. Assumes nothing.
-use Prim.Native.Nat.{ℕ, _+_, _*_, _≤_, _<_}
+use Prim.Native.Nat.{ℕ, zero, suc, _+_, _*_, _≤_, _<_}
 use native.Mathlib.Omega.{arith}
+use native.Mathlib.Decide.{ℕ-discrete}
 use mathlib.Core.Path.{_≡_, refl, sym, ap, _∙_, subst}
 use mathlib.Core.Bool.{false}
 use mathlib.Core.List.{List}
@@ -28,6 +29,17 @@ module _ (X Y X′ Y′ : ℕ → Float) (n : ℕ) (same-x : (v : ℕ) → v < n
   pub first-same : (ts ts′ : ℕ → Tri) (t : ℕ) → ((i : ℕ) → i < t → ts i ≡ ts′ i) → ((i : ℕ) → i < t → Cornered n (ts i)) → firstDegenerate X Y ts t ≡ firstDegenerate X′ Y′ ts′ t
   unfolding firstDegenerate
   first-same ts ts′ t e b = lowest-same _ _ t (λ i h. ap isDegenerate (geometry-same (ts i) (ts′ i) i (e i h) (b i h)))
+
+-- ---- corners that are points, one by one
+below-all : (n c : ℕ) (u : List ℕ) (t : ℕ) → ((i : ℕ) → i < t → Cornered n (triFrom c u i)) → Below n c u (3 * t)
+below-all n c u zero h = λ j g. absurd (omega arith)
+below-all n c u (suc i) h = λ j g. go j g (h i (omega arith)) (below-all n c u i (λ k b. h k (omega arith))) (ℕ-discrete j (3 * i)) (ℕ-discrete j (3 * i + 1)) (ℕ-discrete j (3 * i + 2))
+  where
+    go : (j : ℕ) → j < 3 * suc i → Cornered n (triFrom c u i) → Below n c u (3 * i) → Dec (j ≡ 3 * i) → Dec (j ≡ 3 * i + 1) → Dec (j ≡ 3 * i + 2) → getD u (c + j) 0 < n
+    go j g b before (yes q) r s = let e : c + 3 * i ≡ c + j = omega arith in subst (λ (k : ℕ). getD u k 0 < n) e (b .0)
+    go j g b before (no q) (yes r) s = let e : c + 3 * i + 1 ≡ c + j = omega arith in subst (λ (k : ℕ). getD u k 0 < n) e (b .1 .0)
+    go j g b before (no q) (no r) (yes s) = let e : c + 3 * i + 2 ≡ c + j = omega arith in subst (λ (k : ℕ). getD u k 0 < n) e (b .1 .1)
+    go j g b before (no q) (no r) (no s) = before j (omega arith)
 
 -- ---- what is left
 
@@ -82,3 +94,6 @@ module _ {p : Plan} {r : ℕ} {w w′ : List Float} {u u′ : List ℕ} (room : 
   pub cornered-at : (i : ℕ) → i < r → Cornered (p .points) (triFrom (p .wound) u′ i)
   cornered-at i h =
       subst (Cornered (p .points)) (sym (tri-at i h)) (kept-cornered (xsIn p w) (ysIn p w) (p .points) i (triFrom (p .given) u i) (cornered i (omega (arith, most))) (sound i h))
+
+  pub below-kept : Below (p .points) (p .wound) u′ (3 * r)
+  below-kept = below-all (p .points) (p .wound) u′ r cornered-at

@@ -1,4 +1,4 @@
--- The sums divided by the weights, one more point at a time. Assumes nothing.
+-- The sums divided by the weights, one more point at a time; the check of sums and weights that are the same. Assumes nothing.
 use Prim.Native.Nat.{ℕ, _+_, _*_, _≤_, _<_}
 use native.Mathlib.Omega.{arith}
 use native.Mathlib.Decide.{ℕ-discrete}
@@ -6,16 +6,16 @@ use mathlib.Core.Path.{_≡_, refl, sym, ap, ap₂, _∙_, subst}
 use mathlib.Core.Logic.{_≢_, _⊎_, inl, inr}
 use mathlib.Core.Bool.{Bool, true, false, cond, not}
 use mathlib.Core.List.{List}
-use borrow.Author.Tests.{eq-eqb, ne-eqb, lt-ltb, le-ltb}
-use lib.Dec.{eqb}
+use borrow.Author.Tests.{eq-eqb, ne-eqb, lt-ltb, le-ltb, ltb-true, ltb-false}
+use lib.Dec.{eqb, ltb}
 use lib.ListN.{length, length-set, getD, set}
 use lib.Seq.{getD-set-same, getD-set-other}
 use lib.Ieee.{Float, nan}
 use Rattle.float.specs.Double.{_⊘_}
 use Rattle.floor.specs.declared.Check.{Check}
 use Rattle.floor.specs.declared.Check.the-variants.{Sound, Refused}
-use Rattle.floor.specs.Checks.{rowAt}
-use Rattle.floor.proofs.Lowest.{lowest-none, lowest-again, lowest-found}
+use Rattle.floor.specs.Checks.{lowest, rowAt}
+use Rattle.floor.proofs.Lowest.{lowest-none, lowest-again, lowest-found, lowest-most, lowest-same}
 use Rattle.geometries.specs.Geometries.{coordsFrom}
 use Rattle.gradients.specs.Gradients.{rowOfPoint, firstRefused, checkMeans, sumsX, sumsY, weights, divideAt, DividedTo, DividedPoint, Divided}
 
@@ -137,3 +137,29 @@ pub to-done : {g n i : ℕ} {w₀ w : List Float} → i ≡ n → To g n i w₀ 
 to-done {g} {n} {i} {w₀} {w} e k =
     let first : n ≡ firstRefused (sumsX g n w₀) (sumsY g n w₀) (weights g n w₀) n = rw e at (k .sound) in
     record { answer = check-sound (sumsX g n w₀) (sumsY g n w₀) (weights g n w₀) n first; means = subst (λ (m : ℕ). DividedTo g n m w₀ w) (e ∙ first) (k .means) }
+
+-- ---- sums and weights that are the same below n
+
+pub check-same : (X Y W X′ Y′ W′ : ℕ → Float) (n : ℕ) → ((v : ℕ) → v < n → X v ≡ X′ v) → ((v : ℕ) → v < n → Y v ≡ Y′ v) → ((v : ℕ) → v < n → W v ≡ W′ v) → checkMeans X Y W n ≡ checkMeans X′ Y′ W′ n
+unfolding checkMeans firstRefused
+check-same X Y W X′ Y′ W′ n p q r =
+    let r₁ = lowest (λ v. not (eqb (rowOfPoint X Y W v) 0)) n in
+    go r₁ (lowest-same _ _ n (λ v h. ap (λ (k : ℕ). not (eqb k 0)) (same v h))) (ltb r₁ n) refl
+  where
+    same : (v : ℕ) → v < n → rowOfPoint X Y W v ≡ rowOfPoint X′ Y′ W′ v
+    same v h = rw (p v h, q v h, r v h)
+
+    go : (k : ℕ) {k′ : ℕ} → k ≡ k′ → (b : Bool) → ltb k n ≡ b → cond (ltb k n) (Refused (rowAt (rowOfPoint X Y W k) k)) Sound ≡ cond (ltb k′ n) (Refused (rowAt (rowOfPoint X′ Y′ W′ k′) k′)) Sound
+    go k e true h = rw (← e, h, same k (ltb-true k n h))
+    go k e false h = rw (← e, h)
+
+pub sound-all : (X Y W : ℕ → Float) (n : ℕ) → checkMeans X Y W n ≡ Sound → firstRefused X Y W n ≡ n
+unfolding checkMeans
+sound-all X Y W n h = go (ltb (firstRefused X Y W n) n) refl h
+  where
+    most : firstRefused X Y W n ≤ n
+    most = unfold firstRefused in lowest-most _ n
+
+    go : (b : Bool) → ltb (firstRefused X Y W n) n ≡ b → cond b (Refused (rowAt (rowOfPoint X Y W (firstRefused X Y W n)) (firstRefused X Y W n))) Sound ≡ Sound → firstRefused X Y W n ≡ n
+    go true e z = let y : _≡_ {A = ℕ} 0 1 = cc in absurd (omega arith)
+    go false e z = omega (arith, ltb-false (firstRefused X Y W n) n e, most)
