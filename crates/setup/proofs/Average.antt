@@ -31,7 +31,7 @@ use Rattle.setup.specs.declared.Setup.{Setup}
 use Rattle.setup.specs.declared.Setup.the-variants.{Refused}
 use Rattle.setup.specs.Setup.{woundOf, areasOf, sumX, sumY, weightOf, meansOf, gradientsX, gradientsY, setupOf}
 use Rattle.setup.specs.Work.{gradientsAt, Turned, Averaged, SetUp}
-use Rattle.setup.proofs.Slices.{value-at, points-of, triangles-of, all-x, all-y, all-sizes, Kept, refused-by}
+use Rattle.setup.proofs.Slices.{value-at, points-of, triangles-of, all-x, all-y, all-sizes, Stays, refused-by}
 
 module _ (l : Layout) (w : List Float) (u : List ℕ) (f : Floor) (o : Ordered l (length w) (length u)) (t : Turned l f w u) where
   pub room : gradients.Room (gradientsAt l) (length w) (length u)
@@ -93,8 +93,8 @@ module _ (l : Layout) (w : List Float) (u : List ℕ) (f : Floor) (o : Ordered l
       before : (j : ℕ) → j < l .gradients → getD w₂ j nan ≡ getD w j nan
       before j h = d .means .elsewhere j (inl h) ∙ g .elsewhere j (inl h)
 
-      pub kept : Kept l w u w₂ u
-      kept = record {
+      pub stays : Stays l w u w₂ u
+      stays = record {
         floor = floor-stays l o w w₂ u u (λ j h. before j (omega (arith, o .areas-in))) (λ j h. refl);
         all-reals = d .means .same-length ∙ g .same-length;
         all-words = refl;
@@ -122,7 +122,7 @@ module _ (l : Layout) (w : List Float) (u : List ℕ) (f : Floor) (o : Ordered l
       pub averaged : c ≡ check.Sound → Averaged l f w₂ u
       averaged e = record {
         turned = record {
-          floor = kept .floor ∙ t .floor;
+          floor = stays .floor ∙ t .floor;
           given-below = t .given-below;
           none = t .none;
           areas = same-areas ∙ t .areas;
@@ -138,10 +138,10 @@ module _ (l : Layout) (w : List Float) (u : List ℕ) (f : Floor) (o : Ordered l
 module _ (l : Layout) (w : List Float) (u : List ℕ) (o : Ordered l (length w) (length u)) (t : Turned l (floorIn l w u) w u) {w₁ w₂ : List Float}
     (g : GatheredTo (gradientsAt l) (l .triangles) u w w₁) {c : Check} (d : Divided (l .gradients) (l .points) w₁ w₂ c) where
   pub row-20 : (x : Found) → c ≡ check.Refused x → {s : Setup} → s ≡ Refused (row (x .number) (x .place)) → SetUp l w u w₂ u s
-  row-20 x e q = refused-by (row (x .number) (x .place)) (kept l w u (floorIn l w u) o t g d) q told
+  row-20 x e q = refused-by (row (x .number) (x .place)) (stays l w u (floorIn l w u) o t g d) q told
     where
       told : Refused (row (x .number) (x .place)) ≡ setupOf (floorIn l w u)
       told = unfold setupOf in rw (t .none, le-ltb (trianglesOf (floorIn l w u)) (trianglesOf (floorIn l w u)) (omega arith), ← answered l w u (floorIn l w u) o t g d, e)
 
   pub still-averaged : c ≡ check.Sound → Averaged l (floorIn l w₂ u) w₂ u
-  still-averaged e = subst (λ (f : Floor). Averaged l f w₂ u) (sym (kept l w u (floorIn l w u) o t g d .floor)) (averaged l w u (floorIn l w u) o t g d e)
+  still-averaged e = subst (λ (f : Floor). Averaged l f w₂ u) (sym (stays l w u (floorIn l w u) o t g d .floor)) (averaged l w u (floorIn l w u) o t g d e)

@@ -30,7 +30,7 @@ use Rattle.setup.specs.declared.Setup.{Setup}
 use Rattle.setup.specs.declared.Setup.the-variants.{Edges, Refused}
 use Rattle.setup.specs.Setup.{degenerateOf, edgesOf, lowersOf, uppersOf, pointsIn, transportsOf, meansOf, afterTransports, setupOf}
 use Rattle.setup.specs.Work.{transportsAt, Turned, Joined, Stands, SetUp}
-use Rattle.setup.proofs.Slices.{all-x, all-y, all-sizes, Kept, refused-by}
+use Rattle.setup.proofs.Slices.{all-x, all-y, all-sizes, Stays, refused-by}
 
 -- the answer of a floor that rows 19 to 21 let pass
 rest : (f : Floor) {a : Answer} → degenerateOf f ≡ trianglesOf f → meansOf f ≡ check.Sound → answerOf (pointsIn f) (lowersOf f) (uppersOf f) ≡ a → setupOf f ≡ afterTransports (length (edgesOf f)) a
@@ -84,8 +84,8 @@ module _ {l : Layout} {m : ℕ} {w : List Float} {u : List ℕ} (o : Ordered l (
     before : (k : ℕ) → k < l .transports → getD w₁ k nan ≡ getD w k nan
     before = transported-before (transportsAt l) _ _ w w₁ d
 
-    kept : Kept l w u w₁ u
-    kept = record {
+    stays : Stays l w u w₁ u
+    stays = record {
       floor = floor-stays l o w w₁ u u (λ k h. before k (omega (arith, o .areas-in, o .gradients-in))) (λ k h. refl);
       all-reals = transported-length d;
       all-words = refl;
@@ -94,7 +94,7 @@ module _ {l : Layout} {m : ℕ} {w : List Float} {u : List ℕ} (o : Ordered l (
     }
 
     row-22 : (a b : ℕ) → r ≡ answer.MeanSize a b → {s : Setup} → s ≡ Refused (between a b) → SetUp l w u w₁ u s
-    row-22 a b e q = refused-by (between a b) kept q (sym (rest (floorIn l w u) (t .none) (j .averaged .sound) (sym answered ∙ e)))
+    row-22 a b e q = refused-by (between a b) stays q (sym (rest (floorIn l w u) (t .none) (j .averaged .sound) (sym answered ∙ e)))
 
     same-areas : region nan w₁ (l .areas) (l .triangles) ≡ region nan w (l .areas) (l .triangles)
     unfolding region
@@ -110,10 +110,10 @@ module _ {l : Layout} {m : ℕ} {w : List Float} {u : List ℕ} (o : Ordered l (
     done : r ≡ answer.Done → SetUp l w u w₁ u (Edges m)
     done e = record {
       answer = ap Edges (j .all-edges) ∙ sym (rest (floorIn l w u) (t .none) (j .averaged .sound) (sym answered ∙ e));
-      all-reals = kept .all-reals;
+      all-reals = stays .all-reals;
       all-words = refl;
-      reals-below = kept .reals-below;
-      words-below = kept .words-below;
+      reals-below = stays .reals-below;
+      words-below = stays .words-below;
       stands = λ k q. let z : m ≡ k = cc in subst (λ (k : ℕ). Stands l k (floorIn l w u) w₁ u) z (record {
         all-edges = j .all-edges;
         areas = same-areas ∙ t .areas;

@@ -30,7 +30,7 @@ use Rattle.layout.proofs.Regions.{floor-stays}
 use Rattle.setup.specs.Setup.{woundOf, edgesOf, lowersOf, uppersOf}
 use Rattle.setup.specs.Work.{Averaged, Joined}
 use Rattle.setup.proofs.Floors.{at-all, getD-map, length-map, length-wound, length-lowers, length-uppers, turned-at, wound-good, edges-keyed}
-use Rattle.setup.proofs.Slices.{points-of, triangles-of, given-at, in-range, Kept}
+use Rattle.setup.proofs.Slices.{points-of, triangles-of, given-at, in-range, Stays}
 
 -- ---- the ends, over lists
 
@@ -127,8 +127,8 @@ module _ (l : Layout) (w : List Float) (u : List ℕ) (f : Floor) (o : Ordered l
         (omega (arith, many upper, few, o .to-in, o .counts-in, o .flags-in, made .same-length, length-sets u₁ (l .from) (map lower (sidesIn (l .table) (l .buckets) u₁ m)))) (omega (arith, many upper)))
         ∙ ap (map upper) all-sides
 
-    pub kept : Kept l w u w u₂
-    kept = record {
+    pub stays : Stays l w u w u₂
+    stays = record {
       floor = floor-stays l o w w u u₂ (λ j h. refl) (λ j h. before-numbers j (omega (arith, o .wound-in)));
       all-reals = refl;
       all-words = same-length ∙ made .same-length;
@@ -170,7 +170,7 @@ module _ (l : Layout) (w : List Float) (u : List ℕ) (f : Floor) (o : Ordered l
     joined = record {
       averaged = record {
         turned = record {
-          floor = kept .floor ∙ a .turned .floor;
+          floor = stays .floor ∙ a .turned .floor;
           given-below = λ j h. rw (before-numbers (l .given + j) (omega (arith, o .given-in, o .wound-in))) (a .turned .given-below j h);
           none = a .turned .none;
           areas = a .turned .areas;
@@ -191,4 +191,4 @@ module _ (l : Layout) (w : List Float) (u : List ℕ) (f : Floor) (o : Ordered l
 module _ (l : Layout) (w : List Float) (u : List ℕ) (o : Ordered l (length w) (length u)) (a : Averaged l (floorIn l w u) w u) {m : ℕ} {u₁ u₂ : List ℕ}
     (made : NumberedTo (l .wound) (l .numbers) (l .table) (l .buckets) (l .triangles) u u₁ m) (cut : u₂ ≡ split (l .table) (l .buckets) m (l .from) (l .to) u₁) where
   pub still-joined : Joined l m (floorIn l w u₂) w u₂
-  still-joined = subst (λ (f : Floor). Joined l m f w u₂) (sym (kept l w u (floorIn l w u) o a made cut .floor)) (joined l w u (floorIn l w u) o a made cut)
+  still-joined = subst (λ (f : Floor). Joined l m f w u₂) (sym (stays l w u (floorIn l w u) o a made cut .floor)) (joined l w u (floorIn l w u) o a made cut)

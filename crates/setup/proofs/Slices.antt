@@ -60,18 +60,18 @@ module _ (l : Layout) (w : List Float) (u : List ℕ) (f : Floor) (floor : floor
 
 -- ---- what is left
 
--- the slices w₁ and u₁ have what stands before the areas and before the kept corners as w and u have it
-pub record Kept (l : Layout) (w : List Float) (u : List ℕ) (w₁ : List Float) (u₁ : List ℕ) : Type 0 where
+-- the slices w₁ and u₁ have what stands before the areas and before the counter-clockwise corners as w and u have it
+pub record Stays (l : Layout) (w : List Float) (u : List ℕ) (w₁ : List Float) (u₁ : List ℕ) : Type 0 where
   pub floor : floorIn l w₁ u₁ ≡ floorIn l w u
   pub all-reals : length w₁ ≡ length w
   pub all-words : length u₁ ≡ length u
   pub reals-below : (j : ℕ) → j < l .areas → getD w₁ j nan ≡ getD w j nan
   pub words-below : (j : ℕ) → j < l .wound → getD u₁ j 0 ≡ getD u j 0
 
-pub ordered-now : {l : Layout} {w w₁ : List Float} {u u₁ : List ℕ} → Kept l w u w₁ u₁ → Ordered l (length w) (length u) → Ordered l (length w₁) (length u₁)
+pub ordered-now : {l : Layout} {w w₁ : List Float} {u u₁ : List ℕ} → Stays l w u w₁ u₁ → Ordered l (length w) (length u) → Ordered l (length w₁) (length u₁)
 ordered-now k o = rw (k .all-reals, k .all-words) o
 
-pub refused-by : {l : Layout} {w w₁ : List Float} {u u₁ : List ℕ} (x : Fault) {r : Setup} → Kept l w u w₁ u₁ → r ≡ Refused x → Refused x ≡ setupOf (floorIn l w u) → SetUp l w u w₁ u₁ r
+pub refused-by : {l : Layout} {w w₁ : List Float} {u u₁ : List ℕ} (x : Fault) {r : Setup} → Stays l w u w₁ u₁ → r ≡ Refused x → Refused x ≡ setupOf (floorIn l w u) → SetUp l w u w₁ u₁ r
 refused-by x k e h = record {
   answer = e ∙ h;
   all-reals = k .all-reals;
@@ -82,8 +82,8 @@ refused-by x k e h = record {
 }
 
 -- the rest of the work was done on them
-pub then : {l : Layout} {w w₁ w₂ : List Float} {u u₁ u₂ : List ℕ} {r : Setup} → Kept l w u w₁ u₁ → SetUp l w₁ u₁ w₂ u₂ r → SetUp l w u w₂ u₂ r
-then {l} {w} {w₁} {w₂} {u} {u₁} {u₂} k s = record {
+pub set-up-then : {l : Layout} {w w₁ w₂ : List Float} {u u₁ u₂ : List ℕ} {r : Setup} → Stays l w u w₁ u₁ → SetUp l w₁ u₁ w₂ u₂ r → SetUp l w u w₂ u₂ r
+set-up-then {l} {w} {w₁} {w₂} {u} {u₁} {u₂} k s = record {
   answer = s .answer ∙ ap setupOf (k .floor);
   all-reals = s .all-reals ∙ k .all-reals;
   all-words = s .all-words ∙ k .all-words;

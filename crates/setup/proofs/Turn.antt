@@ -26,7 +26,7 @@ use Rattle.setup.specs.declared.Setup.the-variants.{Refused}
 use Rattle.setup.specs.Setup.{geometryAt, degenerateOf, areasOf, setupOf}
 use Rattle.setup.specs.Work.{geometriesAt, Turned, SetUp}
 use Rattle.setup.proofs.Floors.{wound-at}
-use Rattle.setup.proofs.Slices.{value-at, triangles-of, all-x, all-y, given-at, Kept, refused-by}
+use Rattle.setup.proofs.Slices.{value-at, triangles-of, all-x, all-y, given-at, Stays, refused-by}
 
 module _ (l : Layout) (w : List Float) (u : List ℕ) (o : Ordered l (length w) (length u)) (below : Below (l .points) (l .given) u (3 * l .triangles)) where
   pub room : geometries.Room (geometriesAt l) (length w) (length u)
@@ -56,8 +56,8 @@ module _ (l : Layout) (w : List Float) (u : List ℕ) (o : Ordered l (length w) 
     most : r ≤ l .triangles
     most = rw (k .first) (first-most _ _ (triFrom (l .given) u) (l .triangles))
 
-    pub kept : Kept l w u w₁ u₁
-    kept = record {
+    pub stays : Stays l w u w₁ u₁
+    stays = record {
       floor = floor-stays l o w w₁ u u₁ (lists.reals-before room below k) (lists.words-before room below k);
       all-reals = kept-lengths k .0;
       all-words = kept-lengths k .1;
@@ -66,7 +66,7 @@ module _ (l : Layout) (w : List Float) (u : List ℕ) (o : Ordered l (length w) 
     }
 
     pub row-19 : r < l .triangles → {s : Setup} → s ≡ Refused (row 19 r) → SetUp l w u w₁ u₁ s
-    row-19 h e = refused-by (row 19 r) kept e told
+    row-19 h e = refused-by (row 19 r) stays e told
       where
         told : Refused (row 19 r) ≡ setupOf (floorIn l w u)
         told = unfold setupOf in rw (← first, triangles-of l w u (floorIn l w u) refl, lt-ltb r (l .triangles) h)
@@ -78,9 +78,9 @@ module _ (l : Layout) (w : List Float) (u : List ℕ) (o : Ordered l (length w) 
         ∙ ap (tab (λ i. areaOf (geometryAt (floorIn l w u) i))) (sym (triangles-of l w u (floorIn l w u) refl))
 
     pub turned : l .triangles ≤ r → Turned l (floorIn l w₁ u₁) w₁ u₁
-    turned e = subst (λ (f : Floor). Turned l f w₁ u₁) (sym (kept .floor)) (record {
-      floor = kept .floor;
-      given-below = λ j h. rw (kept .words-below (l .given + j) (omega (arith, o .given-in))) (below j h);
+    turned e = subst (λ (f : Floor). Turned l f w₁ u₁) (sym (stays .floor)) (record {
+      floor = stays .floor;
+      given-below = λ j h. rw (stays .words-below (l .given + j) (omega (arith, o .given-in))) (below j h);
       none = omega (arith, first, most, triangles-of l w u (floorIn l w u) refl);
       areas = all-areas e;
       corners = λ i h. lists.tri-at room below k i (omega arith) ∙ ap cornersOf (same i h) ∙ sym (wound-at (floorIn l w u) i (omega (arith, triangles-of l w u (floorIn l w u) refl)));
