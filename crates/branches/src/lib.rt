@@ -18,7 +18,14 @@ pub struct Search {
 }
 
 // The angles of the field over the floor with so many edges, whose matrices stand at l.
-pub fn find_field(w: &mut [f64], u: &mut [u32], l: Layout, edges: usize, o: Options, s: Search) -> Stage
+pub fn find_field(
+    w: &mut [f64],
+    u: &mut [u32],
+    l: Layout,
+    edges: usize,
+    o: Options,
+    s: Search,
+) -> Stage
     requires { ⌜ Ordered l (length (now w)) (length (now u)) ⌝ }
     requires { ⌜ Edged l edges (now u) ⌝ }
     ensures { λ r. ⌜ Finds l (l .counts) (soughtIn l edges o s (now (w .entry)) (now (u .entry))) (now (w .entry)) (now (u .entry)) (now (w .exit)) (now (u .exit)) r ⌝ }
