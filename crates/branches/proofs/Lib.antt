@@ -1,0 +1,4 @@
+pub mod Ends
+pub mod Modes
+pub mod Placed
+pub mod Held
