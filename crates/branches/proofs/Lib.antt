@@ -2,3 +2,4 @@ pub mod Ends
 pub mod Modes
 pub mod Placed
 pub mod Held
+pub mod Fields
