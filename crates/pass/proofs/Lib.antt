@@ -2,3 +2,4 @@ pub mod Below
 pub mod Matrices
 pub mod Rest
 pub mod Whole
+pub mod Facts

@@ -1,24 +1,25 @@
 -- A floor and its guidance laid out for a pass: the slice with its planes stored, and what the pass over it finds. Definitions only.
-use Prim.Native.Nat.{ℕ, _+_, _*_, _/_, _≤_}
+use Prim.Native.Nat.{ℕ, _+_, _*_, _/_, _≤_, _<_}
 use mathlib.Core.Path.{_≡_}
 use mathlib.Core.Bool.{Bool, true, cond}
 use mathlib.Core.List.{List}
-use lib.ListN.{length}
-use lib.Ieee.{Float}
-use Rattle.cells.specs.Region.{put}
+use lib.ListN.{length, getD}
+use lib.Ieee.{Float, nan}
+use Rattle.cells.specs.Region.{region, put}
 use Rattle.mesh.specs.Mesh.{Side, Tri}
 use Rattle.areas.specs.Points.{morePoints, moreSizes}
-use Rattle.edges.specs.Numbering.{trisFrom, Below}
+use Rattle.edges.specs.Numbering.{trisFrom}
 use Rattle.refine_floor.specs.Guidance.{moreAngles}
 use Rattle.planes.specs.declared.Cuts.{Cuts}
 use Rattle.planes.specs.declared.Mean.the-variants.{Half, Angle}
-use Rattle.planes.specs.Planes.{cutsIn, coordinatePlane, valuePlane, PointsIn}
+use Rattle.planes.specs.Planes.{cutsIn, coordinatePlane, valuePlane}
 use Rattle.layout.specs.declared.Base.{Base}
 use Rattle.layout.specs.declared.Layout.{Layout}
-use Rattle.layout.specs.Layout.{Fits, Ordered}
+use Rattle.layout.specs.Layout.{Fits}
+use Rattle.refusal.specs.declared.Stage.{Stage}
 use Rattle.options.specs.declared.Options.{Options}
 use Rattle.options.specs.Options.{guidanceOf}
-use Rattle.options.specs.Pass.{Passed, floorOf}
+use Rattle.options.specs.Pass.{Passed, field, stageOf, floorOf}
 use Rattle.pass.specs.declared.Asked.{Asked}
 use Rattle.pass.specs.Pass.{passOf}
 
@@ -55,10 +56,18 @@ pub record GuidanceRoom (guided : Bool) (angles : ℕ) (c : Cuts) (numbers : ℕ
   pub guidance-in : guided ≡ true → l .guidance + (angles + c .sides) ≤ work
 
 -- a floor of these points, sizes and cut sides, with that guidance, can be laid out and passed over where it begins at `at`
-pub record MakeRoom (at : Base) (guided : Bool) (points sizes angles : ℕ) (c : Cuts) (work numbers : ℕ) : Type 0 where
+pub record LaidRoom (at : Base) (guided : Bool) (points sizes angles : ℕ) (c : Cuts) (work numbers : ℕ) : Type 0 where
   pub whole : points ≡ 3 * (points / 3)
   pub sized : sizes ≡ points / 3
   pub guided-all : guided ≡ true → angles ≡ points / 3
   pub ends-in : c .ends + 3 * c .sides ≤ numbers
   pub all-points : at .points ≡ points / 3 + c .sides
   pub fits : Fits at work numbers
+
+-- ---- a pass that was made where it begins at `at`: its answer, and its angles where it has some; nothing before them has changed
+pub record Made (at : Base) (p : Passed) (w w′ : List Float) (u u′ : List ℕ) (r : Stage) : Type 0 where
+  pub answer : r ≡ stageOf p
+  pub found : (alpha : List Float) → p ≡ field alpha → region nan w′ (at .reals) (at .points) ≡ alpha
+  pub all-reals : length w′ ≡ length w
+  pub all-words : length u′ ≡ length u
+  pub reals-below : (j : ℕ) → j < at .reals → getD w′ j nan ≡ getD w j nan

@@ -1,0 +1,58 @@
+-- What holds of every accepted pass: three different corners in each triangle, as many angles as points, each in [0, FRAC_PI_2). Assumes nothing.
+use Prim.Native.Nat.{ℕ, _<_}
+use native.Mathlib.Omega.{arith}
+use mathlib.Core.Path.{_≡_, refl, sym, ap, _∙_}
+use mathlib.Core.Bool.{Bool, true, false, cond}
+use mathlib.Core.List.{List, [], _∷_}
+use lib.ListN.{length, getD}
+use lib.Ieee.{Float, nan}
+use Rattle.complex.specs.Angle.{IsCross}
+use Rattle.mesh.specs.Mesh.{Tri, tri, Good, All}
+use Rattle.mesh.specs.Claim.{InRange}
+use Rattle.floor.specs.Floor.{Floor, pointsOf}
+use Rattle.conjugate_gradient.specs.Solve.{unfit}
+use Rattle.shift.specs.declared.Traces.{Traces}
+use Rattle.refusal.specs.Refusal.{gaveUp}
+use Rattle.options.specs.declared.Options.{Options}
+use Rattle.options.specs.Options.{Guidance}
+use Rattle.options.specs.Pass.{Passed, field, faulty, ThreeCorners, PassFacts}
+use Rattle.setup.specs.declared.Setup.{Setup}
+use Rattle.setup.specs.declared.Setup.the-variants.{Edges, Refused}
+use Rattle.setup.specs.Setup.{setupOf}
+use Rattle.setup.proofs.Floors.{setup-good}
+use Rattle.branches.specs.Branches.{branchOf}
+use Rattle.branches.proofs.Fields.{branch-field}
+use Rattle.pass.specs.Pass.{tracesIn, builtOf, afterTraces, afterSetup, fieldOver, passOf}
+
+-- an accepted pass had its floor set up, and its traces passed
+set-up : (s : Setup) (next : Passed) (alpha : List Float) → afterSetup s next ≡ field alpha → ((m : ℕ) × (s ≡ Edges m)) × (next ≡ field alpha)
+set-up (Edges m) next alpha e = ((m, refl), e)
+set-up (Refused x) next alpha e = let z : _≡_ {A = ℕ} 0 1 = cc in absurd (omega arith)
+
+traced : (t : Traces) (next : Passed) (alpha : List Float) → afterTraces t next ≡ field alpha → next ≡ field alpha
+traced t next alpha = go (unfit (t .energy)) (unfit (t .mass))
+  where
+    go : (b c : Bool) → cond b (faulty (gaveUp 1 0)) (cond c (faulty (gaveUp 2 0)) next) ≡ field alpha → next ≡ field alpha
+    go true c e = let z : _≡_ {A = ℕ} 0 1 = cc in absurd (omega arith)
+    go false true e = let z : _≡_ {A = ℕ} 0 1 = cc in absurd (omega arith)
+    go false false e = e
+
+three : (n : ℕ) (ts : List Tri) → All (Good n) ts → All ThreeCorners ts
+three n [] h = tt
+three n (tri a b c ∷ ts) h = ((h .0 .3, h .0 .4, h .0 .5), three n ts (h .1))
+
+module _ (f : Floor) (o : Options) (g : Guidance) (k : ℕ) (alpha : List Float) (e : passOf f o g k ≡ field alpha) where
+  was-set-up : ((m : ℕ) × (setupOf f ≡ Edges m)) × (fieldOver f o g k ≡ field alpha)
+  unfolding passOf
+  was-set-up = set-up (setupOf f) (fieldOver f o g k) alpha e
+
+  by-branch : branchOf (builtOf o f) f o g k ≡ field alpha
+  unfolding fieldOver
+  by-branch = traced (tracesIn o f) _ alpha (was-set-up .1)
+
+pub pass-facts : PassFacts passOf
+pass-facts = record {
+  three-corners = λ f o g k alpha h e. three (pointsOf f) (f .triangles) (setup-good f (was-set-up f o g k alpha e .0 .1) h .0);
+  as-many = λ f o g k alpha e. branch-field (builtOf o f) f o g k alpha (by-branch f o g k alpha e) .0;
+  range = λ f o g k alpha e. branch-field (builtOf o f) f o g k alpha (by-branch f o g k alpha e) .1;
+}
