@@ -1,8 +1,8 @@
 -- The bucket of a side is one of the N. Assumes nothing.
 use Prim.Native.Nat.{ℕ, _*_, _/_, _%_, _^_, _≤_, _<_}
-use native.Mathlib.Nat.{mod-lt, div-lt-iff-lt-mul, mul-lt-mul-of-pos-right, mul-le-mul-left, mul-comm, lt-of-lt-of-le}
+use native.Mathlib.Nat.{mod-lt, div-lt-iff-lt-mul, mul-lt-mul-of-pos-right, mul-comm}
 use native.Mathlib.Omega.{arith}
-use mathlib.Core.Path.{_≡_, refl, subst}
+use mathlib.Core.Path.{subst}
 
 scaled : (x N : ℕ) → 0 < N → x % 2 ^ 32 * N < N * 2 ^ 32
 scaled x N h = subst (λ (k : ℕ). x % 2 ^ 32 * N < k) (mul-comm (2 ^ 32) N) (mul-lt-mul-of-pos-right (mod-lt x (omega arith)) h)

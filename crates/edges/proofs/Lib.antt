@@ -3,3 +3,4 @@ pub mod Chain
 pub mod Counts
 pub mod Numbering
 pub mod Stored
+pub mod Split

@@ -5,19 +5,18 @@ use native.Mathlib.Omega.{arith}
 use native.Mathlib.Decide.{ℕ-discrete}
 use native.Mathlib.Numerals.{add-one}
 use mathlib.Core.Path.{_≡_, refl, sym, ap, ap₂, _∙_, subst}
-use mathlib.Core.Logic.{_≢_, _⊎_, inl, inr, ⊎-elim}
-use mathlib.Core.Bool.{Bool, true, false, cond}
+use mathlib.Core.Logic.{_⊎_, inl, inr, ⊎-elim}
 use mathlib.Core.List.{List, [], _∷_, _++_}
-use mathlib.Core.Option.{Option, none, some}
+use mathlib.Core.Option.{some}
 use borrow.Author.Tests.{eq-eqb, ne-eqb}
 use lib.Dec.{eqb}
-use lib.ListN.{length, getD, set, length-set, replicate, length-replicate}
-use lib.Seq.{getD-set-same, getD-set-other, sets, length-sets}
+use lib.ListN.{length, length-append, getD, List·getD-append, set, length-set, replicate, length-replicate}
+use lib.Seq.{getD-at, getD-set-same, getD-set-other, sets, length-sets}
 use Rattle.mesh.specs.Mesh.{Side, side, key, Tri, tri, place, met, metAll, sides, sidesAfter, one}
 use Rattle.mesh.proofs.Theorem.{place-below}
 use Rattle.runs.proofs.Runs.{sets-before, sets-behind}
-use Rattle.edges.specs.Table.{Table, slotOf, last, pairs, headOf, loOf, hiOf, linkOf, sidesIn, Held, Outside, MetTri, NumbersOf}
-use Rattle.edges.specs.Numbering.{triFrom, trisFrom, Plan, NumberStep, NumberedTo, occurs, Below, Counted}
+use Rattle.edges.specs.Table.{slotOf, last, pairs, loOf, hiOf, sidesIn, Held, MetTri, NumbersOf}
+use Rattle.edges.specs.Numbering.{triFrom, trisFrom, Room, NumberStep, NumberedTo, occurs, Below, Counted}
 use Rattle.edges.proofs.Chain.{length-pairs}
 use Rattle.edges.proofs.Stored.{met-keeps, zeros-at}
 
@@ -79,13 +78,19 @@ module _ (l : List ℕ) (i p q r : ℕ) where
 -- ---- a triangle is looked at
 
 -- the numbers of a triangle's sides are below their count
-pub numbers-below : {o N : ℕ} {w w′ : List ℕ} {m m′ p q r a b c : ℕ} → MetTri o N w m w′ m′ p q r (tri a b c) → (p < m′) × (q < m′) × (r < m′)
+numbers-below : {o N : ℕ} {w w′ : List ℕ} {m m′ p q r a b c : ℕ} → MetTri o N w m w′ m′ p q r (tri a b c) → (p < m′) × (q < m′) × (r < m′)
 numbers-below {o} {N} {w} {w′} {m} {m′} t = (low _ _ (t .numbers .0), low _ _ (t .numbers .1), low _ _ (t .numbers .2))
   where
     low : (s : Side) (p : ℕ) → place s (sidesIn o N w′ m′) ≡ some p → p < m′
     low s p h = omega (arith, place-below s (sidesIn o N w′ m′) p h, length-pairs (loOf o N w′) (hiOf o N w′) m′)
 
-pub step-of : {c e o N t i : ℕ} {w w₁ w′ : List ℕ} {m m′ p q r : ℕ} → Plan c e o N t (length w) → i < t → m ≤ 3 * i → MetTri o N w m w₁ m′ p q r (triFrom c w i) → w′ ≡ sets w₁ (e + 3 * i) (p ∷ q ∷ r ∷ [])
+-- and fit 32 bits
+pub numbers-fit : {c e o N t i len : ℕ} {w w′ : List ℕ} {m m′ p q r x y z : ℕ} → Room c e o N t len → (i < t) × (m ≤ 3 * i) → MetTri o N w m w′ m′ p q r (tri x y z) → (p < 2 ^ 32) × (q < 2 ^ 32) × (r < 2 ^ 32)
+numbers-fit room few met =
+    let b = numbers-below met in
+    (omega (arith, b .0, met .more, room .narrow, few .0, few .1), omega (arith, b .1, met .more, room .narrow, few .0, few .1), omega (arith, b .2, met .more, room .narrow, few .0, few .1))
+
+pub step-of : {c e o N t i : ℕ} {w w₁ w′ : List ℕ} {m m′ p q r : ℕ} → Room c e o N t (length w) → i < t → m ≤ 3 * i → MetTri o N w m w₁ m′ p q r (triFrom c w i) → w′ ≡ sets w₁ (e + 3 * i) (p ∷ q ∷ r ∷ [])
     → NumberStep c e o N i w m w′ m′
 step-of {c} {e} {o} {N} {t} {i} {w} {w₁} {w′} {m} {m′} {p} {q} {r} plan it few met z =
     let a = e + 3 * i in
@@ -123,6 +128,20 @@ unfolding trisFrom
 tris-same c zero w w′ h = refl
 tris-same c (suc i) w w′ h = rw (tris-same c i w w′ (λ j g. h j (omega arith)), h (c + 3 * i) (omega arith), h (c + 3 * i + 1) (omega arith), h (c + 3 * i + 2) (omega arith))
 
+pub length-tris : (c : ℕ) (w : List ℕ) (t : ℕ) → length (trisFrom c w t) ≡ t
+unfolding trisFrom
+length-tris c w zero = refl
+length-tris c w (suc t) = length-append (trisFrom c w t) (triFrom c w t ∷ []) ∙ omega (arith, length-tris c w t)
+
+pub tri-at : (c : ℕ) (w : List ℕ) (t i : ℕ) (d : Tri) → i < t → getD (trisFrom c w t) i d ≡ triFrom c w i
+unfolding trisFrom
+tri-at c w zero i d h = absurd (omega arith)
+tri-at c w (suc t) i d h = go (ℕ-discrete i t) (λ l. tri-at c w t i d l)
+  where
+    go : Dec (i ≡ t) → (i < t → getD (trisFrom c w t) i d ≡ triFrom c w i) → getD (trisFrom c w t ++ (triFrom c w t ∷ [])) i d ≡ triFrom c w i
+    go (yes e) old = rw e (getD-at (trisFrom c w t) (triFrom c w t) [] d t (length-tris c w t))
+    go (no e) old = List·getD-append (trisFrom c w t) (triFrom c w t ∷ []) d i (omega (arith, length-tris c w t)) ∙ old (omega arith)
+
 pub numbered-none : (c e o N : ℕ) (w : List ℕ) → Held o N w 0 → NumberedTo c e o N 0 w w 0
 unfolding pairs trisFrom sidesAfter
 numbered-none c e o N w h = record {
@@ -134,7 +153,7 @@ numbered-none c e o N w h = record {
   elsewhere = λ j p q. refl;
 }
 
-pub numbered-more : {c e o N t i : ℕ} {w₀ w w′ : List ℕ} {m m′ : ℕ} → Plan c e o N t (length w₀) → i < t → NumberedTo c e o N i w₀ w m → NumberStep c e o N i w m w′ m′ → NumberedTo c e o N (i + 1) w₀ w′ m′
+pub numbered-more : {c e o N t i : ℕ} {w₀ w w′ : List ℕ} {m m′ : ℕ} → Room c e o N t (length w₀) → i < t → NumberedTo c e o N i w₀ w m → NumberStep c e o N i w m w′ m′ → NumberedTo c e o N (i + 1) w₀ w′ m′
 unfolding trisFrom
 numbered-more {c} {e} {o} {N} {t} {i} {w₀} {w} {w′} {m} {m′} plan it n s =
     let met : sidesIn o N w′ m′ ≡ metAll (sidesIn o N w m) (sides (triFrom c w₀ i)) = s .now-met ∙ ap (λ (x : Tri). metAll (sidesIn o N w m) (sides x)) here in
@@ -168,6 +187,46 @@ numbered-more {c} {e} {o} {N} {t} {i} {w₀} {w} {w′} {m} {m′} plan it n s =
           stays _ _ (x .1) ∙ ap some (sym (cell (e + 3 * k + 1) (omega arith) (omega (arith, plan .numbers)))),
           stays _ _ (x .2) ∙ ap some (sym (cell (e + 3 * k + 2) (omega arith) (omega (arith, plan .numbers)))),
         )
+
+-- from the slice as it was before its table was cleared
+pub numbered-cleared : {c e o N t : ℕ} {w w₁ w′ : List ℕ} {m : ℕ} → Room c e o N t (length w) → w₁ ≡ sets w o (replicate N 0) → NumberedTo c e o N t w₁ w′ m → NumberedTo c e o N t w w′ m
+numbered-cleared {c} {e} {o} {N} {t} {w} {w₁} {w′} {m} plan z n = record {
+  held = n .held;
+  all-met = n .all-met ∙ ap (sidesAfter []) (tris-same c t w w₁ (λ j h. before j (omega (arith, plan .corners, plan .numbers))));
+  numbers = λ i h. subst (λ (x : Tri). NumbersOf x (sidesIn o N w′ m) (getD w′ (e + 3 * i) 0) (getD w′ (e + 3 * i + 1) 0) (getD w′ (e + 3 * i + 2) 0)) (tri-same i h) (n .numbers i h);
+  few = n .few;
+  same-length = n .same-length ∙ ap length z ∙ length-sets w o (replicate N 0);
+  elsewhere = λ j p q. n .elsewhere j p q ∙ ap (λ (l : List ℕ). getD l j 0) z ∙ ⊎-elim (λ b. sets-before w o (replicate N 0) j 0 b) (λ b. sets-behind w o (replicate N 0) j 0 (omega (arith, length-replicate {A = ℕ} N 0))) p;
+}
+  where
+    before : (j : ℕ) → j < o → getD w₁ j 0 ≡ getD w j 0
+    before j h = ap (λ (l : List ℕ). getD l j 0) z ∙ sets-before w o (replicate N 0) j 0 h
+
+    tri-same : (i : ℕ) → i < t → triFrom c w₁ i ≡ triFrom c w i
+    tri-same i h =
+        let p = before (c + 3 * i) (omega (arith, plan .corners, plan .numbers)) in
+        let q = before (c + 3 * i + 1) (omega (arith, plan .corners, plan .numbers)) in
+        let r = before (c + 3 * i + 2) (omega (arith, plan .corners, plan .numbers)) in
+        rw (p, q, r)
+
+-- the numbers are below their count
+below-to : (e m : ℕ) (l : List Side) → length l ≡ m → (w : List ℕ) (ts : ℕ → Tri) (i : ℕ)
+    → ((k : ℕ) → k < i → NumbersOf (ts k) l (getD w (e + 3 * k) 0) (getD w (e + 3 * k + 1) 0) (getD w (e + 3 * k + 2) 0)) → Below m e w (3 * i)
+below-to e m l z w ts zero h = λ j g. absurd (omega arith)
+below-to e m l z w ts (suc i) h = λ j g. go j g (ts i) (h i (omega arith)) (below-to e m l z w ts i (λ k b. h k (omega arith))) (ℕ-discrete j (3 * i)) (ℕ-discrete j (3 * i + 1)) (ℕ-discrete j (3 * i + 2))
+  where
+    low : (s : Side) (k : ℕ) → place s l ≡ some k → k < m
+    low s k h = omega (arith, place-below s l k h)
+
+    go : (j : ℕ) → j < 3 * suc i → (t : Tri) → NumbersOf t l (getD w (e + 3 * i) 0) (getD w (e + 3 * i + 1) 0) (getD w (e + 3 * i + 2) 0) → Below m e w (3 * i)
+        → Dec (j ≡ 3 * i) → Dec (j ≡ 3 * i + 1) → Dec (j ≡ 3 * i + 2) → getD w (e + j) 0 < m
+    go j g (tri a b c) n before (yes q) r s = let f : e + 3 * i ≡ e + j = omega arith in subst (λ (k : ℕ). getD w k 0 < m) f (low (key a b) (getD w (e + 3 * i) 0) (n .0))
+    go j g (tri a b c) n before (no q) (yes r) s = let f : e + 3 * i + 1 ≡ e + j = omega arith in subst (λ (k : ℕ). getD w k 0 < m) f (low (key b c) (getD w (e + 3 * i + 1) 0) (n .1))
+    go j g (tri a b c) n before (no q) (no r) (yes s) = let f : e + 3 * i + 2 ≡ e + j = omega arith in subst (λ (k : ℕ). getD w k 0 < m) f (low (key c a) (getD w (e + 3 * i + 2) 0) (n .2))
+    go j g (tri a b c) n before (no q) (no r) (no s) = before j (omega arith)
+
+pub numbered-below : {c e o N t : ℕ} {w w′ : List ℕ} {m : ℕ} → NumberedTo c e o N t w w′ m → Below m e w′ (3 * t)
+numbered-below {c} {e} {o} {N} {t} {w} {w′} {m} n = below-to e m (sidesIn o N w′ m) (length-pairs (loOf o N w′) (hiOf o N w′) m) w′ (triFrom c w) t (n .numbers)
 
 -- ---- how often each number occurs
 

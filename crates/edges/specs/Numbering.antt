@@ -19,11 +19,13 @@ trisFrom c w zero = []
 trisFrom c w (suc i) = trisFrom c w i ++ (triFrom c w i ∷ [])
 
 -- there is room for t triangles: corners, numbers, table, in this order
-pub record Plan (c e o N t len : ℕ) : Type 0 where
+pub record Room (c e o N t len : ℕ) : Type 0 where
   pub corners : c + 3 * t ≤ e
   pub numbers : e + 3 * t ≤ o
   pub table : o + N + 9 * t ≤ len
   pub narrow : 3 * t < 2 ^ 32
+  pub buckets : 0 < N
+  pub few-buckets : N ≤ 2 ^ 32
 
 -- triangle i was looked at: its sides are met, and their numbers stand at their place
 pub record NumberStep (c e o N i : ℕ) (w : List ℕ) (m : ℕ) (w′ : List ℕ) (m′ : ℕ) : Type 0 where

@@ -3,11 +3,12 @@
 -- for none. Which bucket a side is in matters to nothing but the time that a search takes. Definitions only.
 use Prim.Native.Nat.{ℕ, zero, suc, _+_, _*_, _/_, _%_, _^_, _≤_, _<_}
 use mathlib.Core.Path.{_≡_}
-use mathlib.Core.Bool.{Bool, cond, _&&_}
-use mathlib.Core.List.{List, [], _∷_, _++_}
+use mathlib.Core.Bool.{cond, _&&_}
+use mathlib.Core.List.{List, [], _∷_, _++_, map}
 use mathlib.Core.Option.{Option, none, some}
 use lib.Dec.{eqb}
 use lib.ListN.{length, getD}
+use lib.Seq.{sets}
 use Rattle.mesh.specs.Mesh.{Side, side, key, Tri, tri, sides, met, metAll, place, Numbered}
 
 -- the bucket of a side, of N buckets. Any function would do: no proof but that of `slot` looks into it
@@ -49,6 +50,22 @@ linkOf o N w k = getD w (o + N + 3 * k + 2) 0
 -- the first m sides of a table
 abbrev pub sidesIn : ℕ → ℕ → List ℕ → ℕ → List Side
 sidesIn o N w m = pairs (loOf o N w) (hiOf o N w) m
+
+-- a side's lower and its upper end
+abbrev pub lower : Side → ℕ
+lower (side a b) = a
+
+abbrev pub upper : Side → ℕ
+upper (side a b) = b
+
+-- w with the lower ends of the first m sides of a table from f on, and their upper ends from t on
+unfoldable pub split : ℕ → ℕ → ℕ → ℕ → ℕ → List ℕ → List ℕ
+split o N m f t w = sets (sets w f (map lower (sidesIn o N w m))) t (map upper (sidesIn o N w m))
+
+-- every third number from a on, m of them
+unfoldable pub thirds : ℕ → List ℕ → ℕ → List ℕ
+thirds a w zero = []
+thirds a w (suc k) = thirds a w k ++ (getD w (a + 3 * k) 0 ∷ [])
 
 -- m sides stand in the slice w from o on, with N buckets
 pub record Held (o N : ℕ) (w : List ℕ) (m : ℕ) : Type 0 where

@@ -5,8 +5,8 @@ ghost use Prim.Native.Nat.{_+_, _*_, _<_, _≤_, _^_};
 ghost use mathlib.Core.List.{[], _∷_};
 ghost use lib.ListN.{length, getD, set};
 ghost use lib.Seq.{sets};
-ghost use Rattle.edges.specs.Table.{Held};
-ghost use Rattle.edges.specs.Numbering.{Plan, NumberStep, NumberedTo, Below, Counted};
+ghost use Rattle.edges.specs.Table.{Held, thirds, split};
+ghost use Rattle.edges.specs.Numbering.{Room, NumberStep, NumberedTo, Below, Counted};
 
 // Three numbers in a row.
 pub fn put_three(w: &mut [u32], at: usize, p: u32, q: u32, r: u32)
@@ -18,44 +18,80 @@ pub fn put_three(w: &mut [u32], at: usize, p: u32, q: u32, r: u32)
     w[at + 2] = r;
 }
 
+// How many triangles there are, where their corners stand and where the numbers of their sides go, three each; and the table behind both.
+pub struct Plan {
+    pub triangles: usize,
+    pub corners: usize,
+    pub numbers: usize,
+    pub table: usize,
+    pub buckets: usize,
+}
+
 // The sides of triangle i are met, and their numbers stored. How many sides there are then.
-fn number_triangle(
-    w: &mut [u32],
-    c: usize,
-    e: usize,
-    base: usize,
-    n: usize,
-    t: usize,
-    i: usize,
-    m: usize,
-) -> usize
-    requires { ⌜ Plan c e base n t (length (now w)) ⌝ }
-    requires { ⌜ Held base n (now w) m ⌝ }
-    requires { ⌜ (i < t) × (m ≤ 3 * i) ⌝ }
-    ensures { λ r. ⌜ NumberStep c e base n i (now (w .entry)) m (now (w .exit)) r ⌝ }
+fn number_triangle(w: &mut [u32], p: Plan, i: usize, m: usize) -> usize
+    requires { ⌜ Room (p .corners) (p .numbers) (p .table) (p .buckets) (p .triangles) (length (now w)) ⌝ }
+    requires { ⌜ Held (p .table) (p .buckets) (now w) m ⌝ }
+    requires { ⌜ (i < p .triangles) × (m ≤ 3 * i) ⌝ }
+    ensures { λ r. ⌜ NumberStep (p .corners) (p .numbers) (p .table) (p .buckets) i (now (w .entry)) m (now (w .exit)) r ⌝ }
 {
-    let k = c + 3 * i;
-    let u = w[k];
-    let v = w[k + 1];
-    let x = w[k + 2];
-    let met = crate::meet_triangle(w, base, n, m, u, v, x);
-    put_three(w, e + 3 * i, met.ab as u32, met.bc as u32, met.ca as u32);
+    let k = p.corners + 3 * i;
+    let a = w[k];
+    let b = w[k + 1];
+    let c = w[k + 2];
+    let met = crate::meet_triangle(w, p.table, p.buckets, m, a, b, c);
+    put_three(
+        w,
+        p.numbers + 3 * i,
+        met.ab as u32,
+        met.bc as u32,
+        met.ca as u32,
+    );
     met.sides
 }
 
-// The sides of the t triangles whose corners stand from c on are met, and their numbers stored from e on. How many sides there are.
-pub fn number_triangles(w: &mut [u32], c: usize, e: usize, base: usize, n: usize, t: usize) -> usize
-    requires { ⌜ Plan c e base n t (length (now w)) ⌝ }
-    requires { ⌜ Held base n (now w) 0 ⌝ }
-    ensures { λ r. ⌜ NumberedTo c e base n t (now (w .entry)) (now (w .exit)) r ⌝ }
+// The sides of all triangles are met in an empty table, and their numbers stored. How many sides there are.
+fn number_all(w: &mut [u32], p: Plan) -> usize
+    requires { ⌜ Room (p .corners) (p .numbers) (p .table) (p .buckets) (p .triangles) (length (now w)) ⌝ }
+    requires { ⌜ Held (p .table) (p .buckets) (now w) 0 ⌝ }
+    ensures { λ r. ⌜ NumberedTo (p .corners) (p .numbers) (p .table) (p .buckets) (p .triangles) (now (w .entry)) (now (w .exit)) r ⌝ }
 {
     let mut m = 0;
     let mut i = 0;
-    while i < t {
-        m = number_triangle(w, c, e, base, n, t, i, m);
+    while i < p.triangles {
+        m = number_triangle(w, p, i, m);
         i += 1;
     }
     m
+}
+
+// The same, in a table that it clears itself.
+pub fn number_triangles(w: &mut [u32], p: Plan) -> usize
+    requires { ⌜ Room (p .corners) (p .numbers) (p .table) (p .buckets) (p .triangles) (length (now w)) ⌝ }
+    ensures { λ r. ⌜ NumberedTo (p .corners) (p .numbers) (p .table) (p .buckets) (p .triangles) (now (w .entry)) (now (w .exit)) r ⌝ }
+{
+    crate::clear(w, p.table, p.buckets);
+    number_all(w, p)
+}
+
+// Every third of the numbers from `at` on, m of them, copied to `to`.
+fn copy_thirds(w: &mut [u32], at: usize, m: usize, to: usize)
+    requires { ⌜ (at + 3 * m ≤ to + 2) × (to + m ≤ length (now w)) ⌝ }
+    ensures { λ _. ⌜ now (w .exit) ≡ sets (now (w .entry)) to (thirds at (now (w .entry)) m) ⌝ }
+{
+    let mut k = 0;
+    while k < m {
+        w[to + k] = w[at + 3 * k];
+        k += 1;
+    }
+}
+
+// The lower ends of the first m sides of a table, copied to `from`, and their upper ends to `to`.
+pub fn split_ends(w: &mut [u32], base: usize, n: usize, m: usize, from: usize, to: usize)
+    requires { ⌜ (base + n + 3 * m ≤ from) × (from + m ≤ to) × (to + m ≤ length (now w)) ⌝ }
+    ensures { λ _. ⌜ now (w .exit) ≡ split base n m from to (now (w .entry)) ⌝ }
+{
+    copy_thirds(w, base + n, m, from);
+    copy_thirds(w, base + n + 1, m, to);
 }
 
 // One more of number j from e on, among the counts from a on.

@@ -1,4 +1,5 @@
--- The lowest index: a loop that has found none so far, one that finds it, and one that finds none; and the indices below it. Assumes nothing.
+-- The lowest index: a loop that has found none so far, one that finds it, and one that finds none; the indices below it; two tests that are the same.
+-- Assumes nothing.
 use Prim.Native.Nat.{ℕ, zero, suc, _+_, _-_, _≤_, _<_}
 use native.Mathlib.Omega.{arith}
 use native.Mathlib.Numerals.{add-one}
@@ -41,6 +42,11 @@ lowest-most p (suc i) = go (ltb (lowest p i) i) (p i) (lowest-most p i)
     go true c h = omega arith
     go false true h = omega arith
     go false false h = omega arith
+
+pub lowest-same : (p q : ℕ → Bool) (n : ℕ) → ((i : ℕ) → i < n → p i ≡ q i) → lowest p n ≡ lowest q n
+unfolding lowest
+lowest-same p q zero h = refl
+lowest-same p q (suc n) h = rw (lowest-same p q n (λ i l. h i (omega arith)), h n (omega arith))
 
 -- below the lowest index it does not hold
 pub lowest-before : (p : ℕ → Bool) (n i : ℕ) → i < lowest p n → p i ≡ false

@@ -1,30 +1,74 @@
--- The sums of a pass's gradients, one more triangle at a time: at each point, what a triangle adds there. Assumes nothing.
-use Prim.Native.Nat.{ℕ, zero, suc, _+_, _*_, _≤_, _<_}
+-- The sums of a pass's gradients, one more triangle at a time: at each point, what a triangle adds there. What is read lies before the sums, and is the
+-- same for points, triangles and areas that are the same. Assumes nothing.
+use Prim.Native.Nat.{ℕ, zero, suc, _+_, _-_, _*_, _≤_, _<_}
 use native.Mathlib.Omega.{arith}
 use native.Mathlib.Decide.{ℕ-discrete}
 use native.Mathlib.Numerals.{add-one}
-use mathlib.Core.Path.{_≡_, refl, sym, ap, ap₂, _∙_, subst}
-use mathlib.Core.Logic.{_≢_, _⊎_, inl, inr, ⊎-elim}
-use mathlib.Core.Bool.{Bool, true, false, cond}
+use mathlib.Core.Path.{_≡_, refl, ap, ap₂, _∙_}
+use mathlib.Core.Logic.{_≢_, _⊎_, inl, ⊎-elim}
+use mathlib.Core.Bool.{cond}
 use mathlib.Core.List.{List}
 use borrow.Author.Tests.{eq-eqb, ne-eqb}
 use lib.Dec.{eqb}
-use lib.ListN.{length, length-set, getD, set}
+use lib.ListN.{length, length-set, getD, replicate, length-replicate, getD-replicate}
 use lib.Seq.{getD-set-same, getD-set-other}
 use lib.Ieee.{Float, nan}
 use Rattle.float.specs.Double.{lit, _⊕_, _⊗_}
 use Rattle.plane.specs.declared.Pair.{Pair}
 use Rattle.mesh.specs.Mesh.{Tri, tri}
+use Rattle.cells.specs.Region.{put, Apart}
+use Rattle.cells.proofs.Loops.{apart}
+use Rattle.cells.proofs.Regions.{length-put, put-within, put-else}
 use Rattle.edges.specs.Numbering.{triFrom, Below}
-use Rattle.geometry.specs.Triangle.{at}
-use Rattle.geometries.specs.Geometries.{coordsFrom}
+use Rattle.geometries.specs.Geometries.{coordsFrom, Cornered}
 use Rattle.geometries.proofs.Steps.{corners-below}
-use Rattle.gradients.specs.Gradients.{gradientOn, addCorner, addTri, sumTo, weighedX, weighedY, Room, addAt, addThree, addTriangle, GatheredTo}
+use Rattle.gradients.specs.declared.Plan.{Plan}
+use Rattle.gradients.specs.Gradients.{gradientOn, addCorner, addTri, sumTo, weighedX, weighedY, Room, gradientIn, partX, partY, addAt, addThree, addTriangle, GatheredTriangle, GatheredTo}
 
 -- a triangle whose corners and gradient were read
-pub added : (X Y S : ℕ → Float) (g n : ℕ) (w : List Float) (a : Float) {i j k i′ j′ k′ : ℕ} {d : Pair} → i ≡ i′ → j ≡ j′ → k ≡ k′ → d ≡ gradientOn X Y S (tri i j k) a
-    → addTriangle g n (tri i j k) (a ⊗ d .x) (a ⊗ d .y) a w ≡ addTriangle g n (tri i′ j′ k′) (a ⊗ gradientOn X Y S (tri i′ j′ k′) a .x) (a ⊗ gradientOn X Y S (tri i′ j′ k′) a .y) a w
-added X Y S g n w a {i} {j} {k} p q r e = rw (e, ← p, ← q, ← r)
+pub added : (p : Plan) (t : ℕ) (u : List ℕ) (w : List Float) (a : Float) {w′ : List Float} {i j k : ℕ} {d : Pair} → i ≡ getD u (p .wound + 3 * t) 0 → j ≡ getD u (p .wound + 3 * t + 1) 0 → k ≡ getD u (p .wound + 3 * t + 2) 0
+    → a ≡ coordsFrom w (p .areas) t → d ≡ gradientIn p w (tri i j k) a → w′ ≡ addTriangle (p .gradients) (p .points) (tri i j k) (a ⊗ d .x) (a ⊗ d .y) a w → GatheredTriangle p t u w w′
+added p t u w a e f g l h q = q ∙ rw (h, ← e, ← f, ← g, ← l)
+
+-- ---- what is read
+
+-- points, triangles and areas that are the same, of n points and t triangles
+module _ (X Y S A X′ Y′ S′ A′ : ℕ → Float) (ts ts′ : ℕ → Tri) (n t : ℕ) (same-x : (v : ℕ) → v < n → X v ≡ X′ v) (same-y : (v : ℕ) → v < n → Y v ≡ Y′ v) (same-s : (v : ℕ) → v < n → S v ≡ S′ v)
+    (same-a : (i : ℕ) → i < t → A i ≡ A′ i) (same-t : (i : ℕ) → i < t → ts i ≡ ts′ i) (cornered : (i : ℕ) → i < t → Cornered n (ts i)) where
+  gradient-same : (s : Tri) (a : Float) → Cornered n s → gradientOn X Y S s a ≡ gradientOn X′ Y′ S′ s a
+  gradient-same (tri i j k) a b =
+      rw (same-x i (b .0), same-y i (b .0), same-s i (b .0), same-x j (b .1 .0), same-y j (b .1 .0), same-s j (b .1 .0), same-x k (b .1 .1), same-y k (b .1 .1), same-s k (b .1 .1))
+
+  on-same : (i : ℕ) → i < t → gradientOn X Y S (ts i) (A i) ≡ gradientOn X′ Y′ S′ (ts′ i) (A′ i)
+  on-same i h = gradient-same (ts i) (A i) (cornered i h) ∙ ap₂ (gradientOn X′ Y′ S′) (same-t i h) (same-a i h)
+
+  pub weighed-x-same : (i : ℕ) → i < t → weighedX X Y S ts A i ≡ weighedX X′ Y′ S′ ts′ A′ i
+  weighed-x-same i h = ap₂ (λ (a : Float) (d : Pair). a ⊗ d .x) (same-a i h) (on-same i h)
+
+  pub weighed-y-same : (i : ℕ) → i < t → weighedY X Y S ts A i ≡ weighedY X′ Y′ S′ ts′ A′ i
+  weighed-y-same i h = ap₂ (λ (a : Float) (d : Pair). a ⊗ d .y) (same-a i h) (on-same i h)
+
+pub sum-same : (ts ts′ : ℕ → Tri) (f f′ : ℕ → Float) (v t : ℕ) → ((i : ℕ) → i < t → ts i ≡ ts′ i) → ((i : ℕ) → i < t → f i ≡ f′ i) → sumTo ts f v t ≡ sumTo ts′ f′ v t
+unfolding sumTo
+sum-same ts ts′ f f′ v zero p q = refl
+sum-same ts ts′ f f′ v (suc t) p q = rw (sum-same ts ts′ f f′ v t (λ i h. p i (omega arith)) (λ i h. q i (omega arith)), p t (omega arith), q t (omega arith))
+
+-- a slice that is the same before the sums
+module _ (p : Plan) (u : List ℕ) (w w′ : List Float) {reals : ℕ} (room : Room p reals (length u)) (below : Below (p .points) (p .wound) u (3 * p .triangles)) (same : (j : ℕ) → j < p .gradients → getD w′ j nan ≡ getD w j nan) where
+  plane : (b n : ℕ) → b + n ≤ p .gradients → (v : ℕ) → v < n → coordsFrom w′ b v ≡ coordsFrom w b v
+  plane b n h v g = same (b + v) (omega arith)
+
+  cornered : (i : ℕ) → i < p .triangles → Cornered (p .points) (triFrom (p .wound) u i)
+  cornered i h = corners-below (p .points) (p .wound) u i (λ q r. below q (omega arith))
+
+  pub area-same : (i : ℕ) → i < p .triangles → coordsFrom w′ (p .areas) i ≡ coordsFrom w (p .areas) i
+  area-same = plane (p .areas) (p .triangles) (room .areas-in)
+
+  pub part-x-same : (i : ℕ) → i < p .triangles → partX p w′ u i ≡ partX p w u i
+  part-x-same = weighed-x-same _ _ _ _ _ _ _ _ (triFrom (p .wound) u) (triFrom (p .wound) u) (p .points) (p .triangles) (plane (p .x) (p .points) (room .x-in)) (plane (p .y) (p .points) (room .y-in)) (plane (p .sizes) (p .points) (room .sizes-in)) area-same (λ i h. refl) cornered
+
+  pub part-y-same : (i : ℕ) → i < p .triangles → partY p w′ u i ≡ partY p w u i
+  part-y-same = weighed-y-same _ _ _ _ _ _ _ _ (triFrom (p .wound) u) (triFrom (p .wound) u) (p .points) (p .triangles) (plane (p .x) (p .points) (room .x-in)) (plane (p .y) (p .points) (room .y-in)) (plane (p .sizes) (p .points) (room .sizes-in)) area-same (λ i h. refl) cornered
 
 -- ---- at one place
 
@@ -132,51 +176,96 @@ module _ (g n : ℕ) (i j k : ℕ) (x y a : Float) (w : List Float) (hi : i < n)
 
 -- ---- all the triangles
 
-pub gathered-more : {x y s a v g n m t : ℕ} {u : List ℕ} {w₀ w w′ : List Float} → Room n m x y s a v g (length w₀) (length u) → Below n v u (3 * m) → t < m → GatheredTo x y s a v g n t u w₀ w
-    → w′ ≡ addTriangle g n (triFrom v u t) (weighedX (coordsFrom w x) (coordsFrom w y) (coordsFrom w s) (triFrom v u) (coordsFrom w a) t) (weighedY (coordsFrom w x) (coordsFrom w y) (coordsFrom w s) (triFrom v u) (coordsFrom w a) t) (coordsFrom w a t) w
-    → GatheredTo x y s a v g n (t + 1) u w₀ w′
+pub gathered-more : {p : Plan} {t : ℕ} {u : List ℕ} {w₀ w w′ : List Float} → Room p (length w₀) (length u) → Below (p .points) (p .wound) u (3 * p .triangles) → t < p .triangles → GatheredTo p t u w₀ w → GatheredTriangle p t u w w′
+    → GatheredTo p (t + 1) u w₀ w′
 unfolding sumTo
-gathered-more {x} {y} {s} {a} {v} {g} {n} {m} {t} {u} {w₀} {w} {w′} room below h k e =
+gathered-more {p} {t} {u} {w₀} {w} {w′} room below h k e =
     record {
       same-length = ap length z ∙ tri-length g n i j l X Y A w (b .0) (b .1 .0) (b .1 .1) rm ∙ k .same-length;
-      sums-x = λ p q. rw (add-one t) (ap (λ (o : List Float). getD o (g + p) nan) z ∙ tri-x g n i j l X Y A w (b .0) (b .1 .0) (b .1 .1) rm p q ∙ ap (addTri p (tri i j l) X) (k .sums-x p q));
-      sums-y = λ p q. rw (add-one t) (ap (λ (o : List Float). getD o (g + n + p) nan) z ∙ tri-y g n i j l X Y A w (b .0) (b .1 .0) (b .1 .1) rm p q ∙ ap (addTri p (tri i j l) Y) (k .sums-y p q));
-      weights = λ p q. rw (add-one t) (ap (λ (o : List Float). getD o (g + 2 * n + p) nan) z ∙ tri-a g n i j l X Y A w (b .0) (b .1 .0) (b .1 .1) rm p q ∙ ap (addTri p (tri i j l) A) (k .weights p q));
+      sums-x = λ v q. rw (add-one t) (ap (λ (o : List Float). getD o (g + v) nan) z ∙ tri-x g n i j l X Y A w (b .0) (b .1 .0) (b .1 .1) rm v q ∙ ap (addTri v (tri i j l) X) (k .sums-x v q));
+      sums-y = λ v q. rw (add-one t) (ap (λ (o : List Float). getD o (g + n + v) nan) z ∙ tri-y g n i j l X Y A w (b .0) (b .1 .0) (b .1 .1) rm v q ∙ ap (addTri v (tri i j l) Y) (k .sums-y v q));
+      all-weights = λ v q. rw (add-one t) (ap (λ (o : List Float). getD o (g + 2 * n + v) nan) z ∙ tri-a g n i j l X Y A w (b .0) (b .1 .0) (b .1 .1) rm v q ∙ ap (addTri v (tri i j l) A) (k .all-weights v q));
       elsewhere = λ q r. ap (λ (o : List Float). getD o q nan) z ∙ tri-else g n i j l X Y A w (b .0) (b .1 .0) (b .1 .1) rm q r ∙ k .elsewhere q r;
     }
   where
+    g : ℕ
+    g = p .gradients
+
+    n : ℕ
+    n = p .points
+
     i : ℕ
-    i = getD u (v + 3 * t) 0
+    i = getD u (p .wound + 3 * t) 0
 
     j : ℕ
-    j = getD u (v + 3 * t + 1) 0
+    j = getD u (p .wound + 3 * t + 1) 0
 
     l : ℕ
-    l = getD u (v + 3 * t + 2) 0
+    l = getD u (p .wound + 3 * t + 2) 0
 
-    b : (getD u (v + 3 * t) 0 < n) × ((getD u (v + 3 * t + 1) 0 < n) × (getD u (v + 3 * t + 2) 0 < n))
-    b = corners-below n v u t (λ q r. below q (omega arith))
+    b : Cornered (p .points) (triFrom (p .wound) u t)
+    b = corners-below (p .points) (p .wound) u t (λ q r. below q (omega arith))
 
-    rm : g + 3 * n ≤ length w
+    rm : p .gradients + 3 * p .points ≤ length w
     rm = omega (arith, room .sums-in, k .same-length)
 
     X : Float
-    X = weighedX (coordsFrom w₀ x) (coordsFrom w₀ y) (coordsFrom w₀ s) (triFrom v u) (coordsFrom w₀ a) t
+    X = partX p w₀ u t
 
     Y : Float
-    Y = weighedY (coordsFrom w₀ x) (coordsFrom w₀ y) (coordsFrom w₀ s) (triFrom v u) (coordsFrom w₀ a) t
+    Y = partY p w₀ u t
 
     A : Float
-    A = coordsFrom w₀ a t
+    A = coordsFrom w₀ (p .areas) t
 
-    same : (c q o : ℕ) → c + o ≤ g → q < o → coordsFrom w c q ≡ coordsFrom w₀ c q
-    same c q o r f = k .elsewhere (c + q) (inl (omega arith))
+    same : (q : ℕ) → q < p .gradients → getD w q nan ≡ getD w₀ q nan
+    same q r = k .elsewhere q (inl r)
 
-    here : (q : ℕ) → q < n → (at (coordsFrom w x) (coordsFrom w y) q ≡ at (coordsFrom w₀ x) (coordsFrom w₀ y) q) × (coordsFrom w s q ≡ coordsFrom w₀ s q)
-    here q f = (rw (same x q n (room .x-in) f, same y q n (room .y-in) f), same s q n (room .s-in) f)
+    z : w′ ≡ addTriangle (p .gradients) (p .points) (tri i j l) X Y A w
+    z = e ∙ rw (part-x-same p u w₀ w room below same t h, part-y-same p u w₀ w room below same t h, area-same p u w₀ w room below same t h)
 
-    area : coordsFrom w a t ≡ coordsFrom w₀ a t
-    area = same a t m (room .a-in) h
+-- ---- over sums of 0
 
-    z : w′ ≡ addTriangle g n (tri i j l) X Y A w
-    z = e ∙ rw (area, here i (b .0) .0, here i (b .0) .1, here j (b .1 .0) .0, here j (b .1 .0) .1, here l (b .1 .1) .0, here l (b .1 .1) .1)
+module _ (p : Plan) (u : List ℕ) (w : List Float) {w₁ : List Float} (room : Room p (length w) (length u)) (filled : w₁ ≡ put w (p .gradients) (replicate (3 * p .points) (lit 0))) where
+  zero-at : (j : ℕ) → j < 3 * p .points → getD w₁ (p .gradients + j) nan ≡ lit 0
+  zero-at j h =
+      ap (λ (l : List Float). getD l (p .gradients + j) nan) filled
+      ∙ put-within w (p .gradients) (replicate (3 * p .points) (lit 0)) j nan (omega (arith, length-replicate {A = Float} (3 * p .points) (lit 0))) (omega (arith, room .sums-in))
+      ∙ getD-replicate (3 * p .points) j (lit 0) nan h
+
+  zero-from : (b v : ℕ) → p .gradients ≤ b → b + v < p .gradients + 3 * p .points → getD w₁ (b + v) nan ≡ lit 0
+  zero-from b v h g =
+      let e : b + v ≡ p .gradients + (b - p .gradients + v) = omega arith in
+      ap (λ (j : ℕ). getD w₁ j nan) e ∙ zero-at (b - p .gradients + v) (omega arith)
+
+  pub filled-length : length w₁ ≡ length w
+  filled-length = ap length filled ∙ length-put w (p .gradients) (replicate (3 * p .points) (lit 0))
+
+  else-where : (j : ℕ) → (j < p .gradients) ⊎ (p .gradients + 3 * p .points ≤ j) → getD w₁ j nan ≡ getD w j nan
+  else-where j h =
+      let off : Apart (p .gradients) (3 * p .points) j 1 = ⊎-elim (λ b. omega (arith, apart)) (λ b. omega (arith, apart)) h in
+      let e : j + 0 ≡ j = omega arith in
+      ap (λ (l : List Float). getD l j nan) filled ∙ (rw e at (put-else w (p .gradients) (replicate (3 * p .points) (lit 0)) (length-replicate (3 * p .points) (lit 0)) nan j 1 0 off (omega arith)))
+
+  pub gathered-none : GatheredTo p 0 u w₁ w₁
+  unfolding sumTo
+  gathered-none = record {
+    same-length = refl;
+    sums-x = λ v h. zero-from (p .gradients) v (omega arith) (omega arith);
+    sums-y = λ v h. zero-from (p .gradients + p .points) v (omega arith) (omega arith);
+    all-weights = λ v h. zero-from (p .gradients + 2 * p .points) v (omega arith) (omega arith);
+    elsewhere = λ j h. refl;
+  }
+
+  -- and so from the slice as it was before
+  pub gathered-all : Below (p .points) (p .wound) u (3 * p .triangles) → {w₂ : List Float} → GatheredTo p (p .triangles) u w₁ w₂ → GatheredTo p (p .triangles) u w w₂
+  gathered-all below k = record {
+    same-length = k .same-length ∙ filled-length;
+    sums-x = λ v h. k .sums-x v h ∙ sum-same _ _ _ _ v (p .triangles) (λ i l. refl) (part-x-same p u w w₁ room below before);
+    sums-y = λ v h. k .sums-y v h ∙ sum-same _ _ _ _ v (p .triangles) (λ i l. refl) (part-y-same p u w w₁ room below before);
+    all-weights = λ v h. k .all-weights v h ∙ sum-same _ _ _ _ v (p .triangles) (λ i l. refl) (area-same p u w w₁ room below before);
+    elsewhere = λ j h. k .elsewhere j h ∙ else-where j h;
+  }
+    where
+      before : (j : ℕ) → j < p .gradients → getD w₁ j nan ≡ getD w j nan
+      before j h = else-where j (inl h)

@@ -1,17 +1,17 @@
 -- The regions of a pass that fits come one after the other, and its floor is what the cells before its areas and before its counter-clockwise corners
 -- hold: it stays while nothing there is written. Assumes nothing.
-use Prim.Native.Nat.{ℕ, _+_, _*_, _≤_, _<_}
+use Prim.Native.Nat.{ℕ, _+_, _≤_, _<_}
 use native.Mathlib.Omega.{arith}
 use mathlib.Core.Path.{_≡_}
 use mathlib.Core.List.{List}
-use lib.ListN.{length, getD}
+use lib.ListN.{getD}
 use lib.Ieee.{Float, nan}
 use Rattle.cells.specs.Region.{region}
 use Rattle.cells.proofs.Loops.{tab-ext}
 use Rattle.edges.proofs.Numbering.{tris-same}
 use Rattle.layout.specs.declared.Base.{Base}
 use Rattle.layout.specs.declared.Layout.{Layout}
-use Rattle.layout.specs.Layout.{layoutOf, Small, Fits, Ordered}
+use Rattle.layout.specs.Layout.{layoutOf, Fits, Ordered}
 use Rattle.layout.specs.Work.{floorIn}
 
 pub fits-ordered : (at : Base) {reals words : ℕ} → Fits at reals words → Ordered (layoutOf at) reals words

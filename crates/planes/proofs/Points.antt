@@ -104,7 +104,7 @@ new-value kind values c u v h g =
     ∙ map-at (meanOn kind values) (cutsIn c u) j m
     ∙ ap (meanOn kind values) (cut-at c u j (omega arith)))
 
-length-plane : (kind : Mean) (values : List Float) (c : Cuts) (u : List ℕ) → length (valuePlane kind values (cutsIn c u)) ≡ length values + c .sides
+pub length-plane : (kind : Mean) (values : List Float) (c : Cuts) (u : List ℕ) → length (valuePlane kind values (cutsIn c u)) ≡ length values + c .sides
 unfolding valuePlane
 length-plane kind values c u = length-append values _ ∙ omega (arith, length-map (cutsIn c u) (meanOn kind values), cuts-length c u)
 

@@ -5,23 +5,21 @@ use mathlib.Core.Bool.{cond}
 use mathlib.Core.List.{List, [], map}
 use lib.Dec.{ltb}
 use lib.ListN.{length}
-use lib.Ieee.{Float, nan}
+use lib.Ieee.{Float}
 use Rattle.float.specs.Double.{_⊘_}
 use Rattle.complex.specs.declared.Complex.{Complex}
 use Rattle.cells.specs.Region.{tab}
-use Rattle.mesh.specs.Mesh.{Tri, tri, Side, side, sidesAfter}
-use Rattle.floor.specs.declared.Refusal.{Refusal as Found}
+use Rattle.mesh.specs.Mesh.{Tri, Side, sidesAfter}
+use Rattle.edges.specs.Table.{lower, upper}
 use Rattle.floor.specs.declared.Check.{Check}
 use Rattle.floor.specs.declared.Check.the-variants as check
 use Rattle.floor.specs.Floor.{Floor, pointsOf, trianglesOf, valueAt, triangleAt}
 use Rattle.geometry.specs.declared.Geometry.{Geometry}
-use Rattle.geometry.specs.declared.Geometry.the-variants.{Triangle, Degenerate}
-use Rattle.geometries.specs.Geometries.{geometryOn, firstDegenerate}
+use Rattle.geometries.specs.Geometries.{geometryOn, cornersOf, areaOf, firstDegenerate}
 use Rattle.gradients.specs.Gradients.{sumTo, weighedX, weighedY, checkMeans}
 use Rattle.transports.specs.declared.Answer.{Answer}
 use Rattle.transports.specs.declared.Answer.the-variants as answer
 use Rattle.transports.specs.Transports as transports
-use Rattle.refusal.specs.declared.Fault.{Fault}
 use Rattle.refusal.specs.Refusal.{row, between}
 use Rattle.setup.specs.declared.Setup.{Setup}
 use Rattle.setup.specs.declared.Setup.the-variants.{Edges, Refused}
@@ -34,15 +32,6 @@ geometryAt f i = geometryOn (valueAt (f .xs)) (valueAt (f .ys)) (triangleAt (f .
 -- row 19: the lowest degenerate triangle, or how many there are
 unfoldable pub degenerateOf : Floor → ℕ
 degenerateOf f = firstDegenerate (valueAt (f .xs)) (valueAt (f .ys)) (triangleAt (f .triangles)) (trianglesOf f)
-
--- the Rust's `geometry.vertices` and `geometry.area`; what stands for a degenerate triangle is never read
-abbrev pub cornersOf : Geometry → Tri
-cornersOf (Triangle g) = tri (g .i) (g .j) (g .k)
-cornersOf (Degenerate t) = tri 0 0 0
-
-abbrev pub areaOf : Geometry → Float
-areaOf (Triangle g) = g .area
-areaOf (Degenerate t) = nan
 
 -- the corners of each triangle, counter-clockwise
 unfoldable pub woundOf : Floor → List Tri
@@ -77,12 +66,6 @@ gradientsY f = tab (λ v. sumY f v ⊘ weightOf f v) (pointsOf f)
 
 unfoldable pub edgesOf : Floor → List Side
 edgesOf f = sidesAfter [] (woundOf f)
-
-abbrev pub lower : Side → ℕ
-lower (side a b) = a
-
-abbrev pub upper : Side → ℕ
-upper (side a b) = b
 
 -- the Rust's `edge_a` and `edge_b`
 unfoldable pub lowersOf : Floor → List ℕ

@@ -1,4 +1,4 @@
--- What the first part of a pass leaves in the work slices. Definitions only.
+-- What the first part of a pass leaves in the work slices, stage by stage. Definitions only.
 use Prim.Native.Nat.{ℕ, _+_, _*_, _<_}
 use mathlib.Core.Path.{_≡_}
 use mathlib.Core.List.{List}
@@ -6,15 +6,65 @@ use lib.ListN.{length, getD}
 use lib.Ieee.{Float, nan}
 use Rattle.cells.specs.Region.{region}
 use Rattle.cells.specs.Cell.{regionC}
-use Rattle.mesh.specs.Mesh.{All, Good}
 use Rattle.edges.specs.Table.{NumbersOf}
 use Rattle.edges.specs.Numbering.{triFrom, Below}
-use Rattle.floor.specs.Floor.{Floor, triangleAt}
+use Rattle.floor.specs.declared.Check.the-variants.{Sound}
+use Rattle.floor.specs.Floor.{Floor, trianglesOf, triangleAt}
+use Rattle.geometries.specs.declared.Plan as geometries
+use Rattle.gradients.specs.declared.Plan as gradients
+use Rattle.transports.specs.declared.Plan as transports
 use Rattle.layout.specs.declared.Layout.{Layout}
 use Rattle.layout.specs.Work.{floorIn, fromIn, toIn, Edged}
 use Rattle.setup.specs.declared.Setup.{Setup}
 use Rattle.setup.specs.declared.Setup.the-variants.{Edges}
-use Rattle.setup.specs.Setup.{woundOf, areasOf, edgesOf, lowersOf, uppersOf, transportsOf, setupOf}
+use Rattle.setup.specs.Setup.{degenerateOf, woundOf, areasOf, meansOf, gradientsX, gradientsY, edgesOf, lowersOf, uppersOf, transportsOf, setupOf}
+
+-- ---- where the stages read and write
+
+abbrev pub geometriesAt : Layout → geometries.Plan
+geometriesAt l = record { points = l .points; triangles = l .triangles; x = l .x; y = l .y; areas = l .areas; given = l .given; wound = l .wound }
+
+abbrev pub gradientsAt : Layout → gradients.Plan
+gradientsAt l = record {
+  points = l .points;
+  triangles = l .triangles;
+  x = l .x;
+  y = l .y;
+  sizes = l .sizes;
+  areas = l .areas;
+  gradients = l .gradients;
+  wound = l .wound;
+}
+
+abbrev pub transportsAt : Layout → transports.Plan
+transportsAt l = record { points = l .points; x = l .x; y = l .y; sizes = l .sizes; gradients = l .gradients; transports = l .transports }
+
+-- ---- what stands there of the floor f: after row 19, after rows 20 and 21, and after its m edges were numbered
+
+pub record Turned (l : Layout) (f : Floor) (w : List Float) (u : List ℕ) : Type 0 where
+  pub floor : floorIn l w u ≡ f
+  pub given-below : Below (l .points) (l .given) u (3 * l .triangles)
+  pub none : degenerateOf f ≡ trianglesOf f
+  pub areas : region nan w (l .areas) (l .triangles) ≡ areasOf f
+  pub corners : (i : ℕ) → i < l .triangles → triFrom (l .wound) u i ≡ triangleAt (woundOf f) i
+  pub corners-below : Below (l .points) (l .wound) u (3 * l .triangles)
+
+pub record Averaged (l : Layout) (f : Floor) (w : List Float) (u : List ℕ) : Type 0 where
+  pub turned : Turned l f w u
+  pub sound : meansOf f ≡ Sound
+  pub all-x : region nan w (l .gradients) (l .points) ≡ gradientsX f
+  pub all-y : region nan w (l .gradients + l .points) (l .points) ≡ gradientsY f
+
+pub record Joined (l : Layout) (m : ℕ) (f : Floor) (w : List Float) (u : List ℕ) : Type 0 where
+  pub averaged : Averaged l f w u
+  pub all-edges : m ≡ length (edgesOf f)
+  pub numbers : (i : ℕ) → i < l .triangles
+      → NumbersOf (triangleAt (woundOf f) i) (edgesOf f) (getD u (l .numbers + 3 * i) 0) (getD u (l .numbers + 3 * i + 1) 0) (getD u (l .numbers + 3 * i + 2) 0)
+  pub lowers : fromIn l m u ≡ lowersOf f
+  pub uppers : toIn l m u ≡ uppersOf f
+  pub edged : Edged l m u
+
+-- ---- what is left in the end
 
 -- what stands there of the floor f with m edges
 pub record Stands (l : Layout) (m : ℕ) (f : Floor) (w : List Float) (u : List ℕ) : Type 0 where

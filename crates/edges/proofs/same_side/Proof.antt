@@ -1,5 +1,4 @@
 -- `edges::same_side` meets its contract: each return opens the definition and rewrites it by the tests and the calls on its way.
-use borrow.Author.Needs.{needs}
 use borrow.Author.Tests.{eq-eqb, ne-eqb}
 use Rattle.edges.proofs.same_side.Statement.{statement}
 use Rattle.edges.proofs.same_side.Tie as tie

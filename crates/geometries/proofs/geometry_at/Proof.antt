@@ -46,7 +46,7 @@ index-requires-3 : tie.Need-index-requires-3
 index-requires-3 c κs = search needs
 
 geometry-of-requires : tie.Need-geometry-of-requires
-geometry-of-requires c κs = let b = corners-below (c .before .before .before .before .before .before .before .before .args .n) (c .before .before .before .before .before .before .before .before .args .c) (c .before .before .before .before .before .before .before .before .args .u .now) (c .before .before .before .before .before .before .before .before .args .t) (c .before .before .before .before .before .before .before .before .pre .1) in ((omega (arith, c .before .before .before .before .index .ensures, b .0), omega (arith, c .before .before .before .before .index .ensures, b .0)), ((omega (arith, c .before .before .index2 .ensures, b .1 .0), omega (arith, c .before .before .index2 .ensures, b .1 .0)), (omega (arith, c .index3 .ensures, b .1 .1), omega (arith, c .index3 .ensures, b .1 .1))))
+geometry-of-requires c κs = let b = corners-below (c .before .before .before .before .before .before .before .before .before .args .p .points) (c .before .before .before .before .before .before .before .before .before .args .p .given) (c .before .before .before .before .before .before .before .before .before .args .words .now) (c .before .before .before .before .before .before .before .before .before .args .t) (λ j h. c .before .before .before .before .before .before .before .before .before .pre .1 j (omega arith)) in ((omega (arith, c .before .before .before .before .before .before .before .before .before .pre .0 .0), omega (arith, c .before .before .before .before .before .before .before .before .before .pre .0 .0)), (omega (arith, c .before .before .before .before .index .ensures, b .0), (omega (arith, c .before .before .index2 .ensures, b .1 .0), omega (arith, c .index3 .ensures, b .1 .1))))
 
 returns : tie.Need-returns
 returns c = c .geometry-of .ensures ∙ rw (c .before .index3 .ensures, c .before .before .before .index2 .ensures, c .before .before .before .before .before .index .ensures)

@@ -20,10 +20,10 @@ same-length-2 : tie.Need-same-length-2
 same-length-2 c = search needs
 
 returns : tie.Need-returns
-returns c = looked-none _ _ _ (c .before .before .geometry-at .ensures) (c .enum-told .given .1)
+returns c = looked-none _ _ _ _ (c .before .before .geometry-at .ensures) _ (c .enum-told .given .1)
 
 keep-requires : tie.Need-keep-requires
-keep-requires c κs = ((c .before .before .before .before .before .before .before .before .before .before .pre .0 .1 .0, c .before .before .before .before .before .before .before .before .before .before .pre .0 .1 .1 .1), corners-fit (c .before .before .before .before .before .before .before .before .before .before .args .x) (c .before .before .before .before .before .before .before .before .before .before .args .y) (c .before .before .before .before .before .before .before .before .before .before .args .n) (c .before .before .before .before .before .before .before .before .before .before .args .c) (c .before .before .before .before .before .before .before .before .before .before .args .w .now) (c .before .before .before .before .before .before .before .before .before .before .args .u .now) (c .before .before .before .before .before .before .before .before .before .before .args .t) _ (c .before .before .before .before .before .before .before .before .before .before .pre .1 .0) (c .before .before .before .before .before .before .before .before .before .before .pre .1 .1) (c .before .before .before .before .before .geometry-at .ensures) (c .before .before .before .found .given .1))
+keep-requires c κs = (c .before .before .before .before .before .before .before .before .before .before .pre .0, corners-fit (c .before .before .before .before .before .before .before .before .before .before .args .p) (c .before .before .before .before .before .before .before .before .before .before .args .t) (c .before .before .before .before .before .before .before .before .before .before .args .work .now) (c .before .before .before .before .before .before .before .before .before .before .args .words .now) (c .before .before .before .before .before .geometry-at .ensures) _ (c .before .before .before .before .before .before .before .before .before .before .pre .0 .0 .narrow) (c .before .before .before .before .before .before .before .before .before .before .pre .0 .1) (c .before .before .before .before .before .before .before .before .before .before .pre .1) (c .before .before .before .found .given .1))
 
 same-length-3 : tie.Need-same-length-3
 same-length-3 c = search needs
@@ -32,7 +32,7 @@ same-length-4 : tie.Need-same-length-4
 same-length-4 c = search needs
 
 returns-2 : tie.Need-returns-2
-returns-2 c = looked-kept _ _ _ (c .before .before .before .before .before .before .before .before .before .before .geometry-at .ensures) (c .before .before .before .before .before .before .before .before .found .given .1) (c .before .before .before .before .keep .ensures)
+returns-2 c = looked-kept _ _ _ _ (c .before .before .before .before .before .before .before .before .before .before .geometry-at .ensures) _ (c .before .before .before .before .before .before .before .before .found .given .1) (c .before .before .before .before .keep .ensures .0) (c .before .before .before .before .keep .ensures .1)
 
 pub look-spec : {M : Type 1} → statement M
 look-spec =

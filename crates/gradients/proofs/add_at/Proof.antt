@@ -5,17 +5,17 @@ use mathlib.Core.Path.{refl}
 use Rattle.gradients.proofs.add_at.Statement.{statement}
 use Rattle.gradients.proofs.add_at.Tie as tie
 
-mul-w : tie.Need-mul-w
-mul-w c = search needs
+mul-work : tie.Need-mul-work
+mul-work c = search needs
 
-slice-read-w : tie.Need-slice-read-w
-slice-read-w c = search needs
+slice-read-work : tie.Need-slice-read-work
+slice-read-work c = search needs
 
-mul-w-2 : tie.Need-mul-w-2
-mul-w-2 c = search needs
+mul-work-2 : tie.Need-mul-work-2
+mul-work-2 c = search needs
 
-slice-write-w : tie.Need-slice-write-w
-slice-write-w c = search needs
+slice-write-work : tie.Need-slice-write-work
+slice-write-work c = search needs
 
 same-length : tie.Need-same-length
 same-length c = search needs
@@ -25,4 +25,4 @@ unfolding addAt
 returns c = refl
 
 pub add-at-spec : {M : Type 1} → statement M
-add-at-spec = tie.close (tie.spec mul-w slice-read-w mul-w-2 slice-write-w same-length returns)
+add-at-spec = tie.close (tie.spec mul-work slice-read-work mul-work-2 slice-write-work same-length returns)

@@ -22,10 +22,10 @@ refused-requires : tie.Need-refused-requires Inv-loop μ-loop
 refused-requires c κs = search needs
 
 same-length : tie.Need-same-length Inv-loop μ-loop
-same-length c = to-found (c .before .before .before .before .before .before .loop-test .taken) (c .before .before .before .before .before .before .before .before .before .pre) (c .before .before .before .before .before .before .before .loop .inv .1) (c .before .if1 .taken) (c .before .before .before .before .divide-point .ensures .0) (c .before .before .before .before .divide-point .ensures .1) (c .refused .ensures) .means .same-length
+same-length c = to-found (c .before .before .before .before .before .before .loop-test .taken) (c .before .before .before .before .before .before .before .before .before .pre) (c .before .before .before .before .before .before .before .loop .inv .1) (c .before .if1 .taken) (c .before .before .before .before .divide-point .ensures) (c .refused .ensures) .means .same-length
 
 returns : tie.Need-returns Inv-loop μ-loop
-returns c = to-found (c .before .before .before .before .before .before .loop-test .taken) (c .before .before .before .before .before .before .before .before .before .pre) (c .before .before .before .before .before .before .before .loop .inv .1) (c .before .if1 .taken) (c .before .before .before .before .divide-point .ensures .0) (c .before .before .before .before .divide-point .ensures .1) (c .refused .ensures)
+returns c = to-found (c .before .before .before .before .before .before .loop-test .taken) (c .before .before .before .before .before .before .before .before .before .pre) (c .before .before .before .before .before .before .before .loop .inv .1) (c .before .if1 .taken) (c .before .before .before .before .divide-point .ensures) (c .refused .ensures)
 
 add-i : tie.Need-add-i Inv-loop μ-loop
 add-i c = search needs
@@ -34,7 +34,7 @@ loop-less : tie.Need-loop-less Inv-loop μ-loop
 loop-less c = search needs
 
 loop-again : tie.Need-loop-again Inv-loop μ-loop
-loop-again c = (omega arith, to-more (c .before .before .before .before .before .loop-test .taken) (c .before .before .before .before .before .before .before .before .pre) (c .before .before .before .before .before .before .loop .inv .1) (c .if1 .left) (c .before .before .before .divide-point .ensures .0) (c .before .before .before .divide-point .ensures .1))
+loop-again c = (omega arith, to-more (c .before .before .before .before .before .loop-test .taken) (c .before .before .before .before .before .before .before .before .pre) (c .before .before .before .before .before .before .loop .inv .1) (c .if1 .left) (c .before .before .before .divide-point .ensures))
 
 same-length-2 : tie.Need-same-length-2 Inv-loop μ-loop
 same-length-2 c = c .before .loop .inv .1 .means .same-length

@@ -43,26 +43,26 @@ mul-y c = search needs
 slice-read-y : tie.Need-slice-read-y
 slice-read-y c = search needs
 
-add-w : tie.Need-add-w
-add-w c = search needs
+add-work : tie.Need-add-work
+add-work c = search needs
 
-mul-w : tie.Need-mul-w
-mul-w c = search needs
+mul-work : tie.Need-mul-work
+mul-work c = search needs
 
-slice-write-w : tie.Need-slice-write-w
-slice-write-w c = search needs
+slice-write-work : tie.Need-slice-write-work
+slice-write-work c = search needs
 
-add-w-2 : tie.Need-add-w-2
-add-w-2 c = search needs
+add-work-2 : tie.Need-add-work-2
+add-work-2 c = search needs
 
-add-w-3 : tie.Need-add-w-3
-add-w-3 c = search needs
+add-work-3 : tie.Need-add-work-3
+add-work-3 c = search needs
 
-mul-w-2 : tie.Need-mul-w-2
-mul-w-2 c = search needs
+mul-work-2 : tie.Need-mul-work-2
+mul-work-2 c = search needs
 
-slice-write-w-2 : tie.Need-slice-write-w-2
-slice-write-w-2 c = simp length-set (omega arith)
+slice-write-work-2 : tie.Need-slice-write-work-2
+slice-write-work-2 c = simp length-set (omega arith)
 
 same-length : tie.Need-same-length
 same-length c = search needs
@@ -87,12 +87,12 @@ divide-at-spec =
     add-y-2
     mul-y
     slice-read-y
-    add-w
-    mul-w
-    slice-write-w
-    add-w-2
-    add-w-3
-    mul-w-2
-    slice-write-w-2
+    add-work
+    mul-work
+    slice-write-work
+    add-work-2
+    add-work-3
+    mul-work-2
+    slice-write-work-2
     same-length
     returns)

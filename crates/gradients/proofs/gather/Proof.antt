@@ -1,50 +1,23 @@
--- `gradients::gather` meets its contract: the loop keeps what `Inv-loop` says, and what is left to do falls at each turn; the laws are in proofs/Steps.
+-- `gradients::gather` meets its contract: over sums of 0 that it puts there itself; the laws are in proofs/Steps.
+use Rattle.gradients.proofs.Steps.{filled-length, gathered-none, gathered-all}
 use borrow.Author.Needs.{needs}
-use Rattle.gradients.proofs.Steps.{gathered-more}
-use Rattle.gradients.specs.Gradients.{GatheredTo}
-use Prim.Native.Nat.{_-_, _≤_}
-use native.Mathlib.Omega.{arith}
-use mathlib.Core.Path.{_≡_}
 use Rattle.gradients.proofs.gather.Statement.{statement}
 use Rattle.gradients.proofs.gather.Tie as tie
 
-abbrev Inv-loop : tie.InvT-loop
-Inv-loop w₀ u x y s a v g n t i₀ w i = (i ≤ t) × GatheredTo x y s a v g n i u w₀ w
+mul-fill : tie.Need-mul-fill
+mul-fill c = search needs
 
-abbrev μ-loop : tie.MeasureT-loop
-μ-loop w₀ u x y s a v g n t i₀ w i = t - i
+fill-requires : tie.Need-fill-requires
+fill-requires c κs = search needs
 
-loop-holds : tie.Need-loop-holds Inv-loop μ-loop
-loop-holds c = (omega arith, c .before .before .pre .1 .1)
+gather-all-requires : tie.Need-gather-all-requires
+gather-all-requires c κs = (rw (filled-length (c .before .before .before .before .before .before .before .before .args .p) (c .before .before .before .before .before .before .before .before .args .words .now) (c .before .before .before .before .before .before .before .before .args .work .now) (c .before .before .before .before .before .before .before .before .pre .0) (c .before .before .before .fill .ensures)) (c .before .before .before .before .before .before .before .before .pre .0), (c .before .before .before .before .before .before .before .before .pre .1, gathered-none (c .before .before .before .before .before .before .before .before .args .p) (c .before .before .before .before .before .before .before .before .args .words .now) (c .before .before .before .before .before .before .before .before .args .work .now) (c .before .before .before .before .before .before .before .before .pre .0) (c .before .before .before .fill .ensures)))
 
-gather-triangle-requires : tie.Need-gather-triangle-requires Inv-loop μ-loop
-gather-triangle-requires c κs = (((c .before .before .before .before .before .pre .0 .x-in, (c .before .before .before .before .before .pre .0 .y-in, c .before .before .before .before .before .pre .0 .s-in)), (omega (arith, c .before .before .before .before .before .pre .0 .a-in), (omega (arith, c .before .before .before .before .before .pre .0 .sums-in, c .before .before .loop .inv .1 .same-length), omega (arith, c .before .before .before .before .before .pre .0 .corners-in)))), λ q r. c .before .before .before .before .before .pre .1 .0 q (omega arith))
+same-length : tie.Need-same-length
+same-length c = search needs
 
-add-i : tie.Need-add-i Inv-loop μ-loop
-add-i c = search needs
-
-loop-less : tie.Need-loop-less Inv-loop μ-loop
-loop-less c = search needs
-
-loop-again : tie.Need-loop-again Inv-loop μ-loop
-loop-again c = (omega arith, gathered-more (c .before .before .before .before .before .before .before .before .pre .0) (c .before .before .before .before .before .before .before .before .pre .1 .0) (c .before .before .before .before .loop-test .taken) (c .before .before .before .before .before .loop .inv .1) (c .before .before .gather-triangle .ensures))
-
-same-length : tie.Need-same-length Inv-loop μ-loop
-same-length c = c .before .loop .inv .1 .same-length
-
-returns : tie.Need-returns Inv-loop μ-loop
-returns c = let e : c .before .loop .i ≡ c .before .before .before .before .args .t = omega arith in rw e at (c .before .loop .inv .1)
+returns : tie.Need-returns
+returns c = gathered-all (c .before .before .before .before .before .before .before .before .before .before .before .args .p) (c .before .before .before .before .before .before .before .before .before .before .before .args .words .now) (c .before .before .before .before .before .before .before .before .before .before .before .args .work .now) (c .before .before .before .before .before .before .before .before .before .before .before .pre .0) (c .before .before .before .before .before .before .fill .ensures) (c .before .before .before .before .before .before .before .before .before .before .before .pre .1) (c .before .before .gather-all .ensures)
 
 pub gather-spec : {M : Type 1} → statement M
-gather-spec =
-    tie.close
-    (tie.spec
-    Inv-loop
-    μ-loop
-    loop-holds
-    gather-triangle-requires
-    add-i
-    loop-less
-    loop-again
-    same-length
-    returns)
+gather-spec = tie.close (tie.spec mul-fill fill-requires gather-all-requires same-length returns)

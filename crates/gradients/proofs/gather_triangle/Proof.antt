@@ -1,10 +1,9 @@
 -- `gradients::gather_triangle` meets its contract: each return follows from the tests and the calls on its way; the laws are in proofs/Steps.
 use borrow.Author.Needs.{needs}
-use Rattle.geometries.specs.Geometries.{coordsFrom}
 use Rattle.gradients.proofs.Steps.{added}
 use Rattle.geometries.proofs.Steps.{corners-below}
 use native.Mathlib.Omega.{arith}
-use mathlib.Core.Path.{_∙_}
+use mathlib.Core.Path.{refl}
 use Rattle.gradients.proofs.gather_triangle.Statement.{statement}
 use Rattle.gradients.proofs.gather_triangle.Tie as tie
 
@@ -57,16 +56,16 @@ slice-read-area : tie.Need-slice-read-area
 slice-read-area c = search needs
 
 gradient-of-requires : tie.Need-gradient-of-requires
-gradient-of-requires c κs = let b = corners-below (c .before .before .before .before .before .before .before .before .before .before .args .n) (c .before .before .before .before .before .before .before .before .before .before .args .v) (c .before .before .before .before .before .before .before .before .before .before .args .u .now) (c .before .before .before .before .before .before .before .before .before .before .args .t) (c .before .before .before .before .before .before .before .before .before .before .pre .1) in ((omega (arith, c .before .before .before .before .before .before .index .ensures, b .0), (omega (arith, c .before .before .before .before .before .before .index .ensures, b .0), omega (arith, c .before .before .before .before .before .before .index .ensures, b .0))), ((omega (arith, c .before .before .before .before .index2 .ensures, b .1 .0), (omega (arith, c .before .before .before .before .index2 .ensures, b .1 .0), omega (arith, c .before .before .before .before .index2 .ensures, b .1 .0))), (omega (arith, c .before .before .index3 .ensures, b .1 .1), (omega (arith, c .before .before .index3 .ensures, b .1 .1), omega (arith, c .before .before .index3 .ensures, b .1 .1)))))
+gradient-of-requires c κs = let b = corners-below (c .before .before .before .before .before .before .before .before .before .before .before .before .args .p .points) (c .before .before .before .before .before .before .before .before .before .before .before .before .args .p .wound) (c .before .before .before .before .before .before .before .before .before .before .before .before .args .words .now) (c .before .before .before .before .before .before .before .before .before .before .before .before .args .t) (λ q r. c .before .before .before .before .before .before .before .before .before .before .before .before .pre .1 q (omega arith)) in ((omega (arith, c .before .before .before .before .before .before .before .before .before .before .before .before .pre .0 .0), omega (arith, c .before .before .before .before .before .before .before .before .before .before .before .before .pre .0 .0), omega (arith, c .before .before .before .before .before .before .before .before .before .before .before .before .pre .0 .0)), (omega (arith, c .before .before .before .before .before .before .before .index .ensures, b .0), (omega (arith, c .before .before .before .before .before .index2 .ensures, b .1 .0), omega (arith, c .before .before .before .index3 .ensures, b .1 .1))))
 
 add-triangle-requires : tie.Need-add-triangle-requires
-add-triangle-requires c κs = let b = corners-below (c .before .before .before .before .before .before .before .before .before .before .before .before .before .before .args .n) (c .before .before .before .before .before .before .before .before .before .before .before .before .before .before .args .v) (c .before .before .before .before .before .before .before .before .before .before .before .before .before .before .args .u .now) (c .before .before .before .before .before .before .before .before .before .before .before .before .before .before .args .t) (c .before .before .before .before .before .before .before .before .before .before .before .before .before .before .pre .1) in ((omega (arith, c .before .before .before .before .before .before .before .before .before .before .index .ensures, b .0), (omega (arith, c .before .before .before .before .before .before .before .before .index2 .ensures, b .1 .0), omega (arith, c .before .before .before .before .before .before .index3 .ensures, b .1 .1))), c .before .before .before .before .before .before .before .before .before .before .before .before .before .before .pre .0 .1 .1 .0)
+add-triangle-requires c κs = let b = corners-below (c .before .before .before .before .before .before .before .before .before .before .before .before .before .before .before .before .args .p .points) (c .before .before .before .before .before .before .before .before .before .before .before .before .before .before .before .before .args .p .wound) (c .before .before .before .before .before .before .before .before .before .before .before .before .before .before .before .before .args .words .now) (c .before .before .before .before .before .before .before .before .before .before .before .before .before .before .before .before .args .t) (λ q r. c .before .before .before .before .before .before .before .before .before .before .before .before .before .before .before .before .pre .1 q (omega arith)) in ((omega (arith, c .before .before .before .before .before .before .before .before .before .before .before .index .ensures, b .0), (omega (arith, c .before .before .before .before .before .before .before .before .before .index2 .ensures, b .1 .0), omega (arith, c .before .before .before .before .before .before .before .index3 .ensures, b .1 .1))), c .before .before .before .before .before .before .before .before .before .before .before .before .before .before .before .before .pre .0 .0 .sums-in)
 
 same-length : tie.Need-same-length
 same-length c = search needs
 
 returns : tie.Need-returns
-returns c = c .before .before .add-triangle .ensures ∙ added (coordsFrom (c .before .before .before .before .before .before .before .before .before .before .before .before .before .before .before .before .before .args .w .now) (c .before .before .before .before .before .before .before .before .before .before .before .before .before .before .before .before .before .args .x)) (coordsFrom (c .before .before .before .before .before .before .before .before .before .before .before .before .before .before .before .before .before .args .w .now) (c .before .before .before .before .before .before .before .before .before .before .before .before .before .before .before .before .before .args .y)) (coordsFrom (c .before .before .before .before .before .before .before .before .before .before .before .before .before .before .before .before .before .args .w .now) (c .before .before .before .before .before .before .before .before .before .before .before .before .before .before .before .before .before .args .s)) _ _ _ _ (c .before .before .before .before .before .before .before .before .before .before .before .before .before .index .ensures) (c .before .before .before .before .before .before .before .before .before .before .before .index2 .ensures) (c .before .before .before .before .before .before .before .before .before .index3 .ensures) (c .before .before .before .before .before .before .gradient-of .ensures)
+returns c = added (c .before .before .before .before .before .before .before .before .before .before .before .before .before .before .before .before .before .before .before .args .p) (c .before .before .before .before .before .before .before .before .before .before .before .before .before .before .before .before .before .before .before .args .t) (c .before .before .before .before .before .before .before .before .before .before .before .before .before .before .before .before .before .before .before .args .words .now) (c .before .before .before .before .before .before .before .before .before .before .before .before .before .before .before .before .before .before .before .args .work .now) _ (c .before .before .before .before .before .before .before .before .before .before .before .before .before .before .index .ensures) (c .before .before .before .before .before .before .before .before .before .before .before .before .index2 .ensures) (c .before .before .before .before .before .before .before .before .before .before .index3 .ensures) refl (c .before .before .before .before .before .before .gradient-of .ensures) (c .before .before .add-triangle .ensures)
 
 pub gather-triangle-spec : {M : Type 1} → statement M
 gather-triangle-spec =

@@ -1,0 +1,57 @@
+-- The ends of a table's sides, copied behind it: the lower ones, and then the upper ones, each every third number of the table. Assumes nothing.
+use Prim.Native.Nat.{ℕ, zero, suc, _+_, _*_, _≤_, _<_}
+use native.Mathlib.Omega.{arith}
+use native.Mathlib.Numerals.{add-one}
+use mathlib.Core.Path.{_≡_, refl, ap, _∙_}
+use mathlib.Core.List.{List, [], _∷_, map, map-append}
+use lib.ListN.{length, length-append, getD, set}
+use lib.Seq.{sets, length-sets}
+use Rattle.mesh.specs.Mesh.{side}
+use Rattle.runs.proofs.Runs.{sets-before, sets-next}
+use Rattle.edges.specs.Table.{pairs, loOf, hiOf, sidesIn, lower, upper, thirds, split}
+
+length-thirds : (a : ℕ) (w : List ℕ) (m : ℕ) → length (thirds a w m) ≡ m
+unfolding thirds
+length-thirds a w zero = refl
+length-thirds a w (suc k) = length-append (thirds a w k) (getD w (a + 3 * k) 0 ∷ []) ∙ omega (arith, length-thirds a w k)
+
+thirds-same : (a : ℕ) (w w′ : List ℕ) (m : ℕ) → ((k : ℕ) → k < m → getD w′ (a + 3 * k) 0 ≡ getD w (a + 3 * k) 0) → thirds a w′ m ≡ thirds a w m
+unfolding thirds
+thirds-same a w w′ zero h = refl
+thirds-same a w w′ (suc k) h = rw (thirds-same a w w′ k (λ j l. h j (omega arith)), h k (omega arith))
+
+-- ---- the loop
+
+pub thirds-none : (a to : ℕ) (w : List ℕ) → w ≡ sets w to (thirds a w 0)
+unfolding thirds
+thirds-none a to w = refl
+
+pub thirds-length : (a to k : ℕ) (w : List ℕ) {w₁ : List ℕ} → w₁ ≡ sets w to (thirds a w k) → length w₁ ≡ length w
+thirds-length a to k w e = ap length e ∙ length-sets w to (thirds a w k)
+
+pub thirds-more : (a to m k : ℕ) (w : List ℕ) {w₁ w₂ : List ℕ} → a + 3 * m ≤ to + 2 → k < m → w₁ ≡ sets w to (thirds a w k) → w₂ ≡ set w₁ (to + k) (getD w₁ (a + 3 * k) 0) → w₂ ≡ sets w to (thirds a w (k + 1))
+unfolding thirds
+thirds-more a to m k w {w₁} room h so-far e =
+    let read : getD w₁ (a + 3 * k) 0 ≡ getD w (a + 3 * k) 0 = ap (λ (l : List ℕ). getD l (a + 3 * k) 0) so-far ∙ sets-before w to (thirds a w k) (a + 3 * k) 0 (omega arith) in
+    e ∙ rw (add-one k, read, so-far) (sets-next w to (to + k) (thirds a w k) (getD w (a + 3 * k) 0 ∷ []) (omega (arith, length-thirds a w k)))
+
+-- ---- what is copied
+
+lowers : (o N : ℕ) (w : List ℕ) (m : ℕ) → thirds (o + N) w m ≡ map lower (sidesIn o N w m)
+unfolding thirds pairs
+lowers o N w zero = refl
+lowers o N w (suc k) = rw (lowers o N w k, map-append lower (sidesIn o N w k) (side (loOf o N w k) (hiOf o N w k) ∷ []))
+
+uppers : (o N : ℕ) (w : List ℕ) (m : ℕ) → thirds (o + N + 1) w m ≡ map upper (sidesIn o N w m)
+unfolding thirds pairs
+uppers o N w zero = refl
+uppers o N w (suc k) =
+    let e : o + N + 1 + 3 * k ≡ o + N + 3 * k + 1 = omega arith in
+    rw (uppers o N w k, e, map-append upper (sidesIn o N w k) (side (loOf o N w k) (hiOf o N w k) ∷ []))
+
+pub split-done : (o N m from to : ℕ) (w : List ℕ) {w₁ w₂ : List ℕ} → o + N + 3 * m ≤ from → w₁ ≡ sets w from (thirds (o + N) w m) → w₂ ≡ sets w₁ to (thirds (o + N + 1) w₁ m) → w₂ ≡ split o N m from to w
+unfolding split
+split-done o N m from to w {w₁} h p q =
+    let same : thirds (o + N + 1) w₁ m ≡ thirds (o + N + 1) w m =
+    thirds-same (o + N + 1) w w₁ m (λ k l. ap (λ (v : List ℕ). getD v (o + N + 1 + 3 * k) 0) p ∙ sets-before w from (thirds (o + N) w m) (o + N + 1 + 3 * k) 0 (omega arith)) in
+    q ∙ rw (same, p, lowers o N w m, uppers o N w m)

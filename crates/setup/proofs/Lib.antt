@@ -1,0 +1,6 @@
+pub mod Floors
+pub mod Slices
+pub mod Turn
+pub mod Average
+pub mod Join
+pub mod Carry

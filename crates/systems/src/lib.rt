@@ -1,0 +1,185 @@
+// The linear systems of a pass's branches, in regions of one lent slice: the matrix at h becomes the system's, and the right-hand side is left in the
+// plan's residual. specs/Systems.antt says what each system is, and specs/Work.antt where it stands.
+// `flag` has a flag for each point, 1 where it lies on the boundary, and `from` and `to` the ends of the edges.
+use conjugate_gradient::Plan;
+use constraints::Penalty;
+use constraints::Tangents;
+use hermitian::Hermitian;
+use soft::Terms;
+ghost use mathlib.Core.Path.{_≡_};
+ghost use lib.ListN.{length};
+ghost use Rattle.cells.specs.Cell.{regionC};
+ghost use Rattle.hermitian.specs.Work.{Graph};
+ghost use Rattle.constraints.specs.Constraints.{boundaryData, blanked};
+ghost use Rattle.soft.specs.Soft.{termOf};
+ghost use Rattle.soft.specs.Work.{SoftRoom, guidedIn, alignedIn, termsIn, Softens};
+ghost use Rattle.systems.specs.Work.{SystemRoom, TargetRoom, blankedTerms, MakesSoft, MakesWeak, Fixes, MakesTangent};
+
+// The energy and its soft terms.
+pub fn soft_system(
+    work: &mut [f64],
+    h: Hermitian,
+    mass: Hermitian,
+    l: Plan,
+    from: &[u32],
+    to: &[u32],
+    t: Terms,
+)
+    requires { ⌜ SystemRoom (length (now work)) h mass l t ⌝ }
+    requires { ⌜ Graph mass (now from) (now to) ⌝ }
+    ensures { λ _. ⌜ MakesSoft (now (work .entry)) (now (work .exit)) h mass l (now (from .entry)) (now (to .entry)) t ⌝ }
+{
+    cells::fill(work, l.residual, 2 * h.size, 0.0);
+    soft::soften(work, h, mass, l, from, to, t);
+}
+
+// A penalty of that weight on the boundary, and then the soft terms.
+pub fn weak_system(
+    work: &mut [f64],
+    h: Hermitian,
+    mass: Hermitian,
+    l: Plan,
+    targets: usize,
+    weight: f64,
+    flag: &[u32],
+    from: &[u32],
+    to: &[u32],
+    t: Terms,
+)
+    requires { ⌜ SystemRoom (length (now work)) h mass l t × TargetRoom (length (now work)) h l targets ⌝ }
+    requires { ⌜ Graph mass (now from) (now to) × (length (now flag) ≡ h .size) ⌝ }
+    ensures { λ _. ⌜ MakesWeak (now (work .entry)) (now (work .exit)) h mass l targets weight (now (flag .entry)) (now (from .entry)) (now (to .entry)) t ⌝ }
+{
+    let p = Penalty {
+        weight,
+        diagonal: h.diagonal,
+        mass: mass.diagonal,
+        targets,
+        rhs: l.residual,
+    };
+    constraints::penalise(work, p, h.size, flag);
+    soft::soften(work, h, mass, l, from, to, t);
+}
+
+// The term of the target in the direction's region, blanked on the boundary, where its weight acts.
+fn add_inside(
+    work: &mut [f64],
+    h: Hermitian,
+    mass: Hermitian,
+    l: Plan,
+    weight: f64,
+    flag: &[u32],
+    from: &[u32],
+    to: &[u32],
+)
+    requires { ⌜ SoftRoom (length (now work)) h mass l ⌝ }
+    requires { ⌜ Graph mass (now from) (now to) × (length (now flag) ≡ h .size) ⌝ }
+    ensures { λ _. ⌜ Softens (now (work .entry)) (now (work .exit)) h mass l (now (from .entry)) (now (to .entry)) (termOf weight (blanked (now (flag .entry)) (regionC (now (work .entry)) (l .direction) (h .size)))) ⌝ }
+{
+    constraints::blank(work, l.direction, h.size, flag);
+    soft::add_term(work, h, mass, l, weight, from, to);
+}
+
+fn guided_inside(
+    work: &mut [f64],
+    h: Hermitian,
+    mass: Hermitian,
+    l: Plan,
+    flag: &[u32],
+    from: &[u32],
+    to: &[u32],
+    t: Terms,
+)
+    requires { ⌜ SystemRoom (length (now work)) h mass l t ⌝ }
+    requires { ⌜ Graph mass (now from) (now to) × (length (now flag) ≡ h .size) ⌝ }
+    ensures { λ _. ⌜ Softens (now (work .entry)) (now (work .exit)) h mass l (now (from .entry)) (now (to .entry)) (blankedTerms (now (flag .entry)) (guidedIn (now (work .entry)) h t)) ⌝ }
+{
+    if !t.guided {
+        return;
+    }
+    soft::guide(work, t.theta, l.direction, h.size);
+    add_inside(work, h, mass, l, t.weight, flag, from, to);
+}
+
+fn aligned_inside(
+    work: &mut [f64],
+    h: Hermitian,
+    mass: Hermitian,
+    l: Plan,
+    flag: &[u32],
+    from: &[u32],
+    to: &[u32],
+    t: Terms,
+)
+    requires { ⌜ SystemRoom (length (now work)) h mass l t ⌝ }
+    requires { ⌜ Graph mass (now from) (now to) × (length (now flag) ≡ h .size) ⌝ }
+    ensures { λ _. ⌜ Softens (now (work .entry)) (now (work .exit)) h mass l (now (from .entry)) (now (to .entry)) (blankedTerms (now (flag .entry)) (alignedIn h t)) ⌝ }
+{
+    soft::align(work, l.direction, h.size, t.angle);
+    add_inside(work, h, mass, l, t.alignment, flag, from, to);
+}
+
+// Every soft term that acts, with its target blanked on the boundary: guidance, and then the alignment.
+fn soften_inside(
+    work: &mut [f64],
+    h: Hermitian,
+    mass: Hermitian,
+    l: Plan,
+    flag: &[u32],
+    from: &[u32],
+    to: &[u32],
+    t: Terms,
+)
+    requires { ⌜ SystemRoom (length (now work)) h mass l t ⌝ }
+    requires { ⌜ Graph mass (now from) (now to) × (length (now flag) ≡ h .size) ⌝ }
+    ensures { λ _. ⌜ Softens (now (work .entry)) (now (work .exit)) h mass l (now (from .entry)) (now (to .entry)) (blankedTerms (now (flag .entry)) (termsIn (now (work .entry)) h t)) ⌝ }
+{
+    guided_inside(work, h, mass, l, flag, from, to, t);
+    aligned_inside(work, h, mass, l, flag, from, to, t);
+}
+
+// The targets hold on the boundary: the right-hand side there, and elsewhere less the coupling, which stands in the plan's x; and the boundary's rows.
+fn fix_boundary(
+    work: &mut [f64],
+    h: Hermitian,
+    l: Plan,
+    targets: usize,
+    flag: &[u32],
+    from: &[u32],
+    to: &[u32],
+)
+    requires { ⌜ TargetRoom (length (now work)) h l targets ⌝ }
+    requires { ⌜ Graph h (now from) (now to) × (length (now flag) ≡ h .size) ⌝ }
+    ensures { λ _. ⌜ Fixes (now (work .entry)) (now (work .exit)) h l targets (now (flag .entry)) (now (from .entry)) (now (to .entry)) ⌝ }
+{
+    let vectors = Tangents {
+        rhs: l.residual,
+        coupling: l.x,
+        targets,
+    };
+    constraints::couple(work, vectors, h.size, flag);
+    constraints::dirichlet_rows(work, h, flag, from, to);
+}
+
+// The targets hold exactly on the boundary, and the soft terms act off it.
+pub fn tangent_system(
+    work: &mut [f64],
+    h: Hermitian,
+    mass: Hermitian,
+    l: Plan,
+    targets: usize,
+    flag: &[u32],
+    from: &[u32],
+    to: &[u32],
+    t: Terms,
+)
+    requires { ⌜ SystemRoom (length (now work)) h mass l t × TargetRoom (length (now work)) h l targets ⌝ }
+    requires { ⌜ (Graph h (now from) (now to) × Graph mass (now from) (now to)) × (length (now flag) ≡ h .size) ⌝ }
+    requires { ⌜ boundaryData (now flag) (regionC (now work) targets (h .size)) ≡ regionC (now work) targets (h .size) ⌝ }
+    ensures { λ _. ⌜ MakesTangent (now (work .entry)) (now (work .exit)) h mass l targets (now (flag .entry)) (now (from .entry)) (now (to .entry)) t ⌝ }
+{
+    hermitian::apply(work, l.x, targets, h, from, to);
+    cells::fill(work, l.residual, 2 * h.size, 0.0);
+    soften_inside(work, h, mass, l, flag, from, to, t);
+    fix_boundary(work, h, l, targets, flag, from, to);
+}
