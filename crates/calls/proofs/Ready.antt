@@ -3,14 +3,16 @@ use Prim.Native.Nat.{ℕ, zero, suc, _+_, _*_, _/_, _%_, _≤_, _<_}
 use native.Mathlib.Nat.{div-add-mod'}
 use native.Mathlib.Omega.{arith}
 use mathlib.Core.Path.{_≡_, refl, sym, ap, _∙_}
-use mathlib.Core.Bool.{Bool, true, false, cond, _&&_, _||_}
+use mathlib.Core.Bool.{Bool, true, false, _&&_}
 use mathlib.Core.List.{List}
-use borrow.Author.Tests.{eqb-true, eqb-false, ltb-true, ltb-false, leb-true, leb-false, not-false}
+use borrow.Author.Tests.{eqb-true, eqb-false, ltb-false, leb-false, not-false}
 use lib.Dec.{eqb, ltb, leb}
 use lib.ListN.{length, getD}
 use lib.Ieee.{Float}
 use Rattle.floor.specs.declared.Check.the-variants.{Sound}
-use Rattle.floor.specs.Checks.{lowest, wellFormed, badCorner}
+use Rattle.floor.specs.Checks.{lowest, badCorner}
+use Rattle.floor.proofs.Lowest.{lowest-before}
+use Rattle.floor.proofs.Rows.{or-none, Whole, whole-slices}
 use Rattle.mesh.specs.Mesh.{All}
 use Rattle.mesh.specs.Claim.{InRange}
 use Rattle.refinement.specs.Floor.{trisOf}
@@ -25,36 +27,6 @@ row-passed : (c : Call) (l : Lengths) → checkSolve c l ≡ Sound → (j : ℕ)
 unfolding checkSolve
 row-passed c l e j h = first-sound (table c l) e j h
 
-and-both : (a b : Bool) → (a && b) ≡ true → (a ≡ true) × (b ≡ true)
-and-both true b e = (refl, e)
-and-both false b e = let z : _≡_ {A = ℕ} 0 1 = cc in absurd (omega arith)
-
-or-none : (a b : Bool) → (a || b) ≡ false → (a ≡ false) × (b ≡ false)
-or-none false b e = (refl, e)
-or-none true b e = let z : _≡_ {A = ℕ} 0 1 = cc in absurd (omega arith)
-
--- ---- row 1
-
-triples : (p : ℕ) → p % 3 ≡ 0 → p ≡ 3 * (p / 3)
-triples p e = omega (arith, div-add-mod' p 3, e)
-
-pub record Whole (p q : ℕ) : Type 0 where
-  pub points : p ≡ 3 * (p / 3)
-  pub corners : q ≡ 3 * (q / 3)
-  pub few : (p / 3 ≤ 16384) × (q / 3 ≤ 32768)
-
-pub whole-slices : (p q : ℕ) → wellFormed p q ≡ true → Whole p q
-unfolding wellFormed
-whole-slices p q e =
-    let a = and-both (eqb (p % 3) 0) _ e in
-    let b = and-both (eqb (q % 3) 0) _ (a .1) in
-    let d = and-both (leb (p / 3) 16384) _ (b .1) in
-    record {
-      points = triples p (eqb-true (p % 3) 0 (a .0));
-      corners = triples q (eqb-true (q % 3) 0 (b .0));
-      few = (leb-true (p / 3) 16384 (d .0), leb-true (q / 3) 32768 (d .1));
-    }
-
 -- ---- rows 3 and 4
 
 some : (n : ℕ) → eqb n 0 ≡ false → 0 < n
@@ -62,24 +34,6 @@ some zero e = absurd (eqb-false 0 0 e refl)
 some (suc n) e = omega arith
 
 -- ---- row 8
-
--- where the lowest index is past the end, there is none
-one-more : (p : ℕ → Bool) (n : ℕ) → p n ≡ false → ((j : ℕ) → j < n → p j ≡ false) → (i : ℕ) → i < suc n → p i ≡ false
-one-more p n e ih i l = go (ltb i n) refl
-  where
-    go : (b : Bool) → ltb i n ≡ b → p i ≡ false
-    go true z = ih i (ltb-true i n z)
-    go false z = let q : i ≡ n = omega (arith, ltb-false i n z) in ap p q ∙ e
-
-lowest-all : (p : ℕ → Bool) (n : ℕ) → n ≤ lowest p n → (i : ℕ) → i < n → p i ≡ false
-unfolding lowest
-lowest-all p zero h i l = absurd (omega arith)
-lowest-all p (suc n) h i l = go (ltb (lowest p n) n) (p n) refl refl h (lowest-all p n)
-  where
-    go : (a b : Bool) → ltb (lowest p n) n ≡ a → p n ≡ b → suc n ≤ cond a (lowest p n) (cond b n (suc n)) → (n ≤ lowest p n → (j : ℕ) → j < n → p j ≡ false) → p i ≡ false
-    go true b e f g ih = absurd (omega (arith, ltb-true (lowest p n) n e))
-    go false true e f g ih = absurd (omega arith)
-    go false false e f g ih = one-more p n f (ih (ltb-false (lowest p n) n e)) i l
 
 corner-below : (l : List ℕ) (n i r : ℕ) → badCorner l n i ≡ false → r < 3 → getD l (3 * i + r) 0 < n
 unfolding badCorner
@@ -130,7 +84,7 @@ module _ (c : Call) (l : Lengths) (sound : checkSolve c l ≡ Sound) where
   whole = whole-slices (length (c .points)) (length (c .corners)) (not-false _ (row-passed c l sound 0 (omega arith)))
 
   no-bad-corner : (i : ℕ) → i < trianglesIn c → badCorner (c .corners) (pointsIn c) i ≡ false
-  no-bad-corner = lowest-all (badCorner (c .corners) (pointsIn c)) (trianglesIn c) (ltb-false _ (trianglesIn c) (row-passed c l sound 7 (omega arith)))
+  no-bad-corner i h = lowest-before (badCorner (c .corners) (pointsIn c)) (trianglesIn c) i (omega (arith, ltb-false (lowest (badCorner (c .corners) (pointsIn c)) (trianglesIn c)) (trianglesIn c) (row-passed c l sound 7 (omega arith))))
 
   room : Roomy (isAdaptive (c .options)) (pointsIn c) (trianglesIn c) l
   room = roomy (isAdaptive (c .options)) (pointsIn c) (trianglesIn c) l (row-passed c l sound 17 (omega arith))

@@ -1,10 +1,10 @@
 -- Rows 1 and 3 to 8 of document 01's table, as they are tested: what is wrong with a floor, and where first. Definitions only.
 use Prim.Native.Nat.{ℕ, zero, suc, _+_, _*_, _/_, _%_}
-use mathlib.Core.Bool.{Bool, true, false, not, cond, _&&_, _||_}
+use mathlib.Core.Bool.{Bool, not, cond, _&&_, _||_}
 use mathlib.Core.List.{List}
 use lib.Dec.{eqb, ltb, leb}
 use lib.ListN.{length, getD}
-use lib.Ieee.{Float, nan, le}
+use lib.Ieee.{Float, nan, lt, le}
 use Rattle.float.specs.Double.{lit, isFinite}
 use Rattle.areas.specs.Points.{xOf, yOf}
 use Rattle.floor.specs.declared.Refusal.{Refusal}
@@ -27,13 +27,21 @@ lowest p (suc i) = cond (ltb (lowest p i) i) (lowest p i) (cond (p i) i (suc i))
 unfoldable pub wellFormed : ℕ → ℕ → Bool
 wellFormed numbers corners = eqb (numbers % 3) 0 && (eqb (corners % 3) 0 && (leb (numbers / 3) 16384 && leb (corners / 3) 32768))
 
+-- rows 7 and 10: "not finite and positive"
+unfoldable pub notFiniteAndPositive : Float → Bool
+notFiniteAndPositive x = not (isFinite x) || le x (lit 0)
+
+-- rows 12, 13 and 14: "not finite or below 0"
+unfoldable pub notFiniteOrBelowZero : Float → Bool
+notFiniteOrBelowZero x = not (isFinite x) || lt x (lit 0)
+
 -- row 6
 unfoldable pub badPoint : List Float → ℕ → Bool
 badPoint points i = not (isFinite (xOf points i)) || not (isFinite (yOf points i))
 
 -- row 7
 unfoldable pub badSize : List Float → ℕ → Bool
-badSize sizes i = not (isFinite (getD sizes i nan)) || le (getD sizes i nan) (lit 0)
+badSize sizes i = notFiniteAndPositive (getD sizes i nan)
 
 -- row 8, with n points
 unfoldable pub badCorner : List ℕ → ℕ → ℕ → Bool
@@ -42,6 +50,11 @@ badCorner triangles n i = leb n (getD triangles (3 * i) 0) || (leb n (getD trian
 -- a row whose place is the lowest of n at which p holds, and the rows after it
 abbrev pub rowBy : ℕ → (ℕ → Bool) → ℕ → Check → Check
 rowBy k p n rest = cond (ltb (lowest p n) n) (Refused (rowAt k (lowest p n))) rest
+
+-- the rows after those that a check has passed
+abbrev pub andThen : Check → Check → Check
+andThen Sound rest = rest
+andThen (Refused r) rest = Refused r
 
 -- rows 3 to 8, in table order
 unfoldable pub checkFloor : List Float → List ℕ → List Float → Check

@@ -4,7 +4,7 @@ ghost use mathlib.Core.Bool.{not};
 ghost use Prim.Native.Nat.{_+_, _*_, _/_, _≤_};
 ghost use lib.ListN.{length, getD};
 ghost use lib.Ieee.{nan};
-ghost use Rattle.floor.specs.Checks.{lowest, wellFormed, badPoint, badSize, badCorner, rowAt, checkFloor};
+ghost use Rattle.floor.specs.Checks.{lowest, wellFormed, badPoint, badSize, badCorner, notFiniteAndPositive, notFiniteOrBelowZero, rowAt, checkFloor};
 
 // A row of the table, and the place that it reports: 0 where the table says "none".
 pub struct Refusal {
@@ -40,6 +40,20 @@ pub fn well_formed(numbers: usize, corners: usize) -> bool
     numbers / 3 <= 16384 && corners / 3 <= 32768
 }
 
+// Rows 7 and 10.
+pub fn not_finite_and_positive(x: f64) -> bool
+    ensures { λ r. ⌜ r ≡ notFiniteAndPositive x ⌝ }
+{
+    !float::is_finite(x) || x <= 0.0
+}
+
+// Rows 12, 13 and 14.
+pub fn not_finite_or_below_zero(x: f64) -> bool
+    ensures { λ r. ⌜ r ≡ notFiniteOrBelowZero x ⌝ }
+{
+    !float::is_finite(x) || x < 0.0
+}
+
 fn bad_point(points: &[f64], i: usize) -> bool
     requires { ⌜ 3 * i + 1 ≤ length (now points) ⌝ }
     ensures { λ r. ⌜ r ≡ badPoint (now (points .entry)) i ⌝ }
@@ -50,8 +64,7 @@ fn bad_point(points: &[f64], i: usize) -> bool
 fn bad_size(sizes: &[f64], i: usize) -> bool
     ensures { λ r. ⌜ r ≡ badSize (now (sizes .entry)) i ⌝ }
 {
-    let size = read(sizes, i);
-    !float::is_finite(size) || size <= 0.0
+    not_finite_and_positive(read(sizes, i))
 }
 
 fn bad_corner(triangles: &[u32], n: usize, i: usize) -> bool

@@ -4,7 +4,7 @@ use native.Mathlib.Omega.{arith}
 use mathlib.Core.Path.{_≡_, refl, sym, ap}
 use mathlib.Core.Bool.{true, not}
 use mathlib.Core.List.{List}
-use borrow.Author.Tests.{ltb-false}
+use borrow.Author.Tests.{ltb-false, not-false}
 use lib.Dec.{eqb, ltb}
 use lib.ListN.{length}
 use lib.Ieee.{Float, le, lt}
@@ -15,8 +15,9 @@ use Rattle.mesh.proofs.Order.{cut-sides}
 use Rattle.areas.proofs.Points.{points-length}
 use Rattle.floor.specs.declared.Check.{Check}
 use Rattle.floor.specs.declared.Check.the-variants.{Sound, Refused}
-use Rattle.floor.specs.Checks.{row, lowest, badPoint, badSize, badCorner, wellFormed, checkFloor}
+use Rattle.floor.specs.Checks.{row, lowest, badPoint, badSize, badCorner, wellFormed, notFiniteOrBelowZero, checkFloor}
 use Rattle.floor.proofs.Lowest.{lowest-before}
+use Rattle.floor.proofs.Rows.{or-none, whole-slices}
 use Rattle.refinement.specs.Flag.{flaggedTri}
 use Rattle.refinement.specs.Floor.{Refined, trisOf, refinementOf}
 use Rattle.refinement.proofs.Triangles.{in-range}
@@ -24,9 +25,9 @@ use Rattle.refinement.proofs.Flags.{low, flag-is}
 use Rattle.refinement.proofs.Claim.{refinement}
 use Rattle.refine_call.specs.declared.Counts.{Counts}
 use Rattle.refine_call.specs.declared.Answer.the-variants.{Refinement}
-use Rattle.refine_call.specs.Call.{badThreshold, checkRest, checkCall, countsOf, answerOf}
+use Rattle.refine_call.specs.Call.{checkRest, checkCall, countsOf, answerOf}
 use Rattle.refine_call.specs.Claim.{AcceptedCall}
-use Rattle.refine_call.proofs.Facts.{passed, passed-last, passed-both, or-none, not-false, whole-points, sizes-are}
+use Rattle.refine_call.proofs.Facts.{passed, passed-last, passed-both, sizes-are}
 
 answered : (c : Check) (r : Refined) (counts : Counts) → answerOf c r ≡ Refinement counts → (c ≡ Sound) × (countsOf r ≡ counts)
 answered Sound r counts e = (refl, cc)
@@ -48,10 +49,10 @@ corners-in points corners sizes e =
 
 -- row 12
 not-low : (n t angles : ℕ) (threshold : Float) (op os ot oe : ℕ) → checkRest n t angles threshold op os ot oe ≡ Sound → le (lit 0) threshold ≡ true
-unfolding checkRest badThreshold
+unfolding checkRest notFiniteOrBelowZero
 not-low n t angles threshold op os ot oe e =
     let a = passed (not (eqb angles n)) (row 5) _ e in
-    let b = passed (badThreshold threshold) (row 12) _ (a .1) in
+    let b = passed (notFiniteOrBelowZero threshold) (row 12) _ (a .1) in
     let c = or-none (not (isFinite threshold)) (lt threshold (lit 0)) (b .0) in
     low threshold (not-false (isFinite threshold) (c .0)) (c .1)
 
@@ -69,7 +70,7 @@ module _ (points : List Float) (corners : List ℕ) (sizes angles : List Float) 
       let a = answered (checkCall points corners sizes (length angles) threshold op os ot oe) r counts e in
       let b = passed-last (wellFormed (length points) (length corners)) _ _ (a .0) in
       let c = passed-both (checkFloor points corners sizes) _ (b .1) in
-      let whole = whole-points (length points) (length corners) (b .0) in
+      let whole = whole-slices (length points) (length corners) (b .0) .points in
       let sized = sizes-are points corners sizes (c .0) in
       let high = not-low (length points / 3) (length corners / 3) (length angles) threshold op os ot oe (c .1) in
       let told = a .1 in

@@ -1,12 +1,11 @@
 -- What an accepted call knows of its slices, and what they hold when it is done. Assumes nothing.
-use Prim.Native.Nat.{ℕ, _+_, _*_, _/_, _%_, _≤_}
-use native.Mathlib.Nat.{div-add-mod'}
+use Prim.Native.Nat.{ℕ, _+_, _*_, _/_, _≤_}
 use native.Mathlib.Omega.{arith}
 use mathlib.Core.Path.{_≡_, refl, sym, ap, _∙_, subst}
-use mathlib.Core.Bool.{Bool, true, false, not, cond, _&&_, _||_}
+use mathlib.Core.Bool.{Bool, true, false, not, cond}
 use mathlib.Core.List.{List}
-use borrow.Author.Tests.{eqb-true, ltb-false, leb-true}
-use lib.Dec.{eqb, ltb, leb}
+use borrow.Author.Tests.{eqb-true, ltb-false, not-false}
+use lib.Dec.{eqb, ltb}
 use lib.ListN.{length, replicate, length-replicate, getD-replicate}
 use lib.Ieee.{Float}
 use Rattle.mesh.specs.Mesh.{Tri, mid, cuts, refine, refined}
@@ -16,7 +15,8 @@ use Rattle.edges.proofs.Chain.{length-pairs}
 use Rattle.floor.specs.declared.Refusal.{Refusal}
 use Rattle.floor.specs.declared.Check.{Check}
 use Rattle.floor.specs.declared.Check.the-variants.{Sound, Refused}
-use Rattle.floor.specs.Checks.{row, wellFormed, checkFloor}
+use Rattle.floor.specs.Checks.{row, wellFormed, notFiniteOrBelowZero, andThen, checkFloor}
+use Rattle.floor.proofs.Rows.{or-none, whole-slices}
 use Rattle.refinement.specs.Flag.{flaggedTri}
 use Rattle.refinement.specs.Floor.{tris, trisOf, cornersOf, endsOf, Refined, refinementOf}
 use Rattle.refinement.specs.Steps.{CutTo}
@@ -29,7 +29,7 @@ use Rattle.refine_floor.proofs.Parts.{ends-length}
 use Rattle.refine_call.specs.declared.Counts.{Counts}
 use Rattle.refine_call.specs.declared.Answer.{Answer}
 use Rattle.refine_call.specs.declared.Answer.the-variants.{Refinement}
-use Rattle.refine_call.specs.Call.{passedUp, Called, FilledFor, badThreshold, short, andThen, checkRest, checkCall, Filled, Roomy}
+use Rattle.refine_call.specs.Call.{passedUp, Called, FilledFor, short, checkRest, checkCall, Filled, Roomy}
 
 -- ---- tests
 
@@ -47,36 +47,6 @@ passed-last false x rest e = no x e
 pub passed-both : (c rest : Check) → andThen c rest ≡ Sound → (c ≡ Sound) × (rest ≡ Sound)
 passed-both Sound rest e = (refl, e)
 passed-both (Refused x) rest e = no x e
-
-and-both : (a b : Bool) → (a && b) ≡ true → (a ≡ true) × (b ≡ true)
-and-both true b e = (refl, e)
-and-both false b e = let z : _≡_ {A = ℕ} 0 1 = cc in absurd (omega arith)
-
-pub or-none : (a b : Bool) → (a || b) ≡ false → (a ≡ false) × (b ≡ false)
-or-none false b e = (refl, e)
-or-none true b e = let z : _≡_ {A = ℕ} 0 1 = cc in absurd (omega arith)
-
-pub not-true : (a : Bool) → not a ≡ true → a ≡ false
-not-true false e = refl
-not-true true e = let z : _≡_ {A = ℕ} 0 1 = cc in absurd (omega arith)
-
-pub not-false : (a : Bool) → not a ≡ false → a ≡ true
-not-false true e = refl
-not-false false e = let z : _≡_ {A = ℕ} 0 1 = cc in absurd (omega arith)
-
-pub formed : (p q : ℕ) → wellFormed p q ≡ true → (p / 3 ≤ 16384) × (q / 3 ≤ 32768)
-unfolding wellFormed
-formed p q e =
-    let a = and-both (eqb (p % 3) 0) _ e in
-    let b = and-both (eqb (q % 3) 0) _ (a .1) in
-    let c = and-both (leb (p / 3) 16384) _ (b .1) in
-    (leb-true (p / 3) 16384 (c .0), leb-true (q / 3) 32768 (c .1))
-
-pub whole-points : (p q : ℕ) → wellFormed p q ≡ true → p ≡ 3 * (p / 3)
-unfolding wellFormed
-whole-points p q e =
-    let a = eqb-true (p % 3) 0 (and-both (eqb (p % 3) 0) _ e .0) in
-    omega (arith, div-add-mod' p 3, a)
 
 pub sizes-are : (points : List Float) (triangles : List ℕ) (sizes : List Float) → checkFloor points triangles sizes ≡ Sound → length sizes ≡ length points / 3
 unfolding checkFloor
@@ -109,7 +79,7 @@ rest-long : (n t angles : ℕ) (threshold : Float) (op os ot oe : ℕ) → check
 unfolding checkRest
 rest-long n t angles threshold op os ot oe e =
     let a = passed (not (eqb angles n)) (row 5) _ e in
-    let b = passed (badThreshold threshold) (row 12) _ (a .1) in
+    let b = passed (notFiniteOrBelowZero threshold) (row 12) _ (a .1) in
     long n t op os ot oe (passed (short n t op os ot oe) (row 18) Sound (b .1) .0)
 
 pub roomy : (points : List Float) (triangles : List ℕ) (sizes : List Float) (angles : ℕ) (threshold : Float) (op os ot oe : ℕ)
@@ -118,12 +88,12 @@ unfolding checkCall
 roomy points triangles sizes angles threshold op os ot oe e =
     let a = passed-last (wellFormed (length points) (length triangles)) _ _ e in
     let b = passed-both (checkFloor points triangles sizes) _ (a .1) in
-    let f = formed (length points) (length triangles) (a .0) in
+    let f = whole-slices (length points) (length triangles) (a .0) in
     let l = rest-long (length points / 3) (length triangles / 3) angles threshold op os ot oe (b .1) in
     record {
-      whole = whole-points (length points) (length triangles) (a .0);
-      few-points = f .0;
-      few-triangles = f .1;
+      whole = f .points;
+      few-points = f .few .0;
+      few-triangles = f .few .1;
       sized = sizes-are points triangles sizes (b .0);
       in-points = l .in-points;
       in-sizes = l .in-sizes;

@@ -7,11 +7,10 @@ use mathlib.Core.List.{List}
 use lib.Dec.{eqb, ltb}
 use lib.ListN.{length}
 use lib.Seq.{sets}
-use lib.Ieee.{Float, lt}
-use Rattle.float.specs.Double.{lit, isFinite}
+use lib.Ieee.{Float}
 use Rattle.floor.specs.declared.Check.{Check}
 use Rattle.floor.specs.declared.Check.the-variants.{Sound, Refused}
-use Rattle.floor.specs.Checks.{row, wellFormed, checkFloor}
+use Rattle.floor.specs.Checks.{row, wellFormed, notFiniteOrBelowZero, andThen, checkFloor}
 use Rattle.mesh.specs.Mesh.{Side}
 use Rattle.areas.specs.Points.{morePoints, moreSizes}
 use Rattle.refinement.specs.Floor.{Refined, refinementOf, trisOf, cornersOf, endsOf, over}
@@ -19,24 +18,15 @@ use Rattle.refine_call.specs.declared.Counts.{Counts}
 use Rattle.refine_call.specs.declared.Answer.{Answer}
 use Rattle.refine_call.specs.declared.Answer.the-variants.{Refinement, Refusal}
 
--- row 12
-unfoldable pub badThreshold : Float → Bool
-badThreshold threshold = not (isFinite threshold) || lt threshold (lit 0)
-
 -- row 18, of n points, t triangles and the lengths of the four result slices: n' = n + 3 t points and sizes, t' = 4 t triangles, 4 t cut sides of two ends
 unfoldable pub short : ℕ → ℕ → ℕ → ℕ → ℕ → ℕ → Bool
 short n t points sizes triangles ends = ltb points (3 * (n + 3 * t)) || (ltb sizes (n + 3 * t) || (ltb triangles (12 * t) || ltb ends (8 * t)))
-
--- the rows after those that a check has passed
-abbrev pub andThen : Check → Check → Check
-andThen Sound rest = rest
-andThen (Refused r) rest = Refused r
 
 -- what follows the rows of the floor: 5 by the count of angles, 12 and 18
 unfoldable pub checkRest : ℕ → ℕ → ℕ → Float → ℕ → ℕ → ℕ → ℕ → Check
 checkRest n t angles threshold op os ot oe =
     cond (not (eqb angles n)) (Refused (row 5))
-    (cond (badThreshold threshold) (Refused (row 12))
+    (cond (notFiniteOrBelowZero threshold) (Refused (row 12))
     (cond (short n t op os ot oe) (Refused (row 18)) Sound))
 
 -- rows 1 and 3 to 8, then 5, 12 and 18

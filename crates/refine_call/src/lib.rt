@@ -6,7 +6,7 @@ ghost use Prim.Native.Nat.{_+_, _*_, _/_, _<_, _≤_};
 ghost use lib.ListN.{length};
 ghost use Rattle.edges.specs.Table.{Held, sidesIn};
 ghost use Rattle.refinement.specs.Floor.{refinementOf, trisOf};
-ghost use Rattle.refine_call.specs.Call.{badThreshold, short, checkRest, checkCall, passedUp, CalledOn, FilledFor, Filled, Roomy};
+ghost use Rattle.refine_call.specs.Call.{short, checkRest, checkCall, passedUp, CalledOn, FilledFor, Filled, Roomy};
 
 // How many points and triangles the refined floor has, how many triangles were flagged, and how many sides cut.
 pub struct Counts {
@@ -20,12 +20,6 @@ pub enum Answer {
     Refinement(Counts),
     // A row of document 01's table, and its place: 0 where the table says "none".
     Refusal { number: u64, place: u64 },
-}
-
-fn bad_threshold(threshold: f64) -> bool
-    ensures { λ r. ⌜ r ≡ badThreshold threshold ⌝ }
-{
-    !float::is_finite(threshold) || threshold < 0.0
 }
 
 fn is_short(n: usize, t: usize, points: usize, sizes: usize, triangles: usize, ends: usize) -> bool
@@ -58,7 +52,7 @@ fn check_rest(
     if angles != n {
         return floor::refused(5, 0);
     }
-    if bad_threshold(threshold) {
+    if floor::not_finite_or_below_zero(threshold) {
         return floor::refused(12, 0);
     }
     if is_short(n, t, op, os, ot, oe) {

@@ -5,18 +5,17 @@ use native.Mathlib.Omega.{arith}
 use mathlib.Core.Path.{_≡_, refl, ap, _∙_, subst}
 use mathlib.Core.Bool.{Bool, true, false, not, cond, _&&_}
 use mathlib.Core.List.{List, [], _∷_, _++_}
-use mathlib.Core.Option.{Option, none, some}
 use borrow.Author.Tests.{eq-eqb, le-ltb, le-leb}
 use lib.ListN.{length, length-append, drop}
 use lib.Ieee.{Float}
 use Rattle.mesh.specs.Mesh.{Tri, tri, Side, sides, place, isNone, met, metAll, sidesAfter, marked, cuts, mid, refined, refine}
 use Rattle.floor.specs.declared.Check.{Check}
 use Rattle.floor.specs.declared.Check.the-variants.{Sound, Refused}
-use Rattle.floor.specs.Checks.{row, wellFormed, checkFloor}
+use Rattle.floor.specs.Checks.{row, wellFormed, notFiniteOrBelowZero, andThen, checkFloor}
 use Rattle.refinement.specs.Flag.{flaggedTri}
 use Rattle.refinement.specs.Floor.{Refined, refinementOf, trisOf, cornersOf, endsOf}
 use Rattle.refine_call.specs.declared.Answer.{Answer}
-use Rattle.refine_call.specs.Call.{badThreshold, short, andThen, checkRest, checkCall, answerOf, Called}
+use Rattle.refine_call.specs.Call.{short, checkRest, checkCall, answerOf, Called}
 use Rattle.refine_lines.specs.Lines.{refusedLine, bytesFor, Holds}
 use Rattle.refinement.proofs.Triangles.{tris-length, tris-of}
 use Rattle.refinement.proofs.Parts.{refined-most}
@@ -115,11 +114,11 @@ module _ (p z : List Float) (l : List ℕ) (n t : ℕ) (small : n ≤ 256) (litt
       let d : 8 * t ≤ 2048 = omega arith in
       rw (le-ltb 3072 (3 * (n + 3 * t)) a, le-ltb 1024 (n + 3 * t) b, le-ltb 3072 (12 * t) c, le-ltb 2048 (8 * t) d) refl
 
-  rest : checkRest n t n x 3072 1024 3072 2048 ≡ cond (badThreshold x) (Refused (row 12)) Sound
+  rest : checkRest n t n x 3072 1024 3072 2048 ≡ cond (notFiniteOrBelowZero x) (Refused (row 12)) Sound
   unfolding checkRest
   rest = rw (eq-eqb n n refl, roomy) refl
 
-  pub check-is : checkCall p l z n x 3072 1024 3072 2048 ≡ andThen (checkFloor p l z) (cond (badThreshold x) (Refused (row 12)) Sound)
+  pub check-is : checkCall p l z n x 3072 1024 3072 2048 ≡ andThen (checkFloor p l z) (cond (notFiniteOrBelowZero x) (Refused (row 12)) Sound)
   unfolding checkCall
   check-is =
       let a : length p / 3 ≡ n = omega arith in

@@ -6,10 +6,9 @@ use lib.Ieee.{add, sub, mul, div, rem, neg, eq, lt, le, ne, ofBits, ofInt}
 use Rattle.float.specs.Double.{mag}
 use Rattle.mesh.specs.Mesh.{key, place, met, metAll, sidesAfter, marked, cuts, mid, refine}
 use Rattle.areas.specs.Points.{morePoints, moreSizes, midpoints, midSizes}
-use Rattle.floor.specs.Checks.{lowest, badPoint, badSize, badCorner, checkFloor}
+use Rattle.floor.specs.Checks.{lowest, badPoint, badSize, badCorner, notFiniteAndPositive, notFiniteOrBelowZero, checkFloor}
 use Rattle.refinement.specs.Flag.{turnAlong, variation, flagged, flaggedTri}
 use Rattle.refinement.specs.Floor.{tris, refinementOf}
-use Rattle.refine_call.specs.Call.{badThreshold}
 use Rattle.columns.specs.Columns.{lead, inSix, columnsOf, lineOf, isLead, isDigit, afterBlank, afterMinus, step, scan}
 use Rattle.floor_text.specs.Text.{isLine, isCorners, every, isHead, isText, pointsUpTo, anglesUpTo, cornersUpTo}
 use Rattle.refine_lines.specs.Lines.{triangleLines, sideLines, linesOf}
@@ -40,5 +39,5 @@ expected =
     32 ∷ 32 ∷ 32 ∷ 32 ∷ 32 ∷ 48 ∷ 32 ∷ 32 ∷ 32 ∷ 32 ∷ 32 ∷ 50 ∷ 10 ∷ []
 
 pub listing : printed given ≡ expected
-unfolding given expected printed accepted isText isHead isLine isCorners every scan step afterBlank afterMinus isLead isDigit pointsUpTo anglesUpTo cornersUpTo checkFloor lowest badPoint badSize badCorner badThreshold refinementOf tris flaggedTri flagged variation turnAlong marked cuts sidesAfter metAll met place key refine mid morePoints midpoints moreSizes midSizes linesOf triangleLines sideLines lineOf columnsOf inSix lead ofInt add sub mul div rem neg le lt ne eq mag ofBits
+unfolding given expected printed accepted isText isHead isLine isCorners every scan step afterBlank afterMinus isLead isDigit pointsUpTo anglesUpTo cornersUpTo checkFloor lowest badPoint badSize badCorner notFiniteAndPositive notFiniteOrBelowZero refinementOf tris flaggedTri flagged variation turnAlong marked cuts sidesAfter metAll met place key refine mid morePoints midpoints moreSizes midSizes linesOf triangleLines sideLines lineOf columnsOf inSix lead ofInt add sub mul div rem neg le lt ne eq mag ofBits
 listing = refl

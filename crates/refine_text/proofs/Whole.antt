@@ -10,9 +10,9 @@ use lib.ListN.{length, take, drop, replicate}
 use lib.Seq.{sets, sets-eq, take-at}
 use lib.Ieee.{Float}
 use Rattle.float.specs.Double.{lit}
-use Rattle.floor.specs.Checks.{checkFloor}
+use Rattle.floor.specs.Checks.{notFiniteOrBelowZero, checkFloor}
 use Rattle.refinement.specs.Floor.{refinementOf, trisOf}
-use Rattle.refine_call.specs.Call.{badThreshold, countsOf}
+use Rattle.refine_call.specs.Call.{countsOf}
 use Rattle.floor_text.specs.declared.Read.{Read}
 use Rattle.floor_text.specs.declared.Read.the-variants.{Floor, Other}
 use Rattle.floor_text.specs.Text.{isText, pointCount, triangleCount, pointsIn, anglesIn, cornersIn, sizesIn, thresholdIn, readOf, ReadTo}
@@ -72,7 +72,7 @@ module _ (s : List ℕ) (text : isText s ≡ true) where
   floor-prints =
       let k = known s text in
       rw (angles-many, check-is (pointsIn s) (sizesIn s) (cornersIn s) (pointCount s) (triangleCount s) (k .few-points) (k .few-triangles) points-many corners-many (thresholdIn s), text)
-      (bytes-by (checkFloor (pointsIn s) (cornersIn s) (sizesIn s)) (badThreshold (thresholdIn s)) _)
+      (bytes-by (checkFloor (pointsIn s) (cornersIn s) (sizesIn s)) (notFiniteOrBelowZero (thresholdIn s)) _)
 
 -- the fronts of the slices that were read
 pub text-prints : {p₀ α₀ p α : List Float} {k₀ k : List ℕ} {z : List Float} {n t : ℕ} {x : Float} {r : Read} (s : List ℕ) → ReadTo s p₀ α₀ k₀ r p α k → FloorRead s n t x
@@ -96,7 +96,7 @@ longest-floor x α p z l h =
 
 pub printed-fits : (s : List ℕ) → length (printed s) ≤ longest
 unfolding printed accepted refusedLine
-printed-fits s = go (isText s) refl (isSound (checkFloor (pointsIn s) (cornersIn s) (sizesIn s)) && not (badThreshold (thresholdIn s)))
+printed-fits s = go (isText s) refl (isSound (checkFloor (pointsIn s) (cornersIn s) (sizesIn s)) && not (notFiniteOrBelowZero (thresholdIn s)))
   where
     go : (b : Bool) → isText s ≡ b → (c : Bool) → length (cond (b && c) (written (refinementOf (thresholdIn s) (anglesIn s) (pointsIn s) (sizesIn s) (trisOf (cornersIn s)))) refusedLine) ≤ longest
     go true i true = longest-floor (thresholdIn s) (anglesIn s) (pointsIn s) (sizesIn s) (cornersIn s) (omega (arith, corners-many s i, known s i .few-triangles))

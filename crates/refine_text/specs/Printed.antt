@@ -7,9 +7,9 @@ use lib.Dec.{leb}
 use lib.ListN.{length}
 use Rattle.floor.specs.declared.Check.{Check}
 use Rattle.floor.specs.declared.Check.the-variants.{Sound, Refused}
-use Rattle.floor.specs.Checks.{checkFloor}
+use Rattle.floor.specs.Checks.{notFiniteOrBelowZero, checkFloor}
 use Rattle.refinement.specs.Floor.{Refined, refinementOf, trisOf, over}
-use Rattle.refine_call.specs.Call.{badThreshold, countsOf}
+use Rattle.refine_call.specs.Call.{countsOf}
 use Rattle.floor_text.specs.Text.{isText, pointsIn, anglesIn, cornersIn, sizesIn, thresholdIn}
 use Rattle.refine_lines.specs.Lines.{linesOf, refusedLine}
 
@@ -25,7 +25,7 @@ isSound (Refused x) = false
 
 -- a text whose floor and threshold refinement takes: rows 3 to 8, and 12
 unfoldable pub accepted : List ℕ → Bool
-accepted s = isText s && (isSound (checkFloor (pointsIn s) (cornersIn s) (sizesIn s)) && not (badThreshold (thresholdIn s)))
+accepted s = isText s && (isSound (checkFloor (pointsIn s) (cornersIn s) (sizesIn s)) && not (notFiniteOrBelowZero (thresholdIn s)))
 
 unfoldable pub printed : List ℕ → List ℕ
 printed s = cond (accepted s) (written (refinementOf (thresholdIn s) (anglesIn s) (pointsIn s) (sizesIn s) (trisOf (cornersIn s)))) refusedLine

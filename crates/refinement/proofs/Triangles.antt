@@ -3,7 +3,7 @@
 use Prim.Native.Nat.{ℕ, zero, suc, _+_, _*_, _<_}
 use native.Mathlib.Omega.{arith}
 use mathlib.Core.Path.{_≡_, refl, ap, _∙_}
-use mathlib.Core.Bool.{Bool, true, false, _||_}
+use mathlib.Core.Bool.{false}
 use mathlib.Core.List.{List, [], _∷_, _++_}
 use borrow.Author.Tests.{leb-false}
 use lib.Dec.{leb}
@@ -13,6 +13,7 @@ use Rattle.mesh.specs.Claim.{InRange}
 use Rattle.mesh.proofs.Whole.{All-append}
 use Rattle.edges.specs.Numbering.{trisFrom}
 use Rattle.floor.specs.Checks.{badCorner}
+use Rattle.floor.proofs.Rows.{or-none}
 use Rattle.refinement.specs.Floor.{triAt, tris, cornersOf}
 
 pub tris-length : (l : List ℕ) (i : ℕ) → length (tris l i) ≡ i
@@ -59,10 +60,6 @@ tris-held c (suc t) u l h =
     rw (tris-held c t u l (λ j g. h j (omega arith)), h (3 * t) (omega arith), ← e₁, ← e₂, h (3 * t + 1) (omega arith), h (3 * t + 2) (omega arith))
 
 -- ---- corners in range: what row 8 leaves
-
-or-none : (a b : Bool) → (a || b) ≡ false → (a ≡ false) × (b ≡ false)
-or-none false b e = (refl, e)
-or-none true b e = let z : _≡_ {A = ℕ} 0 1 = cc in absurd (omega arith)
 
 corner-in : (l : List ℕ) (n i : ℕ) → badCorner l n i ≡ false → InRange n (triAt l i)
 unfolding badCorner

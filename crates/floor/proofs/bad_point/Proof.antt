@@ -1,8 +1,6 @@
 -- `floor::bad_point` meets its contract: each return opens the definition and rewrites it by the tests and the calls on its way.
 use borrow.Author.Needs.{needs}
-use mathlib.Core.Path.{_≡_, refl, sym, ap, _∙_}
-use borrow.Author.Tests.{eq-eqb, ne-eqb, le-leb, lt-leb}
-use Rattle.floor.specs.Checks.{wellFormed, badPoint, badSize, badCorner}
+use Rattle.floor.specs.Checks.{badPoint}
 use Rattle.floor.proofs.bad_point.Statement.{statement}
 use Rattle.floor.proofs.bad_point.Tie as tie
 

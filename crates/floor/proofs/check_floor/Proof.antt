@@ -1,6 +1,5 @@
 -- `floor::check_floor` meets its contract: each return opens the definition and rewrites it by the tests and the calls on its way.
 use borrow.Author.Needs.{needs}
-use mathlib.Core.Path.{_≡_, refl, sym, ap, _∙_}
 use borrow.Author.Tests.{eq-eqb, ne-eqb, le-ltb, lt-ltb}
 use Rattle.floor.specs.Checks.{checkFloor}
 use Rattle.floor.proofs.check_floor.Statement.{statement}

@@ -3,8 +3,7 @@ use borrow.Author.Needs.{needs}
 use Prim.Native.Nat.{_-_, _≤_}
 use mathlib.Core.Path.{_≡_, sym, ap, _∙_}
 use native.Mathlib.Omega.{arith}
-use lib.ListN.{length}
-use Rattle.floor.specs.Checks.{lowest, badPoint, badSize, badCorner}
+use Rattle.floor.specs.Checks.{lowest, badPoint}
 use Rattle.floor.proofs.Lowest.{lowest-none, lowest-again, lowest-found}
 use Rattle.floor.proofs.first_bad_point.Statement.{statement}
 use Rattle.floor.proofs.first_bad_point.Tie as tie

@@ -4,7 +4,7 @@ use Prim.Native.Nat.{_-_, _≤_}
 use mathlib.Core.Path.{_≡_, sym, ap, _∙_}
 use native.Mathlib.Omega.{arith}
 use lib.ListN.{length}
-use Rattle.floor.specs.Checks.{lowest, badPoint, badSize, badCorner}
+use Rattle.floor.specs.Checks.{lowest, badSize}
 use Rattle.floor.proofs.Lowest.{lowest-none, lowest-again, lowest-found}
 use Rattle.floor.proofs.first_bad_size.Statement.{statement}
 use Rattle.floor.proofs.first_bad_size.Tie as tie

@@ -1,8 +1,6 @@
 -- `floor::well_formed` meets its contract: each return opens the definition and rewrites it by the tests and the calls on its way.
-use borrow.Author.Needs.{needs}
-use mathlib.Core.Path.{_≡_, refl, sym, ap, _∙_}
 use borrow.Author.Tests.{eq-eqb, ne-eqb, le-leb, lt-leb}
-use Rattle.floor.specs.Checks.{wellFormed, badPoint, badSize, badCorner}
+use Rattle.floor.specs.Checks.{wellFormed}
 use Rattle.floor.proofs.well_formed.Statement.{statement}
 use Rattle.floor.proofs.well_formed.Tie as tie
 

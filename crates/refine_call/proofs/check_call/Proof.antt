@@ -2,7 +2,9 @@
 use borrow.Author.Needs.{needs}
 use mathlib.Core.Path.{sym, _∙_}
 use Rattle.refine_call.specs.Call.{checkCall}
-use Rattle.refine_call.proofs.Facts.{not-true, not-false, formed, rest-sound, rest-refused}
+use borrow.Author.Tests.{not-true, not-false}
+use Rattle.floor.proofs.Rows.{whole-slices}
+use Rattle.refine_call.proofs.Facts.{rest-sound, rest-refused}
 use Rattle.refine_call.proofs.check_call.Statement.{statement}
 use Rattle.refine_call.proofs.check_call.Tie as tie
 
@@ -30,7 +32,7 @@ unfolding checkCall
 returns-2 c = simp (← c .before .before .before .before .well-formed .ensures, not-false (c .before .before .before .before .well-formed .result) (c .before .before .before .if1 .left), ← c .before .before .check-floor .ensures) (rest-refused _ _ _ (c .enum-told2 .given .1))
 
 check-rest-requires : tie.Need-check-rest-requires
-check-rest-requires c κs = formed _ _ (sym (c .before .before .before .before .well-formed .ensures) ∙ not-false _ (c .before .before .before .if1 .left))
+check-rest-requires c κs = whole-slices _ _ (sym (c .before .before .before .before .well-formed .ensures) ∙ not-false _ (c .before .before .before .if1 .left)) .few
 
 returns-3 : tie.Need-returns-3
 unfolding checkCall

@@ -12,15 +12,15 @@ returns : tie.Need-returns
 unfolding checkRest
 returns c = simp (ne-eqb _ _ (c .before .if1 .taken)) (c .refused .ensures)
 
-bad-threshold-requires : tie.Need-bad-threshold-requires
-bad-threshold-requires c κs = search needs
+not-finite-or-below-zero-requires : tie.Need-not-finite-or-below-zero-requires
+not-finite-or-below-zero-requires c κs = search needs
 
 refused-requires-2 : tie.Need-refused-requires-2
 refused-requires-2 c κs = search needs
 
 returns-2 : tie.Need-returns-2
 unfolding checkRest
-returns-2 c = simp (eq-eqb _ _ (c .before .before .before .if1 .left), ← c .before .before .bad-threshold .ensures, c .before .if2 .taken) (c .refused2 .ensures)
+returns-2 c = simp (eq-eqb _ _ (c .before .before .before .if1 .left), ← c .before .before .not-finite-or-below-zero .ensures, c .before .if2 .taken) (c .refused2 .ensures)
 
 is-short-requires : tie.Need-is-short-requires
 is-short-requires c κs = search needs
@@ -30,11 +30,11 @@ refused-requires-3 c κs = search needs
 
 returns-3 : tie.Need-returns-3
 unfolding checkRest
-returns-3 c = simp (eq-eqb _ _ (c .before .before .before .before .before .if1 .left), ← c .before .before .before .before .bad-threshold .ensures, c .before .before .before .if2 .left, ← c .before .before .is-short .ensures, c .before .if3 .taken) (c .refused3 .ensures)
+returns-3 c = simp (eq-eqb _ _ (c .before .before .before .before .before .if1 .left), ← c .before .before .before .before .not-finite-or-below-zero .ensures, c .before .before .before .if2 .left, ← c .before .before .is-short .ensures, c .before .if3 .taken) (c .refused3 .ensures)
 
 returns-4 : tie.Need-returns-4
 unfolding checkRest
-returns-4 c = simp (eq-eqb _ _ (c .before .before .before .before .if1 .left), ← c .before .before .before .bad-threshold .ensures, c .before .before .if2 .left, ← c .before .is-short .ensures, c .if3 .left)
+returns-4 c = simp (eq-eqb _ _ (c .before .before .before .before .if1 .left), ← c .before .before .before .not-finite-or-below-zero .ensures, c .before .before .if2 .left, ← c .before .is-short .ensures, c .if3 .left)
 
 pub check-rest-spec : {M : Type 1} → statement M
 check-rest-spec =
@@ -42,7 +42,7 @@ check-rest-spec =
     (tie.spec
     refused-requires
     returns
-    bad-threshold-requires
+    not-finite-or-below-zero-requires
     refused-requires-2
     returns-2
     is-short-requires
