@@ -12,7 +12,7 @@ use lib.Seq.{getD-append-seam}
 use mathlib.Core.Option.{none, some}
 use borrow.Author.Tests.{eq-eqb, ne-eqb, eqb-true}
 use Rattle.mesh.specs.Mesh.{side, place, Numbered}
-use Rattle.edges.specs.Table.{Table, slotOf, seek, last, pairs}
+use Rattle.edges.specs.Table.{Linked, slotOf, seek, last, pairs}
 use Rattle.mesh.proofs.Cuts.{place-out}
 
 -- the test at place k
@@ -84,7 +84,7 @@ pub record Chase (N : ℕ) (lo hi : ℕ → ℕ) (m a b at : ℕ) : Type 0 where
   pub rest : seek lo hi a b m ≡ seek lo hi a b at
   pub bucket : (k : ℕ) → at ≡ suc k → slotOf N (lo k) (hi k) ≡ slotOf N a b
 
-pub chase-start : {N : ℕ} {lo hi head link : ℕ → ℕ} {m a b : ℕ} → Table N lo hi head link m → {h at : ℕ} → (h ≡ slotOf N a b) × (h < N) → at ≡ head h → Chase N lo hi m a b at
+pub chase-start : {N : ℕ} {lo hi head link : ℕ → ℕ} {m a b : ℕ} → Linked N lo hi head link m → {h at : ℕ} → (h ≡ slotOf N a b) × (h < N) → at ≡ head h → Chase N lo hi m a b at
 chase-start {N} {lo} {hi} {head} {link} {m} {a} {b} t {h} {at} e e′ =
     let q : at ≡ last N lo hi (slotOf N a b) m = e′ ∙ rw (← (e .0)) (t .heads h (e .1)) in
     let i = last-in N lo hi (slotOf N a b) m in
@@ -98,7 +98,7 @@ module _ {N : ℕ} {lo hi : ℕ → ℕ} {m a b at : ℕ} (c : Chase N lo hi m a
   at-suc : at ≡ suc (at - 1)
   at-suc = omega arith
 
-  pub chase-step : {head link : ℕ → ℕ} → Table N lo hi head link m → (eqb (lo (at - 1)) a && eqb (hi (at - 1)) b) ≡ false → {at′ : ℕ} → at′ ≡ link (at - 1) → Chase N lo hi m a b at′ × (at′ < at)
+  pub chase-step : {head link : ℕ → ℕ} → Linked N lo hi head link m → (eqb (lo (at - 1)) a && eqb (hi (at - 1)) b) ≡ false → {at′ : ℕ} → at′ ≡ link (at - 1) → Chase N lo hi m a b at′ × (at′ < at)
   chase-step {head} {link} t miss {at′} e =
       let k = at - 1 in
       let s : slotOf N (lo k) (hi k) ≡ slotOf N a b = c .bucket k at-suc in
@@ -155,7 +155,7 @@ module _ {N : ℕ} {lo hi head link lo′ hi′ head′ link′ : ℕ → ℕ} {
   unfolding pairs
   new-pairs = rw (old-pairs m (omega arith), d .lo-new, d .hi-new)
 
-  pub table-more : Table N lo hi head link m → (h ≡ slotOf N a b) × (h < N) → Table N lo′ hi′ head′ link′ (suc m)
+  pub table-more : Linked N lo hi head link m → (h ≡ slotOf N a b) × (h < N) → Linked N lo′ hi′ head′ link′ (suc m)
   table-more t e = record { heads = λ i l. heads-go i l (ℕ-discrete i h); links = λ k l. links-go k l (ℕ-discrete k m) }
     where
       here : slotOf N (lo′ m) (hi′ m) ≡ h

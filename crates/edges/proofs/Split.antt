@@ -6,8 +6,9 @@ use mathlib.Core.Path.{_≡_, refl, ap, _∙_}
 use mathlib.Core.List.{List, [], _∷_, map, map-append}
 use lib.ListN.{length, length-append, getD, set}
 use lib.Seq.{sets, length-sets}
-use Rattle.mesh.specs.Mesh.{side}
-use Rattle.runs.proofs.Runs.{sets-before, sets-next}
+use Rattle.mesh.specs.Mesh.{Side, side}
+use Rattle.runs.proofs.Runs.{sets-before, sets-within, sets-next}
+use Rattle.edges.proofs.Chain.{length-pairs}
 use Rattle.edges.specs.Table.{pairs, loOf, hiOf, sidesIn, lower, upper, thirds, split}
 
 length-thirds : (a : ℕ) (w : List ℕ) (m : ℕ) → length (thirds a w m) ≡ m
@@ -35,6 +36,10 @@ thirds-more a to m k w {w₁} room h so-far e =
     let read : getD w₁ (a + 3 * k) 0 ≡ getD w (a + 3 * k) 0 = ap (λ (l : List ℕ). getD l (a + 3 * k) 0) so-far ∙ sets-before w to (thirds a w k) (a + 3 * k) 0 (omega arith) in
     e ∙ rw (add-one k, read, so-far) (sets-next w to (to + k) (thirds a w k) (getD w (a + 3 * k) 0 ∷ []) (omega (arith, length-thirds a w k)))
 
+pub length-map : {A B : Type 0} (f : A → B) (l : List A) → length (map f l) ≡ length l
+length-map f [] = refl
+length-map f (a ∷ l) = ap suc (length-map f l)
+
 -- ---- what is copied
 
 lowers : (o N : ℕ) (w : List ℕ) (m : ℕ) → thirds (o + N) w m ≡ map lower (sidesIn o N w m)
@@ -55,3 +60,30 @@ split-done o N m from to w {w₁} h p q =
     let same : thirds (o + N + 1) w₁ m ≡ thirds (o + N + 1) w m =
     thirds-same (o + N + 1) w w₁ m (λ k l. ap (λ (v : List ℕ). getD v (o + N + 1 + 3 * k) 0) p ∙ sets-before w from (thirds (o + N) w m) (o + N + 1 + 3 * k) 0 (omega arith)) in
     q ∙ rw (same, p, lowers o N w m, uppers o N w m)
+
+-- ---- the slice after that
+
+module _ (o N m from to : ℕ) (w : List ℕ) where
+  many : (f : Side → ℕ) → length (map f (sidesIn o N w m)) ≡ m
+  many f = length-map f (sidesIn o N w m) ∙ length-pairs (loOf o N w) (hiOf o N w) m
+
+  pub split-length : length (split o N m from to w) ≡ length w
+  unfolding split
+  split-length = length-sets (sets w from (map lower (sidesIn o N w m))) to (map upper (sidesIn o N w m)) ∙ length-sets w from (map lower (sidesIn o N w m))
+
+  pub split-before : (j : ℕ) → j < from → from ≤ to → getD (split o N m from to w) j 0 ≡ getD w j 0
+  unfolding split
+  split-before j h e =
+      sets-before (sets w from (map lower (sidesIn o N w m))) to (map upper (sidesIn o N w m)) j 0 (omega arith)
+      ∙ sets-before w from (map lower (sidesIn o N w m)) j 0 h
+
+  pub split-lower : (k : ℕ) → k < m → from + m ≤ to → to + m ≤ length w → getD (split o N m from to w) (from + k) 0 ≡ getD (map lower (sidesIn o N w m)) k 0
+  unfolding split
+  split-lower k h e g =
+      sets-before (sets w from (map lower (sidesIn o N w m))) to (map upper (sidesIn o N w m)) (from + k) 0 (omega arith)
+      ∙ sets-within w from (map lower (sidesIn o N w m)) k 0 (omega (arith, many lower)) (omega (arith, many lower))
+
+  pub split-upper : (k : ℕ) → k < m → to + m ≤ length w → getD (split o N m from to w) (to + k) 0 ≡ getD (map upper (sidesIn o N w m)) k 0
+  unfolding split
+  split-upper k h g =
+      sets-within (sets w from (map lower (sidesIn o N w m))) to (map upper (sidesIn o N w m)) k 0 (omega (arith, many upper, length-sets w from (map lower (sidesIn o N w m)))) (omega (arith, many upper))

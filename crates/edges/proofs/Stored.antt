@@ -13,7 +13,7 @@ use Rattle.mesh.specs.Mesh.{Side, side, key, tri, place, met, metAll}
 use Rattle.mesh.proofs.Theorem.{place-below}
 use Rattle.runs.proofs.Runs.{sets-before}
 use Rattle.mesh.proofs.Cuts.{key-either, place-keep, place-end, met-old, met-new, met-numbered, Found, found, missing, find}
-use Rattle.edges.specs.Table.{Table, slotOf, seek, last, pairs, headOf, loOf, hiOf, linkOf, sidesIn, Held, Outside, Met, MetTri, plus}
+use Rattle.edges.specs.Table.{Linked, slotOf, seek, last, pairs, headOf, loOf, hiOf, linkOf, sidesIn, Held, Outside, Met, MetTri, oneMore}
 use Rattle.edges.proofs.Chain.{Added, table-more, new-pairs, length-pairs, seek-none, seek-some}
 
 -- w after the four stores of a side at place m of bucket h
@@ -120,7 +120,7 @@ met-added {o} {N} {w} {m} {h} {v} a b t z room e ev =
         buckets = t .buckets;
         narrow = t .narrow;
         room = omega (arith, stored-length o N w m a b v h (e .1) room);
-        table = subst (Table N (loOf o N w′) (hiOf o N w′) (headOf o N w′) (linkOf o N w′)) (sym (add-one m)) (table-more d (t .table) e);
+        table = subst (Linked N (loOf o N w′) (hiOf o N w′) (headOf o N w′) (linkOf o N w′)) (sym (add-one m)) (table-more d (t .table) e);
         numbered = rw now (met-numbered (sidesIn o N w m) (side a b) (t .numbered));
       };
       now-met = now;
@@ -180,20 +180,20 @@ met-three {o} {N} {w₁ = w₁} {w₂} {w₃} {m₁ = m₁} {m₂} {m₃} {p} {q
 
 -- ---- a side is looked for
 
-pub found-side : {o N : ℕ} {w : List ℕ} {m at : ℕ} (a b : ℕ) → Held o N w m → at ≡ seek (loOf o N w) (hiOf o N w) a b m → (at ≡ plus (place (side a b) (sidesIn o N w m))) × (at ≤ m)
+pub found-side : {o N : ℕ} {w : List ℕ} {m at : ℕ} (a b : ℕ) → Held o N w m → at ≡ seek (loOf o N w) (hiOf o N w) a b m → (at ≡ oneMore (place (side a b) (sidesIn o N w m))) × (at ≤ m)
 found-side {o} {N} {w} {m} {at} a b t e = go (ℕ-discrete at 0)
   where
-    go : Dec (at ≡ 0) → (at ≡ plus (place (side a b) (sidesIn o N w m))) × (at ≤ m)
-    go (yes z) = (z ∙ sym (ap plus (seek-none (loOf o N w) (hiOf o N w) a b m (sym e ∙ z))), omega arith)
+    go : Dec (at ≡ 0) → (at ≡ oneMore (place (side a b) (sidesIn o N w m))) × (at ≤ m)
+    go (yes z) = (z ∙ sym (ap oneMore (seek-none (loOf o N w) (hiOf o N w) a b m (sym e ∙ z))), omega arith)
     go (no z) =
         let p = seek-some (loOf o N w) (hiOf o N w) a b m (at - 1) (t .numbered) (sym e ∙ omega arith) in
         let i : at ≡ suc (at - 1) = omega arith in
-        (i ∙ sym (ap plus p), omega (arith, place-below (side a b) (sidesIn o N w m) (at - 1) p, length-pairs (loOf o N w) (hiOf o N w) m))
+        (i ∙ sym (ap oneMore p), omega (arith, place-below (side a b) (sidesIn o N w m) (at - 1) p, length-pairs (loOf o N w) (hiOf o N w) m))
 
-pub found-key : {o N : ℕ} {w : List ℕ} {m at : ℕ} (u v : ℕ) → u < v → Held o N w m → at ≡ seek (loOf o N w) (hiOf o N w) u v m → (at ≡ plus (place (key u v) (sidesIn o N w m))) × (at ≤ m)
+pub found-key : {o N : ℕ} {w : List ℕ} {m at : ℕ} (u v : ℕ) → u < v → Held o N w m → at ≡ seek (loOf o N w) (hiOf o N w) u v m → (at ≡ oneMore (place (key u v) (sidesIn o N w m))) × (at ≤ m)
 found-key u v h t e = rw (⊎-elim (λ p. p .0) (λ p. absurd (omega (arith, p .1))) (key-either u v)) (found-side u v t e)
 
-pub found-key′ : {o N : ℕ} {w : List ℕ} {m at : ℕ} (u v : ℕ) → v ≤ u → Held o N w m → at ≡ seek (loOf o N w) (hiOf o N w) v u m → (at ≡ plus (place (key u v) (sidesIn o N w m))) × (at ≤ m)
+pub found-key′ : {o N : ℕ} {w : List ℕ} {m at : ℕ} (u v : ℕ) → v ≤ u → Held o N w m → at ≡ seek (loOf o N w) (hiOf o N w) v u m → (at ≡ oneMore (place (key u v) (sidesIn o N w m))) × (at ≤ m)
 found-key′ u v h t e = rw (⊎-elim (λ p. absurd (omega (arith, p .1))) (λ p. p .0) (key-either u v)) (found-side v u t e)
 
 -- ---- an empty table

@@ -30,7 +30,8 @@ unfoldable pub last : ℕ → (ℕ → ℕ) → (ℕ → ℕ) → ℕ → ℕ �
 last N lo hi h zero = 0
 last N lo hi h (suc k) = cond (eqb (slotOf N (lo k) (hi k)) h) (suc k) (last N lo hi h k)
 
-pub record Table (N : ℕ) (lo hi head link : ℕ → ℕ) (m : ℕ) : Type 0 where
+-- the buckets and the links lead to the last side of a bucket, and from each to the one before it
+pub record Linked (N : ℕ) (lo hi head link : ℕ → ℕ) (m : ℕ) : Type 0 where
   pub heads : (h : ℕ) → h < N → head h ≡ last N lo hi h m
   pub links : (k : ℕ) → k < m → link k ≡ last N lo hi (slotOf N (lo k) (hi k)) k
 
@@ -72,7 +73,7 @@ pub record Held (o N : ℕ) (w : List ℕ) (m : ℕ) : Type 0 where
   pub buckets : 0 < N
   pub narrow : N ≤ 2 ^ 32
   pub room : o + N + 3 * m ≤ length w
-  pub table : Table N (loOf o N w) (hiOf o N w) (headOf o N w) (linkOf o N w) m
+  pub table : Linked N (loOf o N w) (hiOf o N w) (headOf o N w) (linkOf o N w) m
   pub numbered : Numbered (sidesIn o N w m)
 
 -- the slice outside the table of m sides is as it was
@@ -102,11 +103,11 @@ pub record MetTri (o N : ℕ) (w : List ℕ) (m : ℕ) (w′ : List ℕ) (m′ p
   pub most : m ≤ m′
   pub outside : Outside o N w m′ w′
 
--- an answer that may be none, as a number: 0, or one more
-abbrev pub plus : Option ℕ → ℕ
-plus none = 0
-plus (some k) = suc k
+-- a place that may be none, as a number: one more than the place, or 0; and back
+abbrev pub oneMore : Option ℕ → ℕ
+oneMore none = 0
+oneMore (some k) = suc k
 
-abbrev pub unplus : ℕ → Option ℕ
-unplus zero = none
-unplus (suc k) = some k
+abbrev pub oneLess : ℕ → Option ℕ
+oneLess zero = none
+oneLess (suc k) = some k

@@ -1,5 +1,5 @@
 // Sides of triangles, numbered in the order first met, lower end first: the Rust's HashMap of sides, and its list of them, in lent numbers.
-// The table stands in one slice w from `base` on: n buckets, then three numbers for each of its m sides (specs/Table.antt).
+// The table stands in one slice of numbers: its buckets, then three numbers for each of its sides (specs/Table.antt).
 // A search looks at the sides of one bucket only, a constant number in the mean if there are as many buckets as sides; that it finds the right
 // place is proved for any function that puts sides into buckets.
 pub mod numbers;
@@ -11,7 +11,14 @@ ghost use lib.ListN.{length, replicate};
 ghost use lib.Seq.{sets};
 ghost use lib.Dec.{eqb};
 ghost use Rattle.mesh.specs.Mesh.{side, key, tri, place};
-ghost use Rattle.edges.specs.Table.{slotOf, seek, loOf, hiOf, sidesIn, Held, Met, MetTri, plus};
+ghost use Rattle.edges.specs.Table.{slotOf, seek, loOf, hiOf, sidesIn, Held, Met, MetTri, oneMore};
+
+// Where a table stands, of how many buckets, and how many sides it has.
+pub struct Table {
+    pub base: usize,
+    pub buckets: usize,
+    pub sides: usize,
+}
 
 pub struct Meeting {
     // How many sides there are now.
@@ -62,15 +69,15 @@ pub fn clear(w: &mut [u32], base: usize, n: usize)
     zeros(w, base, n);
 }
 
-// One more than the number of the side a b among the first m, or 0.
-fn find(w: &[u32], base: usize, n: usize, m: usize, a: u32, b: u32) -> usize
-    requires { ⌜ Held base n (now w) m ⌝ }
-    ensures { λ r. ⌜ r ≡ seek (loOf base n (now (w .entry))) (hiOf base n (now (w .entry))) a b m ⌝ }
+// One more than the number of the side a b, or 0.
+fn find(w: &[u32], t: Table, a: u32, b: u32) -> usize
+    requires { ⌜ Held (t .base) (t .buckets) (now w) (t .sides) ⌝ }
+    ensures { λ r. ⌜ r ≡ seek (loOf (t .base) (t .buckets) (now (w .entry))) (hiOf (t .base) (t .buckets) (now (w .entry))) a b (t .sides) ⌝ }
 {
-    let h = base + slot(n, a, b);
+    let h = t.base + slot(t.buckets, a, b);
     let mut at = mesh::index(w[h]);
     while at != 0 {
-        let k = base + n + 3 * (at - 1);
+        let k = t.base + t.buckets + 3 * (at - 1);
         if same_side(w[k], w[k + 1], a, b) {
             return at;
         }
@@ -79,33 +86,34 @@ fn find(w: &[u32], base: usize, n: usize, m: usize, a: u32, b: u32) -> usize
     0
 }
 
-// One more than the number of the side of u and v among the first m, or 0.
-pub fn find_side(w: &[u32], base: usize, n: usize, m: usize, u: u32, v: u32) -> usize
-    requires { ⌜ Held base n (now w) m ⌝ }
-    ensures { λ r. ⌜ (r ≡ plus (place (key u v) (sidesIn base n (now (w .entry)) m))) × (r ≤ m) ⌝ }
+// One more than the number of the side of u and v, or 0.
+pub fn find_side(w: &[u32], t: Table, u: u32, v: u32) -> usize
+    requires { ⌜ Held (t .base) (t .buckets) (now w) (t .sides) ⌝ }
+    ensures { λ r. ⌜ (r ≡ oneMore (place (key u v) (sidesIn (t .base) (t .buckets) (now (w .entry)) (t .sides)))) × (r ≤ t .sides) ⌝ }
 {
     if u < v {
-        return find(w, base, n, m, u, v);
+        return find(w, t, u, v);
     }
-    find(w, base, n, m, v, u)
+    find(w, t, v, u)
 }
 
-// The side a b is met, lower end first.
-fn meet(w: &mut [u32], base: usize, n: usize, m: usize, a: u32, b: u32) -> Meeting
-    requires { ⌜ Held base n (now w) m ⌝ }
-    requires { ⌜ (base + n + 3 * (m + 1) ≤ length (now w)) × (m + 1 < 2 ^ 32) ⌝ }
-    ensures { λ r. ⌜ Met base n (now (w .entry)) m (now (w .exit)) (r .sides) (r .number) (side a b) ⌝ }
+// The side a b, lower end first, is found or put into the table.
+fn find_or_insert(w: &mut [u32], t: Table, a: u32, b: u32) -> Meeting
+    requires { ⌜ Held (t .base) (t .buckets) (now w) (t .sides) ⌝ }
+    requires { ⌜ (t .base + t .buckets + 3 * (t .sides + 1) ≤ length (now w)) × (t .sides + 1 < 2 ^ 32) ⌝ }
+    ensures { λ r. ⌜ Met (t .base) (t .buckets) (now (w .entry)) (t .sides) (now (w .exit)) (r .sides) (r .number) (side a b) ⌝ }
 {
-    let at = find(w, base, n, m, a, b);
+    let at = find(w, t, a, b);
+    let m = t.sides;
     if at != 0 {
         return Meeting {
             sides: m,
             number: at - 1,
         };
     }
-    let h = base + slot(n, a, b);
+    let h = t.base + slot(t.buckets, a, b);
     let old = w[h];
-    let k = base + n + 3 * m;
+    let k = t.base + t.buckets + 3 * m;
     w[k] = a;
     w[k + 1] = b;
     w[k + 2] = old;
@@ -117,34 +125,36 @@ fn meet(w: &mut [u32], base: usize, n: usize, m: usize, a: u32, b: u32) -> Meeti
 }
 
 // The side of u and v is met.
-pub fn meet_side(w: &mut [u32], base: usize, n: usize, m: usize, u: u32, v: u32) -> Meeting
-    requires { ⌜ Held base n (now w) m ⌝ }
-    requires { ⌜ (base + n + 3 * (m + 1) ≤ length (now w)) × (m + 1 < 2 ^ 32) ⌝ }
-    ensures { λ r. ⌜ Met base n (now (w .entry)) m (now (w .exit)) (r .sides) (r .number) (key u v) ⌝ }
+pub fn meet_side(w: &mut [u32], t: Table, u: u32, v: u32) -> Meeting
+    requires { ⌜ Held (t .base) (t .buckets) (now w) (t .sides) ⌝ }
+    requires { ⌜ (t .base + t .buckets + 3 * (t .sides + 1) ≤ length (now w)) × (t .sides + 1 < 2 ^ 32) ⌝ }
+    ensures { λ r. ⌜ Met (t .base) (t .buckets) (now (w .entry)) (t .sides) (now (w .exit)) (r .sides) (r .number) (key u v) ⌝ }
 {
     if u < v {
-        return meet(w, base, n, m, u, v);
+        return find_or_insert(w, t, u, v);
     }
-    meet(w, base, n, m, v, u)
+    find_or_insert(w, t, v, u)
 }
 
 // The sides a b, b c and c a of a triangle are met.
-pub fn meet_triangle(
-    w: &mut [u32],
-    base: usize,
-    n: usize,
-    m: usize,
-    a: u32,
-    b: u32,
-    c: u32,
-) -> Meetings
-    requires { ⌜ Held base n (now w) m ⌝ }
-    requires { ⌜ (base + n + 3 * (m + 3) ≤ length (now w)) × (m + 3 < 2 ^ 32) ⌝ }
-    ensures { λ r. ⌜ MetTri base n (now (w .entry)) m (now (w .exit)) (r .sides) (r .ab) (r .bc) (r .ca) (tri a b c) ⌝ }
+pub fn meet_triangle(w: &mut [u32], t: Table, a: u32, b: u32, c: u32) -> Meetings
+    requires { ⌜ Held (t .base) (t .buckets) (now w) (t .sides) ⌝ }
+    requires { ⌜ (t .base + t .buckets + 3 * (t .sides + 3) ≤ length (now w)) × (t .sides + 3 < 2 ^ 32) ⌝ }
+    ensures { λ r. ⌜ MetTri (t .base) (t .buckets) (now (w .entry)) (t .sides) (now (w .exit)) (r .sides) (r .ab) (r .bc) (r .ca) (tri a b c) ⌝ }
 {
-    let p = meet_side(w, base, n, m, a, b);
-    let q = meet_side(w, base, n, p.sides, b, c);
-    let r = meet_side(w, base, n, q.sides, c, a);
+    let p = meet_side(w, t, a, b);
+    let after = Table {
+        base: t.base,
+        buckets: t.buckets,
+        sides: p.sides,
+    };
+    let q = meet_side(w, after, b, c);
+    let last = Table {
+        base: t.base,
+        buckets: t.buckets,
+        sides: q.sides,
+    };
+    let r = meet_side(w, last, c, a);
     Meetings {
         sides: r.sides,
         ab: p.number,

@@ -38,7 +38,12 @@ fn number_triangle(w: &mut [u32], p: Plan, i: usize, m: usize) -> usize
     let a = w[k];
     let b = w[k + 1];
     let c = w[k + 2];
-    let met = crate::meet_triangle(w, p.table, p.buckets, m, a, b, c);
+    let t = crate::Table {
+        base: p.table,
+        buckets: p.buckets,
+        sides: m,
+    };
+    let met = crate::meet_triangle(w, t, a, b, c);
     put_three(
         w,
         p.numbers + 3 * i,
@@ -85,13 +90,13 @@ fn copy_thirds(w: &mut [u32], at: usize, m: usize, to: usize)
     }
 }
 
-// The lower ends of the first m sides of a table, copied to `from`, and their upper ends to `to`.
-pub fn split_ends(w: &mut [u32], base: usize, n: usize, m: usize, from: usize, to: usize)
-    requires { ⌜ (base + n + 3 * m ≤ from) × (from + m ≤ to) × (to + m ≤ length (now w)) ⌝ }
-    ensures { λ _. ⌜ now (w .exit) ≡ split base n m from to (now (w .entry)) ⌝ }
+// The lower ends of a table's sides, copied to `from`, and their upper ends to `to`.
+pub fn split_ends(w: &mut [u32], t: crate::Table, from: usize, to: usize)
+    requires { ⌜ (t .base + t .buckets + 3 * t .sides ≤ from) × (from + t .sides ≤ to) × (to + t .sides ≤ length (now w)) ⌝ }
+    ensures { λ _. ⌜ now (w .exit) ≡ split (t .base) (t .buckets) (t .sides) from to (now (w .entry)) ⌝ }
 {
-    copy_thirds(w, base + n, m, from);
-    copy_thirds(w, base + n + 1, m, to);
+    copy_thirds(w, t.base + t.buckets, t.sides, from);
+    copy_thirds(w, t.base + t.buckets + 1, t.sides, to);
 }
 
 // One more of number j from e on, among the counts from a on.

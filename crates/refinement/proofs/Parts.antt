@@ -11,7 +11,7 @@ use mathlib.Core.Option.{Option, none, some}
 use lib.ListN.{length, take, replicate, length-append}
 use lib.Seq.{take-append-seam}
 use Rattle.mesh.specs.Mesh.{Tri, tri, Side, sides, metAll, above, sidesAfter, cuts, marked, one, split, pieces, refined}
-use Rattle.edges.specs.Table.{Held, MetTri, pairs, plus, unplus}
+use Rattle.edges.specs.Table.{Held, MetTri, pairs, oneMore, oneLess}
 use Rattle.refinement.specs.declared.Cut.{Cut}
 use Rattle.refinement.specs.Floor.{tris, triAt, cornersOf}
 use Rattle.refinement.specs.Steps.{CutStep, CutTo, rowsOf, Rows}
@@ -106,31 +106,31 @@ cut-again {f = f} {l} {i} h s =
 
 -- ---- numbers that may be none
 
-pub unplus-none : (p : ℕ) → p ≡ 0 → unplus p ≡ none
+pub unplus-none : (p : ℕ) → p ≡ 0 → oneLess p ≡ none
 unplus-none p e = rw e
 
-pub unplus-some : (p : ℕ) → p ≢ 0 → unplus p ≡ some (p - 1)
+pub unplus-some : (p : ℕ) → p ≢ 0 → oneLess p ≡ some (p - 1)
 unplus-some zero h = absurd (h refl)
 unplus-some (suc p) h = let e : suc p - 1 ≡ p = omega arith in rw e
 
-unplus-plus : (o : Option ℕ) → unplus (plus o) ≡ o
+unplus-plus : (o : Option ℕ) → oneLess (oneMore o) ≡ o
 unplus-plus none = refl
 unplus-plus (some k) = refl
 
-pub above-plus : (n : ℕ) (o : Option ℕ) (r : ℕ) → r ≡ plus o → r ≢ 0 → n + r ≡ plus (above n o)
+pub above-plus : (n : ℕ) (o : Option ℕ) (r : ℕ) → r ≡ oneMore o → r ≢ 0 → n + r ≡ oneMore (above n o)
 above-plus n none r e h = absurd (h e)
 above-plus n (some k) r e h = omega arith
 
-pub above-zero : (n : ℕ) (o : Option ℕ) (r : ℕ) → r ≡ plus o → r ≡ 0 → 0 ≡ plus (above n o)
+pub above-zero : (n : ℕ) (o : Option ℕ) (r : ℕ) → r ≡ oneMore o → r ≡ 0 → 0 ≡ oneMore (above n o)
 above-zero n none r e h = refl
 above-zero n (some k) r e h = absurd (omega arith)
 
-pub rows-of : (m : ℕ → ℕ → Option ℕ) {p q r count : ℕ} {rows : List ℕ} (a b c : ℕ) → p ≡ plus (m a b) → q ≡ plus (m b c) → r ≡ plus (m c a)
-    → Rows (split a b c (unplus p) (unplus q) (unplus r)) count rows → Rows (pieces m (tri a b c)) count rows
+pub rows-of : (m : ℕ → ℕ → Option ℕ) {p q r count : ℕ} {rows : List ℕ} (a b c : ℕ) → p ≡ oneMore (m a b) → q ≡ oneMore (m b c) → r ≡ oneMore (m c a)
+    → Rows (split a b c (oneLess p) (oneLess q) (oneLess r)) count rows → Rows (pieces m (tri a b c)) count rows
 rows-of m {p} {q} {r} {count} {rows} a b c e₁ e₂ e₃ h =
-    subst (λ (o : Option ℕ). Rows (split a b c (m a b) (m b c) o) count rows) (ap unplus e₃ ∙ unplus-plus (m c a))
-    (subst (λ (o : Option ℕ). Rows (split a b c (m a b) o (unplus r)) count rows) (ap unplus e₂ ∙ unplus-plus (m b c))
-    (subst (λ (o : Option ℕ). Rows (split a b c o (unplus q) (unplus r)) count rows) (ap unplus e₁ ∙ unplus-plus (m a b)) h))
+    subst (λ (o : Option ℕ). Rows (split a b c (m a b) (m b c) o) count rows) (ap oneLess e₃ ∙ unplus-plus (m c a))
+    (subst (λ (o : Option ℕ). Rows (split a b c (m a b) o (oneLess r)) count rows) (ap oneLess e₂ ∙ unplus-plus (m b c))
+    (subst (λ (o : Option ℕ). Rows (split a b c o (oneLess q) (oneLess r)) count rows) (ap oneLess e₁ ∙ unplus-plus (m a b)) h))
 
 -- ---- rows of corners
 

@@ -6,7 +6,7 @@ ghost use Prim.Native.Nat.{_+_, _*_, _<_, _≤_, _^_};
 ghost use lib.ListN.{length, take};
 ghost use lib.Seq.{sets};
 ghost use Rattle.mesh.specs.Mesh.{tri, mid, split, pieces};
-ghost use Rattle.edges.specs.Table.{Held, sidesIn, plus, unplus};
+ghost use Rattle.edges.specs.Table.{Held, sidesIn, oneMore, oneLess};
 ghost use Rattle.refinement.specs.Flag.{turnAlong, variation, angle, flaggedTri};
 ghost use Rattle.refinement.specs.Floor.{triAt};
 ghost use Rattle.refinement.specs.Steps.{CutStep, CutTo, Rows};
@@ -70,7 +70,12 @@ fn cut_triangle(
     let b = l[3 * i + 1];
     let c = l[3 * i + 2];
     if is_flagged(alpha, threshold, a, b, c) {
-        let met = edges::meet_triangle(w, base, nb, cut.sides, a, b, c);
+        let t = edges::Table {
+            base,
+            buckets: nb,
+            sides: cut.sides,
+        };
+        let met = edges::meet_triangle(w, t, a, b, c);
         return Cut {
             sides: met.sides,
             flagged: cut.flagged + 1,
@@ -109,9 +114,14 @@ pub fn cut_sides(
 pub fn middle(w: &[u32], base: usize, nb: usize, m: usize, n: usize, u: u32, v: u32) -> u32
     requires { ⌜ Held base nb (now w) m ⌝ }
     requires { ⌜ n + m < 2 ^ 32 ⌝ }
-    ensures { λ r. ⌜ r ≡ plus (mid n (sidesIn base nb (now (w .entry)) m) u v) ⌝ }
+    ensures { λ r. ⌜ r ≡ oneMore (mid n (sidesIn base nb (now (w .entry)) m) u v) ⌝ }
 {
-    let r = edges::find_side(w, base, nb, m, u, v);
+    let t = edges::Table {
+        base,
+        buckets: nb,
+        sides: m,
+    };
+    let r = edges::find_side(w, t, u, v);
     if r == 0 {
         return 0;
     }
@@ -126,7 +136,7 @@ pub struct Pieces {
 
 // The pieces of a b c, where p, q and r are one more than the midpoints of a b, b c and c a, or 0.
 pub fn split_triangle(a: u32, b: u32, c: u32, p: u32, q: u32, r: u32) -> Pieces
-    ensures { λ z. ⌜ Rows (split a b c (unplus p) (unplus q) (unplus r)) (z .count) (z .rows) ⌝ }
+    ensures { λ z. ⌜ Rows (split a b c (oneLess p) (oneLess q) (oneLess r)) (z .count) (z .rows) ⌝ }
 {
     if p == 0 {
         if q == 0 {

@@ -14,6 +14,7 @@ use Rattle.mesh.specs.Mesh.{Tri, tri, Good, All}
 use Rattle.mesh.proofs.Cuts.{Keyed, cuts-keyed}
 use Rattle.cells.proofs.Loops.{length-tab, getD-tab}
 use Rattle.edges.specs.Table.{lower, upper}
+use Rattle.edges.proofs.Split.{length-map}
 use Rattle.floor.specs.declared.Check.{Check}
 use Rattle.floor.specs.declared.Check.the-variants as check
 use Rattle.floor.specs.Floor.{Floor, pointsOf, trianglesOf, valueAt, triangleAt}
@@ -41,10 +42,6 @@ module _ {A : Type 0} (P : A → Type 0) (d : A) where
   at-all [] h i b = absurd (omega arith)
   at-all (a ∷ l) h zero b = h .0
   at-all (a ∷ l) h (suc i) b = at-all l (h .1) i (omega arith)
-
-pub length-map : {A B : Type 0} (f : A → B) (l : List A) → length (map f l) ≡ length l
-length-map f [] = refl
-length-map f (a ∷ l) = ap suc (length-map f l)
 
 pub getD-map : {A B : Type 0} (f : A → B) (l : List A) (i : ℕ) (a : A) (b : B) → i < length l → getD (map f l) i b ≡ f (getD l i a)
 getD-map f [] i a b h = absurd (omega arith)

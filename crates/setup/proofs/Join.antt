@@ -6,17 +6,18 @@ use mathlib.Core.Path.{_≡_, refl, sym, ap, _∙_, subst}
 use mathlib.Core.Logic.{⊎-elim, inl, inr}
 use mathlib.Core.List.{List, [], map}
 use lib.ListN.{length, getD}
-use lib.Seq.{sets, length-sets, ext-getD}
+use lib.Seq.{ext-getD}
 use lib.Ieee.{Float}
 use Rattle.mesh.specs.Mesh.{Side, side, Tri, tri, sidesAfter, All}
 use Rattle.mesh.proofs.Cuts.{Keyed}
-use Rattle.runs.proofs.Runs.{sets-before, sets-within}
+use Rattle.cells.specs.Region.{region}
 use Rattle.cells.proofs.Regions.{length-region, getD-region}
 use Rattle.edges.specs.Table.{loOf, hiOf, sidesIn, lower, upper, split, NumbersOf}
 use Rattle.edges.specs.Numbering.{triFrom, trisFrom, NumberedTo}
 use Rattle.edges.specs.Numbering as numbering
 use Rattle.edges.proofs.Chain.{length-pairs}
 use Rattle.edges.proofs.Numbering.{length-tris, tri-at}
+use Rattle.edges.proofs.Split.{length-map, split-length, split-before, split-lower, split-upper}
 use Rattle.hermitian.specs.Work.{Graph}
 use Rattle.boundary.specs.Work.{ListRoom}
 use Rattle.boundary.proofs.Slices.{sided-kept, numbers-kept}
@@ -29,7 +30,7 @@ use Rattle.layout.specs.Work.{floorIn, fromIn, toIn, listingAt, Edged}
 use Rattle.layout.proofs.Regions.{floor-stays}
 use Rattle.setup.specs.Setup.{woundOf, edgesOf, lowersOf, uppersOf}
 use Rattle.setup.specs.Work.{Averaged, Joined}
-use Rattle.setup.proofs.Floors.{at-all, getD-map, length-map, length-wound, length-lowers, length-uppers, turned-at, wound-good, edges-keyed}
+use Rattle.setup.proofs.Floors.{at-all, getD-map, length-wound, length-lowers, length-uppers, turned-at, wound-good, edges-keyed}
 use Rattle.setup.proofs.Slices.{points-of, triangles-of, given-at, in-range, Stays}
 
 -- ---- the ends, over lists
@@ -89,43 +90,33 @@ module _ (l : Layout) (w : List Float) (u : List ℕ) (f : Floor) (o : Ordered l
 
     -- the slice after the ends were copied
     same-length : length u₂ ≡ length u₁
-    unfolding split
-    same-length = ap length cut ∙ length-sets (sets u₁ (l .from) (map lower (sidesIn (l .table) (l .buckets) u₁ m))) (l .to) (map upper (sidesIn (l .table) (l .buckets) u₁ m)) ∙ length-sets u₁ (l .from) (map lower (sidesIn (l .table) (l .buckets) u₁ m))
+    same-length = ap length cut ∙ split-length (l .table) (l .buckets) m (l .from) (l .to) u₁
 
     before-from : (j : ℕ) → j < l .from → getD u₂ j 0 ≡ getD u₁ j 0
-    unfolding split
-    before-from j h =
-        ap (λ (v : List ℕ). getD v j 0) cut
-        ∙ sets-before (sets u₁ (l .from) (map lower (sidesIn (l .table) (l .buckets) u₁ m))) (l .to) (map upper (sidesIn (l .table) (l .buckets) u₁ m)) j 0 (omega (arith, o .from-in))
-        ∙ sets-before u₁ (l .from) (map lower (sidesIn (l .table) (l .buckets) u₁ m)) j 0 h
+    before-from j h = ap (λ (v : List ℕ). getD v j 0) cut ∙ split-before (l .table) (l .buckets) m (l .from) (l .to) u₁ j h (omega (arith, o .from-in))
 
     before-numbers : (j : ℕ) → j < l .numbers → getD u₂ j 0 ≡ getD u j 0
     before-numbers j h = before-from j (omega (arith, o .numbers-in, o .table-in)) ∙ made .elsewhere j (inl (omega (arith, o .numbers-in))) (inl h)
 
-    many : (g : Side → ℕ) → length (map g (sidesIn (l .table) (l .buckets) u₁ m)) ≡ m
-    many g = length-map g (sidesIn (l .table) (l .buckets) u₁ m) ∙ length-pairs (loOf (l .table) (l .buckets) u₁) (hiOf (l .table) (l .buckets) u₁) m
+    end : l .to + m ≤ length u₁
+    end = omega (arith, few, o .to-in, o .counts-in, o .flags-in, made .same-length)
+
+    -- m numbers that stand from b on are those of the edges
+    all-ends : (g : Side → ℕ) (b : ℕ) → ((k : ℕ) → k < m → getD u₂ (b + k) 0 ≡ getD (map g (sidesIn (l .table) (l .buckets) u₁ m)) k 0) → region 0 u₂ b m ≡ map g (edgesOf f)
+    all-ends g b h =
+        let many = length-map g (sidesIn (l .table) (l .buckets) u₁ m) ∙ length-pairs (loOf (l .table) (l .buckets) u₁) (hiOf (l .table) (l .buckets) u₁) m in
+        ext-getD 0 _ (map g (sidesIn (l .table) (l .buckets) u₁ m)) (length-region 0 u₂ b m ∙ sym many) (λ k q.
+        let c : k < m = omega (arith, length-region 0 u₂ b m) in
+        getD-region u₂ b m k 0 c ∙ h k c)
+        ∙ ap (map g) all-sides
 
     all-lower : fromIn l m u₂ ≡ lowersOf f
-    unfolding split lowersOf
-    all-lower =
-        ext-getD 0 _ (map lower (sidesIn (l .table) (l .buckets) u₁ m)) (length-region 0 u₂ (l .from) m ∙ sym (many lower)) (λ k h.
-        let b : k < m = omega (arith, length-region 0 u₂ (l .from) m) in
-        getD-region u₂ (l .from) m k 0 b
-        ∙ ap (λ (v : List ℕ). getD v (l .from + k) 0) cut
-        ∙ sets-before (sets u₁ (l .from) (map lower (sidesIn (l .table) (l .buckets) u₁ m))) (l .to) (map upper (sidesIn (l .table) (l .buckets) u₁ m)) (l .from + k) 0 (omega (arith, o .from-in, few))
-        ∙ sets-within u₁ (l .from) (map lower (sidesIn (l .table) (l .buckets) u₁ m)) k 0 (omega (arith, many lower, few, o .from-in, o .to-in, o .counts-in, o .flags-in, made .same-length)) (omega (arith, many lower)))
-        ∙ ap (map lower) all-sides
+    unfolding lowersOf
+    all-lower = all-ends lower (l .from) (λ k h. ap (λ (v : List ℕ). getD v (l .from + k) 0) cut ∙ split-lower (l .table) (l .buckets) m (l .from) (l .to) u₁ k h (omega (arith, o .from-in, few)) end)
 
     all-upper : toIn l m u₂ ≡ uppersOf f
-    unfolding split uppersOf
-    all-upper =
-        ext-getD 0 _ (map upper (sidesIn (l .table) (l .buckets) u₁ m)) (length-region 0 u₂ (l .to) m ∙ sym (many upper)) (λ k h.
-        let b : k < m = omega (arith, length-region 0 u₂ (l .to) m) in
-        getD-region u₂ (l .to) m k 0 b
-        ∙ ap (λ (v : List ℕ). getD v (l .to + k) 0) cut
-        ∙ sets-within (sets u₁ (l .from) (map lower (sidesIn (l .table) (l .buckets) u₁ m))) (l .to) (map upper (sidesIn (l .table) (l .buckets) u₁ m)) k 0
-        (omega (arith, many upper, few, o .to-in, o .counts-in, o .flags-in, made .same-length, length-sets u₁ (l .from) (map lower (sidesIn (l .table) (l .buckets) u₁ m)))) (omega (arith, many upper)))
-        ∙ ap (map upper) all-sides
+    unfolding uppersOf
+    all-upper = all-ends upper (l .to) (λ k h. ap (λ (v : List ℕ). getD v (l .to + k) 0) cut ∙ split-upper (l .table) (l .buckets) m (l .from) (l .to) u₁ k h end)
 
     pub stays : Stays l w u w u₂
     stays = record {

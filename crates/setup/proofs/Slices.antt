@@ -17,6 +17,7 @@ use Rattle.options.specs.Pass.{InRange}
 use Rattle.layout.specs.declared.Layout.{Layout}
 use Rattle.layout.specs.Layout.{Ordered}
 use Rattle.layout.specs.Work.{floorIn}
+use Rattle.layout.proofs.Regions.{floor-stays}
 use Rattle.refusal.specs.declared.Fault.{Fault}
 use Rattle.setup.specs.declared.Setup.{Setup}
 use Rattle.setup.specs.declared.Setup.the-variants.{Refused}
@@ -91,3 +92,7 @@ set-up-then {l} {w} {w₁} {w₂} {u} {u₁} {u₂} k s = record {
   words-below = λ j h. s .words-below j h ∙ k .words-below j h;
   stands = λ m e. subst (λ (f : Floor). Stands l m f w₂ u₂) (k .floor) (s .stands m e);
 }
+
+-- the floor stays
+pub set-up-floor : {l : Layout} {w w′ : List Float} {u u′ : List ℕ} {r : Setup} → Ordered l (length w) (length u) → SetUp l w u w′ u′ r → floorIn l w′ u′ ≡ floorIn l w u
+set-up-floor {l} {w} {w′} {u} {u′} o s = floor-stays l o w w′ u u′ (s .reals-below) (s .words-below)

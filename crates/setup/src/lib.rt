@@ -82,7 +82,12 @@ fn number_edges(work: &mut [f64], words: &mut [u32], l: Layout) -> Setup
         buckets: l.buckets,
     };
     let m = edges::numbers::number_triangles(words, p);
-    edges::numbers::split_ends(words, l.table, l.buckets, m, l.from, l.to);
+    let t = edges::Table {
+        base: l.table,
+        buckets: l.buckets,
+        sides: m,
+    };
+    edges::numbers::split_ends(words, t, l.from, l.to);
     take_transports(work, words, l, m)
 }
 

@@ -7,10 +7,10 @@ use Rattle.edges.proofs.find.Statement.{statement}
 use Rattle.edges.proofs.find.Tie as tie
 
 abbrev Inv-loop : tie.InvT-loop
-Inv-loop w base n m a b h at₀ at = Held base n w m × Chase n (loOf base n w) (hiOf base n w) m a b at
+Inv-loop w t a b h at₀ at = Held (t .base) (t .buckets) w (t .sides) × Chase (t .buckets) (loOf (t .base) (t .buckets) w) (hiOf (t .base) (t .buckets) w) (t .sides) a b at
 
 abbrev μ-loop : tie.MeasureT-loop
-μ-loop w base n m a b h at₀ at = at
+μ-loop w t a b h at₀ at = at
 
 slot-requires : tie.Need-slot-requires Inv-loop μ-loop
 slot-requires c κs = search needs
@@ -28,7 +28,7 @@ index-requires : tie.Need-index-requires Inv-loop μ-loop
 index-requires c κs = search needs
 
 loop-holds : tie.Need-loop-holds Inv-loop μ-loop
-loop-holds c = (c .before .before .before .before .pre, chase-start (c .before .before .before .before .pre .table) (c .before .before .slot .ensures) (c .index .ensures))
+loop-holds c = (c .before .before .before .before .before .pre, chase-start (c .before .before .before .before .before .pre .table) (c .before .before .before .slot .ensures) (c .index .ensures))
 
 add-k : tie.Need-add-k Inv-loop μ-loop
 add-k c = search needs
@@ -61,7 +61,7 @@ same-side-requires : tie.Need-same-side-requires Inv-loop μ-loop
 same-side-requires c κs = search needs
 
 returns : tie.Need-returns Inv-loop μ-loop
-returns c = chase-found (c .before .before .before .before .before .loop .inv .1) (c .before .before .before .before .loop-test .taken) (sym (c .before .same-side .ensures) ∙ c .if1 .taken)
+returns c = chase-found (c .before .before .before .before .before .before .loop .inv .1) (c .before .before .before .before .before .loop-test .taken) (sym (c .before .same-side .ensures) ∙ c .if1 .taken)
 
 add-index : tie.Need-add-index Inv-loop μ-loop
 add-index c = search needs
@@ -76,10 +76,10 @@ index-requires-2 : tie.Need-index-requires-2 Inv-loop μ-loop
 index-requires-2 c κs = search needs
 
 loop-less : tie.Need-loop-less Inv-loop μ-loop
-loop-less c = let i = c .before .before .before .before .before .before .before .loop .inv in chase-step (i .1) (c .before .before .before .before .before .before .loop-test .taken) (i .0 .table) (sym (c .before .before .before .same-side .ensures) ∙ c .before .before .if1 .left) (c .index2 .ensures) .1
+loop-less c = let i = c .before .before .before .before .before .before .before .before .loop .inv in chase-step (i .1) (c .before .before .before .before .before .before .before .loop-test .taken) (i .0 .table) (sym (c .before .before .before .same-side .ensures) ∙ c .before .before .if1 .left) (c .index2 .ensures) .1
 
 loop-again : tie.Need-loop-again Inv-loop μ-loop
-loop-again c = let i = c .before .before .before .before .before .before .before .loop .inv in (i .0, chase-step (i .1) (c .before .before .before .before .before .before .loop-test .taken) (i .0 .table) (sym (c .before .before .before .same-side .ensures) ∙ c .before .before .if1 .left) (c .index2 .ensures) .0)
+loop-again c = let i = c .before .before .before .before .before .before .before .before .loop .inv in (i .0, chase-step (i .1) (c .before .before .before .before .before .before .before .loop-test .taken) (i .0 .table) (sym (c .before .before .before .same-side .ensures) ∙ c .before .before .if1 .left) (c .index2 .ensures) .0)
 
 returns-2 : tie.Need-returns-2 Inv-loop μ-loop
 returns-2 c = chase-none (c .before .loop .inv .1) (c .loop-test .left)

@@ -4,24 +4,24 @@ use Rattle.edges.proofs.Stored.{met-key, met-key′}
 use Rattle.edges.proofs.meet_side.Statement.{statement}
 use Rattle.edges.proofs.meet_side.Tie as tie
 
-meet-requires : tie.Need-meet-requires
-meet-requires c κs = search needs
+find-or-insert-requires : tie.Need-find-or-insert-requires
+find-or-insert-requires c κs = search needs
 
 same-length : tie.Need-same-length
 same-length c = search needs
 
 returns : tie.Need-returns
-returns c = met-key _ _ (c .before .before .before .before .if1 .taken) (c .before .before .meet .ensures)
+returns c = met-key _ _ (c .before .before .before .before .if1 .taken) (c .before .before .find-or-insert .ensures)
 
-meet-requires-2 : tie.Need-meet-requires-2
-meet-requires-2 c κs = search needs
+find-or-insert-requires-2 : tie.Need-find-or-insert-requires-2
+find-or-insert-requires-2 c κs = search needs
 
 same-length-2 : tie.Need-same-length-2
 same-length-2 c = search needs
 
 returns-2 : tie.Need-returns-2
-returns-2 c = met-key′ _ _ (c .before .before .before .before .if1 .left) (c .before .before .meet2 .ensures)
+returns-2 c = met-key′ _ _ (c .before .before .before .before .if1 .left) (c .before .before .find-or-insert2 .ensures)
 
 pub meet-side-spec : {M : Type 1} → statement M
 meet-side-spec =
-    tie.close (tie.spec meet-requires same-length returns meet-requires-2 same-length-2 returns-2)
+    tie.close (tie.spec find-or-insert-requires same-length returns find-or-insert-requires-2 same-length-2 returns-2)

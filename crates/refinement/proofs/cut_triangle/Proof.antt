@@ -44,8 +44,8 @@ is-flagged-requires c κs = search needs
 meet-triangle-requires : tie.Need-meet-triangle-requires
 meet-triangle-requires c κs = search needs
 
-add-t23 : tie.Need-add-t23
-add-t23 c = search needs
+add-t24 : tie.Need-add-t24
+add-t24 c = search needs
 
 same-length : tie.Need-same-length
 same-length c = search needs
@@ -73,7 +73,7 @@ cut-triangle-spec =
     shared-slice-read-c
     is-flagged-requires
     meet-triangle-requires
-    add-t23
+    add-t24
     same-length
     returns
     returns-2)

@@ -23,7 +23,7 @@ same-length : tie.Need-same-length
 same-length c = search needs
 
 returns : tie.Need-returns
-returns c = split-done _ _ _ _ _ _ (c .before .before .before .before .before .before .before .before .before .pre .0) (c .before .before .before .before .before .before .copy-thirds .ensures) (c .before .before .copy-thirds2 .ensures)
+returns c = split-done _ _ _ _ _ _ (c .before .before .before .before .before .before .before .before .before .before .before .pre .0) (c .before .before .before .before .before .before .before .copy-thirds .ensures) (c .before .before .copy-thirds2 .ensures)
 
 pub split-ends-spec : {M : Type 1} → statement M
 split-ends-spec =

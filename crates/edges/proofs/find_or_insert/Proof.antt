@@ -1,17 +1,17 @@
--- `edges::meet` meets its contract: each return opens the definition and rewrites it by the tests and the calls on its way; the laws are in proofs/Stored.
+-- `edges::find_or_insert` meets its contract: each return opens the definition and rewrites it by the tests and the calls on its way; the laws are in proofs/Stored.
 use borrow.Author.Needs.{needs}
 use mathlib.Core.Path.{refl, sym, _∙_}
 use native.Mathlib.Omega.{arith}
 use lib.ListN.{length-set}
 use Rattle.edges.proofs.Stored.{met-found, met-added}
-use Rattle.edges.proofs.meet.Statement.{statement}
-use Rattle.edges.proofs.meet.Tie as tie
+use Rattle.edges.proofs.find_or_insert.Statement.{statement}
+use Rattle.edges.proofs.find_or_insert.Tie as tie
 
 find-requires : tie.Need-find-requires
 find-requires c κs = search needs
 
-sub-t14 : tie.Need-sub-t14
-sub-t14 c = search needs
+sub-t13 : tie.Need-sub-t13
+sub-t13 c = search needs
 
 same-length : tie.Need-same-length
 same-length c = search needs
@@ -76,21 +76,21 @@ mul-w-4 c = search needs
 slice-write-w-4 : tie.Need-slice-write-w-4
 slice-write-w-4 c = simp length-set (omega arith)
 
-add-t18 : tie.Need-add-t18
-add-t18 c = search needs
+add-t17 : tie.Need-add-t17
+add-t17 c = search needs
 
 same-length-2 : tie.Need-same-length-2
 same-length-2 c = search needs
 
 returns-2 : tie.Need-returns-2
-returns-2 c = met-added _ _ (c .before .before .before .before .before .before .pre .0) (sym (c .before .before .before .find .ensures) ∙ c .before .before .if1 .left) (c .before .before .before .before .before .before .pre .1 .0) (c .before .slot .ensures) refl
+returns-2 c = met-added _ _ (c .before .before .before .before .before .before .before .before .pre .0) (sym (c .before .before .before .before .before .find .ensures) ∙ c .before .before .before .before .if1 .left) (c .before .before .before .before .before .before .before .before .pre .1 .0) (c .before .before .before .slot .ensures) refl
 
-pub meet-spec : {M : Type 1} → statement M
-meet-spec =
+pub find-or-insert-spec : {M : Type 1} → statement M
+find-or-insert-spec =
     tie.close
     (tie.spec
     find-requires
-    sub-t14
+    sub-t13
     same-length
     returns
     slot-requires
@@ -112,6 +112,6 @@ meet-spec =
     cast-w
     mul-w-4
     slice-write-w-4
-    add-t18
+    add-t17
     same-length-2
     returns-2)
