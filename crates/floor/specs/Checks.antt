@@ -1,11 +1,11 @@
 -- Rows 1 and 3 to 8 of document 01's table, as they are tested: what is wrong with a floor, and where first. Definitions only.
 use Prim.Native.Nat.{ℕ, zero, suc, _+_, _*_, _/_, _%_}
-use mathlib.Core.Bool.{Bool, true, false, not, cond, _&&_, _||_}
+use mathlib.Core.Bool.{Bool, not, cond, _&&_, _||_}
 use mathlib.Core.List.{List}
 use lib.Dec.{eqb, ltb, leb}
 use lib.ListN.{length, getD}
-use lib.Ieee.{Float, nan, le}
-use Rattle.float.specs.Double.{lit, isFinite}
+use lib.Ieee.{Float, nan}
+use Rattle.float.specs.Double.{isFinite, notPositive}
 use Rattle.areas.specs.Points.{xOf, yOf}
 use Rattle.floor.specs.declared.Refusal.{Refusal}
 use Rattle.floor.specs.declared.Check.{Check}
@@ -33,7 +33,7 @@ badPoint points i = not (isFinite (xOf points i)) || not (isFinite (yOf points i
 
 -- row 7
 unfoldable pub badSize : List Float → ℕ → Bool
-badSize sizes i = not (isFinite (getD sizes i nan)) || le (getD sizes i nan) (lit 0)
+badSize sizes i = notPositive (getD sizes i nan)
 
 -- row 8, with n points
 unfoldable pub badCorner : List ℕ → ℕ → ℕ → Bool

@@ -50,8 +50,7 @@ fn bad_point(points: &[f64], i: usize) -> bool
 fn bad_size(sizes: &[f64], i: usize) -> bool
     ensures { λ r. ⌜ r ≡ badSize (now (sizes .entry)) i ⌝ }
 {
-    let size = read(sizes, i);
-    !float::is_finite(size) || size <= 0.0
+    float::not_positive(read(sizes, i))
 }
 
 fn bad_corner(triangles: &[u32], n: usize, i: usize) -> bool
