@@ -1,5 +1,5 @@
 -- How a branch ends: the vector that a solve found becomes the angles, or what it refuses by is passed up. Assumes nothing.
-use mathlib.Core.Path.{_≡_, refl, sym, ap, subst, _∙_}
+use mathlib.Core.Path.{_≡_, refl, ap, _∙_}
 use mathlib.Core.List.{List}
 use Prim.Native.Nat.{ℕ, _+_, _*_, _≤_, _<_}
 use native.Mathlib.Omega.{arith}
@@ -9,33 +9,26 @@ use Rattle.complex.specs.declared.Complex.{Complex}
 use Rattle.cells.specs.Region.{region, put}
 use Rattle.cells.specs.Cell.{regionC}
 use Rattle.cells.proofs.Loops.{apart}
-use Rattle.cells.proofs.Regions.{getD-region, length-put, region-put, region-else}
+use Rattle.cells.proofs.Regions.{length-put, region-put, region-else}
+use Rattle.cells.proofs.Changes.{region-one}
 use Rattle.cells.proofs.Cells.{length-regionC}
 use Rattle.hermitian.specs.declared.Hermitian.{Hermitian}
 use Rattle.conjugate_gradient.specs.declared.Plan.{Plan}
 use Rattle.conjugate_gradient.specs.Work.{VectorRoom, Room}
 use Rattle.refusal.specs.declared.Stage.{Stage}
-use Rattle.refusal.specs.declared.Stage.the-variants.{Done, Refused}
-use Rattle.options.specs.Pass.{Passed, field, stageOf}
-use Rattle.solution.specs.Solution.{Found, vector, gave, linearMost}
+use Rattle.refusal.specs.declared.Stage.the-variants.{Done}
+use Rattle.options.specs.Pass.{field, stageOf}
+use Rattle.conjugate_gradient.specs.Found.{Found, vector, gave}
+use Rattle.solution.specs.Solution.{linearMost}
 use Rattle.solution.specs.Work as solution
-use Rattle.solution.proofs.Chains.{framed-length, found-at}
+use Rattle.solution.proofs.Chains.{framed-length, framed-below, found-at}
 use Rattle.field.specs.Field.{Angles, angles, endless, fieldOf, written, Fields}
 use Rattle.field.specs.Field as fields
 use Rattle.field.proofs.Angles.{field-cross}
 use Rattle.soft.specs.Soft.{System}
-use Rattle.soft.specs.Work.{systemIn}
-use Rattle.soft.proofs.Systems.{framed-below}
 use Rattle.systems.specs.Work.{Makes}
 use Rattle.branches.specs.Branches.{afterAngles, afterVector, linear}
 use Rattle.branches.specs.Work.{Leaves, LeavesLinear}
-
--- one element of a region
-pub region-one : {A : Type 0} (d : A) (w w₁ : List A) (j : ℕ) → region d w₁ j 1 ≡ region d w j 1 → getD w₁ j d ≡ getD w j d
-region-one d w w₁ j e =
-    let z : j + 0 ≡ j = omega arith in
-    let k : 0 < 1 = omega arith in
-    subst (λ (i : ℕ). getD w₁ i d ≡ getD w i d) z (sym (getD-region w₁ j 1 0 d k) ∙ ap (λ v. getD v 0 d) e ∙ getD-region w j 1 0 d k)
 
 -- ---- answers
 

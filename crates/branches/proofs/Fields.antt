@@ -11,19 +11,20 @@ use Rattle.complex.specs.declared.Complex.{Complex}
 use Rattle.complex.specs.Complex.{czero}
 use Rattle.complex.specs.Angle.{IsCross}
 use Rattle.cells.proofs.Loops.{length-tab}
-use Rattle.hermitian.specs.Hermitian.{Matrix, applied}
+use Rattle.hermitian.specs.Hermitian.{Matrix}
 use Rattle.vectors.proofs.Zip.{length-zipOf}
 use Rattle.boundary.proofs.Points.{length-targets}
-use Rattle.constraints.specs.Constraints.{boundaryData, blanked, addedInside, coupled, penalties}
+use Rattle.constraints.specs.Constraints.{addedInside, coupled, penalties}
 use Rattle.soft.specs.Soft.{Term, System, softenedBy, softened}
 use Rattle.systems.specs.Systems.{plain, softSystem, penalty, weakSystem, insideBy, inside, fixedBy, tangentSystem}
-use Rattle.solution.specs.Solution.{Found, vector, gave, solutionOf, linearMost}
+use Rattle.conjugate_gradient.specs.Found.{Found, vector, gave}
+use Rattle.solution.specs.Solution.{solutionOf, linearMost}
 use Rattle.solution.proofs.Lengths.{Long, solution-long}
-use Rattle.start.specs.Start.{boundsOf, rampOf, rampedBy, startOf}
+use Rattle.start.specs.Start.{rampedBy, startOf}
 use Rattle.inverse_iteration.specs.Inverse.{inverseOf}
 use Rattle.inverse_iteration.proofs.Lengths.{inverse-long}
 use Rattle.field.specs.Field.{Angles, angles, endless, fieldOf}
-use Rattle.field.proofs.Angles.{IsField, field-cross}
+use Rattle.field.proofs.Angles.{field-cross}
 use Rattle.floor.specs.Floor.{Floor, pointsOf, valueAt}
 use Rattle.refusal.specs.declared.Fault.{Fault}
 use Rattle.refusal.specs.Refusal.{row}

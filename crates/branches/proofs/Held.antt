@@ -7,25 +7,25 @@ use Prim.Native.Nat.{ℕ, _+_, _*_, _≤_, _<_}
 use native.Mathlib.Omega.{arith}
 use borrow.Author.Tests.{eq-eqb, ne-eqb}
 use lib.Dec.{eqb}
-use lib.Ieee.{Float, nan, lt}
+use lib.Ieee.{Float, nan}
 use lib.ListN.{length, getD}
-use Rattle.float.specs.Double.{lit}
 use Rattle.complex.specs.declared.Complex.{Complex}
 use Rattle.cells.specs.Region.{region, put}
 use Rattle.cells.specs.Cell.{regionC, putC}
 use Rattle.cells.proofs.Loops.{apart}
 use Rattle.cells.proofs.Regions.{length-region, length-put, region-else}
+use Rattle.cells.proofs.Changes.{region-one}
 use Rattle.cells.proofs.Cells.{length-putC, regionC-same, regionR-else}
 use Rattle.edges.specs.Numbering.{trisFrom}
 use Rattle.hermitian.specs.Work.{matrix}
-use Rattle.floor.specs.Floor.{Floor, pointsOf, valueAt}
+use Rattle.floor.specs.Floor.{valueAt}
 use Rattle.boundary.specs.declared.Planes.{Planes}
 use Rattle.boundary.specs.Boundary.{boundarySides, targetsOf, flagsOf, firstsOf}
 use Rattle.boundary.specs.Work.{ListRoom, PlaneRoom, Bounded, countsOf, tableOf}
 use Rattle.boundary.proofs.Slices.{sided-kept, numbers-kept}
-use Rattle.boundary.proofs.Points.{length-flags, length-targets, target-off}
+use Rattle.boundary.proofs.Points.{length-targets, target-off}
 use Rattle.boundary.proofs.After.{targets-after, flags-after}
-use Rattle.constraints.specs.Constraints.{on, boundaryData}
+use Rattle.constraints.specs.Constraints.{on}
 use Rattle.constraints.proofs.Systems.{boundary-data}
 use Rattle.refusal.specs.declared.Stage.{Stage}
 use Rattle.refusal.specs.declared.Stage.the-variants.{Refused}
@@ -33,20 +33,18 @@ use Rattle.refusal.specs.Refusal.{row}
 use Rattle.soft.specs.Soft.{Term, termOf, guidedTargets, alignedTargets}
 use Rattle.soft.specs.Work.{termsIn}
 use Rattle.inverse_iteration.specs.Work.{startIn}
-use Rattle.soft.proofs.Systems.{matrix-putC}
 use Rattle.options.specs.declared.Options.{Options}
 use Rattle.options.specs.declared.BoundaryMode.{BoundaryMode}
 use Rattle.options.specs.declared.BoundaryMode.the-variants.{None, Tangent, Weak}
-use Rattle.options.specs.Options.{Guidance, guidanceOf}
-use Rattle.options.specs.Pass.{Passed, field, faulty, stageOf}
+use Rattle.options.specs.Options.{guidanceOf}
+use Rattle.options.specs.Pass.{Passed, field, faulty}
 use Rattle.layout.specs.declared.Layout.{Layout}
 use Rattle.layout.specs.Layout.{Ordered}
-use Rattle.layout.specs.Matrices.{massAt, energyAt, vectorsAt}
+use Rattle.layout.specs.Matrices.{massAt, energyAt}
 use Rattle.layout.specs.Work.{floorIn, guidanceIn, fromIn, toIn, listingAt, Edged}
 use Rattle.branches.specs.declared.Search.{Search}
 use Rattle.branches.specs.Branches.{Built, guidedTerm, softTerms, acts, flagsIn, targetsIn, byMode, unbounded, branchOf}
 use Rattle.branches.specs.Work.{builtIn, soughtIn, Finds, Leaves, termsAt, outerAt, flagsAt, Bounds, LeavesAt}
-use Rattle.branches.proofs.Ends.{region-one}
 
 -- ---- the terms
 

@@ -4,10 +4,8 @@ use mathlib.Core.Bool.{Bool, true, false, not, cond, _&&_}
 use mathlib.Core.List.{List, [], _∷_, _++_}
 use Prim.Native.Nat.{ℕ, _+_, _≤_}
 use native.Mathlib.Omega.{arith}
-use lib.Ieee.{Float, nan, lt}
-use lib.ListN.{length}
+use lib.Ieee.{Float, lt}
 use Rattle.float.specs.Double.{lit}
-use Rattle.cells.specs.Region.{region}
 use Rattle.hermitian.specs.declared.Hermitian.{Hermitian}
 use Rattle.conjugate_gradient.specs.declared.Plan.{Plan}
 use Rattle.conjugate_gradient.specs.Work.{Room}
@@ -15,7 +13,7 @@ use Rattle.inverse_iteration.specs.declared.Outer.{Outer}
 use Rattle.inverse_iteration.specs.Work.{PencilRoom, PlaneRoom}
 use Rattle.refusal.specs.declared.Stage.{Stage}
 use Rattle.soft.specs.declared.Terms.{Terms}
-use Rattle.soft.specs.Soft.{Term, System, termOf, guidedTargets, alignedTargets}
+use Rattle.soft.specs.Soft.{Term, System, termOf}
 use Rattle.soft.specs.Work.{termsIn}
 use Rattle.systems.specs.Work.{Makes}
 use Rattle.options.specs.declared.BoundaryMode.{BoundaryMode}

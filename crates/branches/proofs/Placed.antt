@@ -1,6 +1,6 @@
 -- The branches at a layout: what they require there follows from the order of its regions, and the parts of the u32 work are its flags and the ends of
 -- its edges. Assumes nothing.
-use mathlib.Core.Path.{_≡_, sym, ap, _∙_}
+use mathlib.Core.Path.{_≡_, ap, _∙_}
 use mathlib.Core.List.{List}
 use Prim.Native.Nat.{ℕ, _+_, _-_, _*_, _≤_}
 use native.Mathlib.Omega.{arith}
@@ -10,9 +10,8 @@ use Rattle.cells.specs.Region.{region}
 use Rattle.cells.specs.Cell.{regionC}
 use Rattle.cells.proofs.Loops.{apart}
 use Rattle.cells.proofs.Regions.{length-region}
-use Rattle.boundary.proofs.After.{part-region}
+use Rattle.cells.proofs.Changes.{part-region}
 use Rattle.hermitian.specs.declared.Hermitian.{Hermitian}
-use Rattle.hermitian.specs.Work.{Graph}
 use Rattle.conjugate_gradient.specs.declared.Plan.{Plan}
 use Rattle.constraints.specs.Constraints.{boundaryData}
 use Rattle.inverse_iteration.specs.Work.{Graphs}

@@ -13,7 +13,8 @@ use Rattle.geometry.specs.Edge.{alignmentWeight}
 use Rattle.boundary.specs.Boundary.{boundarySides, targetsOf, flagsOf}
 use Rattle.soft.specs.Soft.{Term, System, termOf, guidedTargets, alignedTargets}
 use Rattle.systems.specs.Systems.{softSystem, weakSystem, tangentSystem}
-use Rattle.solution.specs.Solution.{Found, vector, gave, solutionOf, linearMost}
+use Rattle.conjugate_gradient.specs.Found.{Found, vector, gave}
+use Rattle.solution.specs.Solution.{solutionOf, linearMost}
 use Rattle.start.specs.Start.{startOf}
 use Rattle.inverse_iteration.specs.Inverse.{inverseOf}
 use Rattle.field.specs.Field.{Angles, angles, endless, fieldOf}

@@ -5,3 +5,5 @@ pub mod Cells
 pub mod Over
 pub mod Rows
 pub mod Writes
+pub mod Each
+pub mod Changes

@@ -1,6 +1,6 @@
 -- The work slice as five vectors over a matrix: one read, one written, all of them. Assumes nothing.
-use mathlib.Core.Path.{_≡_, refl, sym, ap, _∙_}
-use mathlib.Core.List.{List, [], _∷_}
+use mathlib.Core.Path.{_≡_, sym, _∙_}
+use mathlib.Core.List.{List, []}
 use Prim.Native.Nat.{ℕ, _+_, _*_, _≤_, _<_}
 use native.Mathlib.Omega.{arith}
 use lib.Ieee.{Float, nan}
@@ -8,12 +8,11 @@ use lib.ListN.{length, getD, set}
 use Rattle.complex.specs.declared.Complex.{Complex}
 use Rattle.cells.specs.Region.{region, put}
 use Rattle.cells.specs.Cell.{flat, regionC, putC}
-use Rattle.cells.specs.Rows.{Row, row, rows, laid, Ranged, Rowed}
+use Rattle.cells.specs.Rows.{row, rows, laid, Rowed}
 use Rattle.cells.proofs.Regions.{length-region}
 use Rattle.cells.proofs.Cells.{length-flat, length-regionC, flat-regionC, regionC-flat, regionC-same}
 use Rattle.cells.proofs.Rows.{laid-rows, laid-below, laid-at, laid-set, laid-laid, length-laid}
 use Rattle.hermitian.specs.declared.Hermitian.{Hermitian}
-use Rattle.hermitian.specs.Hermitian.{Matrix}
 use Rattle.hermitian.specs.Work.{matrix}
 use Rattle.conjugate_gradient.specs.declared.Plan.{Plan}
 use Rattle.conjugate_gradient.specs.Solve.{State}
@@ -100,6 +99,12 @@ module _ (w : List Float) (n : ℕ) (l : Plan) (ok : VectorRoom (length w) n l) 
   unfolding lay
   put-inverse v h = store 4 (omega arith) v h
 
+  -- ---- what lies below the vectors
+
+  pub get-below : (c m : ℕ) → c + m ≤ l .x → region nan (lay w n l s) c m ≡ region nan w c m
+  unfolding lay
+  get-below = laid-below nan w (l .x) (length w) (bases n l) (vectors s) (ok .vectors-in) (rowed n l s z)
+
   -- ---- all of them
 
   pub get-all : read (lay w n l s) n l ≡ s
@@ -115,11 +120,10 @@ module _ (w : List Float) (n : ℕ) (l : Plan) (ok : VectorRoom (length w) n l) 
 -- the matrix lies below
 pub get-matrix : (w : List Float) (h : Hermitian) (l : Plan) → Room (length w) h l → (s : State) → Sized (h .size) s → (from to : List ℕ)
     → matrix (lay w (h .size) l s) h from to ≡ matrix w h from to
-unfolding lay matrix
+unfolding matrix
 get-matrix w h l ok s z from to =
     let n : ℕ = h .size in
-    let below : (c m : ℕ) → c + m ≤ l .x → region nan (lay w n l s) c m ≡ region nan w c m =
-    laid-below nan w (l .x) (length w) (bases n l) (vectors s) (ok .vector-room .vectors-in) (rowed n l s z) in
+    let below = get-below w n l (ok .vector-room) s z in
     let d : region nan (lay w n l s) (h .diagonal) n ≡ region nan w (h .diagonal) n = below (h .diagonal) n (ok .diagonal-below) in
     let o : regionC (lay w n l s) (h .off) (h .edges) ≡ regionC w (h .off) (h .edges) =
     regionC-same (lay w n l s) w (h .off) (h .edges) (below (h .off) (2 * h .edges) (ok .off-below)) in

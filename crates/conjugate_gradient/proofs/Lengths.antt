@@ -4,12 +4,12 @@ use mathlib.Core.Bool.{Bool, true, false, cond}
 use Prim.Native.Nat.{ℕ, zero, suc}
 use lib.Ieee.{Float, le}
 use lib.ListN.{length}
-use Rattle.float.specs.Double.{_⊘_}
+use Rattle.float.specs.Double.{notPositive, _⊘_}
 use Rattle.hermitian.specs.Hermitian.{Matrix, normOf}
 use Rattle.vectors.proofs.Zip.{length-zipOf}
 use Rattle.conjugate_gradient.specs.declared.Turned.{Turned}
 use Rattle.conjugate_gradient.specs.declared.Turned.the-variants.{Going, Converged, Broken}
-use Rattle.conjugate_gradient.specs.Solve.{State, Turn, Outcome, unfit, residualDot, multiplied, denominator, reduced, advanced, directed, judged, stepped, turned, after, run}
+use Rattle.conjugate_gradient.specs.Solve.{State, Turn, Outcome, residualDot, multiplied, denominator, reduced, advanced, directed, judged, stepped, turned, after, run}
 
 picked : (n : ℕ) (b : Bool) (t u : Turn) → length (t .state .x) ≡ n → length (u .state .x) ≡ n → length (cond b t u .state .x) ≡ n
 picked n true t u y z = y
@@ -22,7 +22,7 @@ turned-x m limit dot s =
     let a : Float = dot ⊘ denominator t in
     let u : State = advanced a (reduced a t) in
     let e : length (u .x) ≡ length (s .x) = length-zipOf _ (s .x) (s .p) in
-    picked (length (s .x)) (unfit (denominator t)) _ _ refl (picked (length (s .x)) (le (normOf (u .r)) limit) _ _ e (picked (length (s .x)) (unfit (residualDot u)) _ _ e e))
+    picked (length (s .x)) (notPositive (denominator t)) _ _ refl (picked (length (s .x)) (le (normOf (u .r)) limit) _ _ e (picked (length (s .x)) (notPositive (residualDot u)) _ _ e e))
 
 after-x : (n : ℕ) (t : Turned) (s : State) (count : ℕ) (f : Float → State → Outcome) → length (s .x) ≡ n → ((dot : Float) (s : State) → length (f dot s .state .x) ≡ length (s .x))
     → length (after t s count f .state .x) ≡ n

@@ -5,3 +5,4 @@ pub mod Turns
 pub mod Runs
 pub mod Mass
 pub mod Lengths
+pub mod Fresh

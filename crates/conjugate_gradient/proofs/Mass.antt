@@ -1,27 +1,27 @@
 -- `normalize_in_mass`. Assumes nothing.
-use mathlib.Core.Path.{_≡_, refl, sym, ap, _∙_}
+use mathlib.Core.Path.{_≡_, sym, ap, _∙_}
 use mathlib.Core.Bool.{Bool, true, false}
 use mathlib.Core.List.{List}
 use Prim.Native.Nat.{ℕ}
 use lib.Ieee.{Float}
 use lib.ListN.{length}
-use Rattle.float.specs.Double.{recipOf}
+use Rattle.float.specs.Double.{recipOf, notPositive}
 use Rattle.root.specs.Root.{rootOf}
 use Rattle.complex.specs.declared.Complex.{Complex}
 use Rattle.cells.specs.Cell.{regionC, putC}
 use Rattle.cells.proofs.Cells.{putC-regionC, length-regionC, regionC-else, regionC-putC}
 use Rattle.hermitian.specs.declared.Hermitian.{Hermitian}
 use Rattle.hermitian.specs.Hermitian.{Matrix, dotOf, applied}
-use Rattle.hermitian.specs.Work.{matrix, ApplyRoom}
+use Rattle.hermitian.specs.Work.{ApplyRoom}
 use Rattle.hermitian.proofs.Product.{length-applied}
 use Rattle.vectors.specs.Vectors.{scaledBy}
 use Rattle.conjugate_gradient.specs.declared.Normalized.the-variants as normalized
 use Rattle.conjugate_gradient.specs.declared.Reason.the-variants.{MassOfIterate}
-use Rattle.conjugate_gradient.specs.Solve.{unfit, massOf, normalizedAnswer, normalizedVector}
+use Rattle.conjugate_gradient.specs.Solve.{massOf, normalizedAnswer, normalizedVector}
 use Rattle.conjugate_gradient.specs.Work.{InMass}
 
 module _ (w : List Float) (x y : ℕ) (h : Hermitian) (m : Matrix) (ok : ApplyRoom (length w) h x y) {w₁ : List Float}
-    (e₁ : w₁ ≡ putC w y (applied m (regionC w x (h .size)))) {d : Float} (ed : d ≡ dotOf (regionC w₁ x (h .size)) (regionC w₁ y (h .size)) .re) {b : Bool} (eb : b ≡ unfit d) where
+    (e₁ : w₁ ≡ putC w y (applied m (regionC w x (h .size)))) {d : Float} (ed : d ≡ dotOf (regionC w₁ x (h .size)) (regionC w₁ y (h .size)) .re) {b : Bool} (eb : b ≡ notPositive d) where
   abbrev n : ℕ
   n = h .size
 
@@ -38,13 +38,13 @@ module _ (w : List Float) (x y : ℕ) (h : Hermitian) (m : Matrix) (ok : ApplyRo
   unfolding massOf
   squared-is = ed ∙ rw (x-stays, e₁, regionC-putC w y v length-v (ok .edges-room .y-in))
 
-  mass-unfit : unfit (massOf m (regionC w x n)) ≡ b
-  mass-unfit = ap (λ t. unfit t) (sym squared-is) ∙ sym eb
+  mass-not-positive : notPositive (massOf m (regionC w x n)) ≡ b
+  mass-not-positive = ap (λ t. notPositive t) (sym squared-is) ∙ sym eb
 
   pub normalize-not : b ≡ true → InMass w w₁ x y (h .size) m (normalized.GaveUp MassOfIterate)
   unfolding normalizedAnswer normalizedVector
   normalize-not t =
-      let q : unfit (massOf m (regionC w x n)) ≡ true = mass-unfit ∙ t in
+      let q : notPositive (massOf m (regionC w x n)) ≡ true = mass-not-positive ∙ t in
       record {
         work = rw q (sym (ap (λ u. putC (putC w y v) x u) (sym x-stays ∙ ap (λ t. regionC t x n) e₁) ∙ putC-regionC (putC w y v) x n ∙ sym e₁));
         result = rw q;
@@ -54,6 +54,6 @@ module _ (w : List Float) (x y : ℕ) (h : Hermitian) (m : Matrix) (ok : ApplyRo
       → InMass w w₂ x y (h .size) m normalized.Done
   unfolding normalizedAnswer normalizedVector
   normalize-done t {r} {k} er ek e₂ =
-      let q : unfit (massOf m (regionC w x n)) ≡ false = mass-unfit ∙ t in
+      let q : notPositive (massOf m (regionC w x n)) ≡ false = mass-not-positive ∙ t in
       let kk : k ≡ recipOf (rootOf (massOf m (regionC w x n))) = ek ∙ ap (λ u. recipOf u) (er ∙ ap rootOf squared-is) in
       record { work = e₂ ∙ rw (x-stays, e₁, kk, q); result = rw q }

@@ -1,15 +1,15 @@
 -- The loop of turns, and the whole method. Assumes nothing.
 use mathlib.Core.Path.{_≡_, refl, sym, ap, _∙_}
-use mathlib.Core.Bool.{Bool, true, false, cond}
+use mathlib.Core.Bool.{Bool, true, false}
 use mathlib.Core.List.{List}
-use Prim.Native.Nat.{ℕ, zero, suc, _+_, _-_, _*_, _≤_, _<_}
+use Prim.Native.Nat.{ℕ, zero, suc, _+_, _-_, _≤_, _<_}
 use native.Mathlib.Numerals.{add-one}
 use native.Mathlib.Omega.{arith}
 use borrow.Author.Tests.{lt-ltb, le-ltb}
 use lib.Dec.{ltb}
 use lib.Ieee.{Float, nan}
 use lib.ListN.{length}
-use Rattle.float.specs.Double.{_⊗_}
+use Rattle.float.specs.Double.{notPositive, _⊗_}
 use Rattle.cells.specs.Region.{region}
 use Rattle.cells.specs.Cell.{regionC}
 use Rattle.cells.proofs.Regions.{length-region}
@@ -21,10 +21,10 @@ use Rattle.conjugate_gradient.specs.declared.Turned.{Turned}
 use Rattle.conjugate_gradient.specs.declared.Turned.the-variants.{Going, Converged, Broken}
 use Rattle.conjugate_gradient.specs.declared.Reason.the-variants.{RightHandNorm, Diagonal, FirstResidual, CountSpent}
 use Rattle.conjugate_gradient.specs.declared.Answer.{Answer}
-use Rattle.conjugate_gradient.specs.declared.Answer.the-variants.{Iterate, GaveUp}
-use Rattle.conjugate_gradient.specs.Solve.{State, Outcome, unfit, firstUnfit, begun, residualDot, turned, answerOf, after, run, started, solved}
-use Rattle.conjugate_gradient.specs.Work.{read, lay, VectorRoom, Room, Begun, Ended, Solved}
-use Rattle.conjugate_gradient.proofs.Lays.{Sized, read-sized, lay-read, get-all, get-matrix, lay-then, length-lay}
+use Rattle.conjugate_gradient.specs.declared.Answer.the-variants.{GaveUp}
+use Rattle.conjugate_gradient.specs.Solve.{State, Outcome, firstNotPositive, begun, residualDot, turned, answerOf, after, run, started, solved}
+use Rattle.conjugate_gradient.specs.Work.{read, lay, Room, Begun, Ended, Solved}
+use Rattle.conjugate_gradient.proofs.Lays.{Sized, read-sized, lay-read, get-all, get-matrix, lay-then}
 use Rattle.conjugate_gradient.proofs.Turns.{begun-sized, turned-sized}
 
 -- ---- the loop
@@ -138,22 +138,22 @@ run-sized n m limit (suc k) i dot s z =
     after-sized n _ _ (suc i) (run m limit k (suc i)) (turned-sized n m limit dot s z) (λ d t y. run-sized n m limit k (suc i) d t y)
 
 module _ (w : List Float) (h : Hermitian) (l : Plan) (from to : List ℕ) (tolerance : Float) (most : ℕ)
-    {nm : Float} (en : nm ≡ normOf (regionC w (l .residual) (h .size))) {b : Bool} (eb : b ≡ unfit nm) where
+    {nm : Float} (en : nm ≡ normOf (regionC w (l .residual) (h .size))) {b : Bool} (eb : b ≡ notPositive nm) where
   abbrev pub answer : Outcome
   answer = solved (matrix w h from to) tolerance most (read w (h .size) l)
 
-  norm-unfit : unfit (normOf (regionC w (l .residual) (h .size))) ≡ b
-  norm-unfit = ap (λ x. unfit x) (sym en) ∙ sym eb
+  norm-not-positive : notPositive (normOf (regionC w (l .residual) (h .size))) ≡ b
+  norm-not-positive = ap (λ x. notPositive x) (sym en) ∙ sym eb
 
   pub solve-norm : b ≡ true → Solved w w (h .size) l answer (GaveUp RightHandNorm)
   unfolding solved read
   solve-norm t =
-      let q : unfit (normOf (regionC w (l .residual) (h .size))) ≡ true = norm-unfit ∙ t in
+      let q : notPositive (normOf (regionC w (l .residual) (h .size))) ≡ true = norm-not-positive ∙ t in
       rw q (record { work = lay-read w (h .size) l; result = refl })
 
-  module _ (t : b ≡ false) {v : ℕ} (ev : v ≡ firstUnfit (region nan w (h .diagonal) (h .size))) where
-    fit : unfit (normOf (regionC w (l .residual) (h .size))) ≡ false
-    fit = norm-unfit ∙ t
+  module _ (t : b ≡ false) {v : ℕ} (ev : v ≡ firstNotPositive (region nan w (h .diagonal) (h .size))) where
+    fit : notPositive (normOf (regionC w (l .residual) (h .size))) ≡ false
+    fit = norm-not-positive ∙ t
 
     length-diagonal : length (region nan w (h .diagonal) (h .size)) ≡ h .size
     length-diagonal = length-region nan w (h .diagonal) (h .size)
@@ -162,10 +162,10 @@ module _ (w : List Float) (h : Hermitian) (l : Plan) (from to : List ℕ) (toler
     unfolding solved read matrix
     solve-diagonal less =
         let d : List Float = region nan w (h .diagonal) (h .size) in
-        let q : ltb (firstUnfit d) (length d) ≡ true = lt-ltb (firstUnfit d) (length d) (rw (← ev, length-diagonal) less) in
+        let q : ltb (firstNotPositive d) (length d) ≡ true = lt-ltb (firstNotPositive d) (length d) (rw (← ev, length-diagonal) less) in
         rw (fit, q) (record { work = lay-read w (h .size) l; result = ap (λ i. GaveUp (Diagonal i)) ev })
 
-    module _ (ok : Room (length w) h l) (g : h .size ≤ v) {w₁ : List Float} {f : Float} (s : Begun w w₁ h l f) {c : Bool} (ec : c ≡ unfit f) where
+    module _ (ok : Room (length w) h l) (g : h .size ≤ v) {w₁ : List Float} {f : Float} (s : Begun w w₁ h l f) {c : Bool} (ec : c ≡ notPositive f) where
       abbrev vectors : State
       vectors = begun (region nan w (h .diagonal) (h .size)) (read w (h .size) l)
 
@@ -177,16 +177,16 @@ module _ (w : List Float) (h : Hermitian) (l : Plan) (from to : List ℕ) (toler
       unfolding solved read matrix
       answer-is =
           let d : List Float = region nan w (h .diagonal) (h .size) in
-          let q : ltb (firstUnfit d) (length d) ≡ false = le-ltb (firstUnfit d) (length d) (rw (← ev, length-diagonal) g) in
+          let q : ltb (firstNotPositive d) (length d) ≡ false = le-ltb (firstNotPositive d) (length d) (rw (← ev, length-diagonal) g) in
           rw (fit, q)
 
-      dot-unfit : unfit (residualDot vectors) ≡ c
-      dot-unfit = ap (λ x. unfit x) (sym (s .result)) ∙ sym ec
+      dot-not-positive : notPositive (residualDot vectors) ≡ c
+      dot-not-positive = ap (λ x. notPositive x) (sym (s .result)) ∙ sym ec
 
       pub solve-first : c ≡ true → Solved w w₁ (h .size) l answer (GaveUp FirstResidual)
       unfolding started
       solve-first u =
-          let q : unfit (residualDot vectors) ≡ true = dot-unfit ∙ u in
+          let q : notPositive (residualDot vectors) ≡ true = dot-not-positive ∙ u in
           rw (answer-is, q) (record { work = s .work; result = refl })
 
       pub solve-run : c ≡ false → {w₂ : List Float} {a : Answer} → Solved w₁ w₂ (h .size) l (run (matrix w₁ h from to) (tolerance ⊗ nm) most 0 f (read w₁ (h .size) l)) a
@@ -197,7 +197,7 @@ module _ (w : List Float) (h : Hermitian) (l : Plan) (from to : List ℕ) (toler
           let z : Sized n vectors = begun-sized n (region nan w (h .diagonal) n) (read w n l) length-diagonal (read-sized w n l) in
           let m : Matrix = matrix w h from to in
           let o : Outcome = run m limit most 0 (residualDot vectors) vectors in
-          let q : unfit (residualDot vectors) ≡ false = dot-unfit ∙ u in
+          let q : notPositive (residualDot vectors) ≡ false = dot-not-positive ∙ u in
           let k : run (matrix w₁ h from to) (tolerance ⊗ nm) most 0 f (read w₁ n l) ≡ o =
           rw (en, s .result, s .work, get-matrix w h l ok vectors z from to, get-all w n l (ok .vector-room) vectors z) in
           rw (answer-is, q) (record {

@@ -1,19 +1,18 @@
 -- From the loops to a turn of the method: what each function makes of the vectors. Assumes nothing.
 use mathlib.Core.Path.{_≡_, refl, sym, ap, _∙_}
 use mathlib.Core.Bool.{Bool, true, false, cond}
-use mathlib.Core.List.{List, [], _∷_, _++_, map}
-use Prim.Native.Nat.{ℕ, zero, suc, _+_, _*_, _≤_, _<_}
+use mathlib.Core.List.{List, map}
+use Prim.Native.Nat.{ℕ, zero, suc, _+_, _*_}
 use native.Mathlib.Omega.{arith}
 use lib.Ieee.{Float, nan, le}
-use lib.ListN.{length, getD, replicate, length-replicate, replicate-append-replicate}
-use Rattle.float.specs.Double.{lit, maxOf, _⊘_}
+use lib.ListN.{length, replicate, length-replicate, replicate-append-replicate}
+use Rattle.float.specs.Double.{lit, maxOf, notPositive, _⊘_}
 use Rattle.root.specs.Root.{rootOf}
 use Rattle.complex.specs.declared.Complex.{Complex}
 use Rattle.complex.specs.Complex.{czero}
 use Rattle.cells.specs.Region.{region, put}
 use Rattle.cells.specs.Cell.{reOf, imOf, flat, regionC, putC}
 use Rattle.cells.proofs.Regions.{length-region}
-use Rattle.cells.proofs.Cells.{length-regionC}
 use Rattle.hermitian.specs.declared.Hermitian.{Hermitian}
 use Rattle.hermitian.specs.Hermitian.{Matrix, dotOf, normOf, scaled, applied}
 use Rattle.hermitian.specs.Work.{matrix}
@@ -24,10 +23,10 @@ use Rattle.vectors.specs.Vectors.{recipsOf}
 use Rattle.conjugate_gradient.specs.declared.Turned.{Turned}
 use Rattle.conjugate_gradient.specs.declared.Turned.the-variants.{Going, Converged, Broken}
 use Rattle.conjugate_gradient.specs.declared.Reason.the-variants.{Denominator, LostDefiniteness}
-use Rattle.conjugate_gradient.specs.Solve.{State, Turn, unfit, begun, residualDot, preconditioned, multiplied, denominator, reduced, advanced, directed, judged, stepped, turned}
+use Rattle.conjugate_gradient.specs.Solve.{State, Turn, begun, residualDot, preconditioned, multiplied, denominator, reduced, advanced, directed, judged, stepped, turned}
 use Rattle.conjugate_gradient.specs.Work.{read, lay, VectorRoom, Room, Begun, Multiplied, Updated, Ended}
 use Rattle.vectors.proofs.Inverses.{length-recipsOf}
-use Rattle.conjugate_gradient.proofs.Lays.{Sized, read-sized, lay-read, get-x, get-r, get-p, get-q, get-inverse, get-all, put-x, put-p, put-q, put-inverse, lay-then, length-lay}
+use Rattle.conjugate_gradient.proofs.Lays.{Sized, read-sized, lay-read, get-r, get-p, get-q, get-inverse, get-all, put-x, put-p, put-q, put-inverse, lay-then}
 use Rattle.conjugate_gradient.proofs.Passes.{reduced-sized, advanced-sized, directed-sized}
 
 -- ---- begin
@@ -132,19 +131,19 @@ module _ (w : List Float) (n : ℕ) (l : Plan) (alpha dot limit : Float) (ok : V
       rw q (record { work = advanced-now (u .work) e₂; result = refl })
 
   pub step-lost : {w₁ w₂ : List Float} {sums : Sums} {r : Float} {b : Bool} → Updated w w₁ n l alpha sums → r ≡ rootOf (maxOf (sums .square) (lit 0)) → le r limit ≡ false
-      → b ≡ unfit (sums .next) → b ≡ true → w₂ ≡ lay w₁ n l (advanced alpha (read w₁ n l)) → Ended w w₂ n l (judged limit dot now) (Broken LostDefiniteness)
+      → b ≡ notPositive (sums .next) → b ≡ true → w₂ ≡ lay w₁ n l (advanced alpha (read w₁ n l)) → Ended w w₂ n l (judged limit dot now) (Broken LostDefiniteness)
   unfolding judged
   step-lost u er t eb tb e₂ =
       let q : le (normOf (now .r)) limit ≡ false = rw (norm-now u er) at t in
-      let v : unfit (residualDot now) ≡ true = ap (λ x. unfit x) (sym (next-now u)) ∙ sym eb ∙ tb in
+      let v : notPositive (residualDot now) ≡ true = ap (λ x. notPositive x) (sym (next-now u)) ∙ sym eb ∙ tb in
       rw (q, v) (record { work = advanced-now (u .work) e₂; result = refl })
 
   pub step-going : {w₁ w₂ : List Float} {sums : Sums} {r : Float} {b : Bool} → Updated w w₁ n l alpha sums → r ≡ rootOf (maxOf (sums .square) (lit 0)) → le r limit ≡ false
-      → b ≡ unfit (sums .next) → b ≡ false → w₂ ≡ lay w₁ n l (directed (sums .next ⊘ dot) (advanced alpha (read w₁ n l))) → Ended w w₂ n l (judged limit dot now) (Going (sums .next))
+      → b ≡ notPositive (sums .next) → b ≡ false → w₂ ≡ lay w₁ n l (directed (sums .next ⊘ dot) (advanced alpha (read w₁ n l))) → Ended w w₂ n l (judged limit dot now) (Going (sums .next))
   unfolding judged
   step-going {w₁} {w₂} {sums} u er t eb tb e₂ =
       let q : le (normOf (now .r)) limit ≡ false = rw (norm-now u er) at t in
-      let v : unfit (residualDot now) ≡ false = ap (λ x. unfit x) (sym (next-now u)) ∙ sym eb ∙ tb in
+      let v : notPositive (residualDot now) ≡ false = ap (λ x. notPositive x) (sym (next-now u)) ∙ sym eb ∙ tb in
       let s : State = reduced alpha (read w n l) in
       let z : Sized n s = reduced-sized n alpha (read w n l) (read-sized w n l) in
       let beta : Float = residualDot now ⊘ dot in
@@ -162,7 +161,7 @@ picked-sized n false s t y z = z
 judged-sized : (n : ℕ) (limit dot : Float) (s : State) → Sized n s → Sized n (judged limit dot s .state)
 unfolding judged
 judged-sized n limit dot s z =
-    picked-sized n (le (normOf (s .r)) limit) _ _ z (picked-sized n (unfit (residualDot s)) _ _ z (directed-sized n (residualDot s ⊘ dot) s z))
+    picked-sized n (le (normOf (s .r)) limit) _ _ z (picked-sized n (notPositive (residualDot s)) _ _ z (directed-sized n (residualDot s ⊘ dot) s z))
 
 pub turned-sized : (n : ℕ) (m : Matrix) (limit dot : Float) (s : State) → Sized n s → Sized n (turned m limit dot s .state)
 unfolding turned stepped
@@ -170,17 +169,17 @@ turned-sized n m limit dot s z =
     let t : State = multiplied m s in
     let y : Sized n t = multiplied-sized n m s z in
     let a : Float = dot ⊘ denominator t in
-    picked-sized n (unfit (denominator t)) _ _ y (judged-sized n limit dot (advanced a (reduced a t)) (advanced-sized n a (reduced a t) (reduced-sized n a t y)))
+    picked-sized n (notPositive (denominator t)) _ _ y (judged-sized n limit dot (advanced a (reduced a t)) (advanced-sized n a (reduced a t) (reduced-sized n a t y)))
 
 module _ (w : List Float) (h : Hermitian) (l : Plan) (from to : List ℕ) (limit dot : Float) where
-  pub turn-broken : {w₁ : List Float} {d : Float} {b : Bool} → Multiplied w w₁ h l from to d → b ≡ unfit d → b ≡ true
+  pub turn-broken : {w₁ : List Float} {d : Float} {b : Bool} → Multiplied w w₁ h l from to d → b ≡ notPositive d → b ≡ true
       → Ended w w₁ (h .size) l (turned (matrix w h from to) limit dot (read w (h .size) l)) (Broken Denominator)
   unfolding turned stepped
   turn-broken p eb tb =
-      let v : unfit (denominator (multiplied (matrix w h from to) (read w (h .size) l))) ≡ true = ap (λ x. unfit x) (sym (p .result)) ∙ sym eb ∙ tb in
+      let v : notPositive (denominator (multiplied (matrix w h from to) (read w (h .size) l))) ≡ true = ap (λ x. notPositive x) (sym (p .result)) ∙ sym eb ∙ tb in
       rw v (record { work = p .work; result = refl })
 
-  pub turn-stepped : Room (length w) h l → {w₁ w₂ : List Float} {d : Float} {b : Bool} {t : Turned} → Multiplied w w₁ h l from to d → b ≡ unfit d → b ≡ false
+  pub turn-stepped : Room (length w) h l → {w₁ w₂ : List Float} {d : Float} {b : Bool} {t : Turned} → Multiplied w w₁ h l from to d → b ≡ notPositive d → b ≡ false
       → Ended w₁ w₂ (h .size) l (judged limit dot (advanced (dot ⊘ d) (reduced (dot ⊘ d) (read w₁ (h .size) l)))) t
       → Ended w w₂ (h .size) l (turned (matrix w h from to) limit dot (read w (h .size) l)) t
   unfolding turned stepped
@@ -190,7 +189,7 @@ module _ (w : List Float) (h : Hermitian) (l : Plan) (from to : List ℕ) (limit
       let s : State = multiplied m (read w n l) in
       let z : Sized n s = multiplied-sized n m (read w n l) (read-sized w n l) in
       let a : Float = dot ⊘ denominator s in
-      let v : unfit (denominator s) ≡ false = ap (λ x. unfit x) (sym (p .result)) ∙ sym eb ∙ tb in
+      let v : notPositive (denominator s) ≡ false = ap (λ x. notPositive x) (sym (p .result)) ∙ sym eb ∙ tb in
       let k : judged limit dot (advanced (dot ⊘ d) (reduced (dot ⊘ d) (read w₁ n l))) ≡ judged limit dot (advanced a (reduced a s)) =
       rw (p .result, p .work, get-all w n l (ok .vector-room) s z) in
       let y : Sized n (judged limit dot (advanced a (reduced a s)) .state) = judged-sized n limit dot (advanced a (reduced a s)) (advanced-sized n a (reduced a s) (reduced-sized n a s z)) in

@@ -1,3 +1,4 @@
 pub mod Solve
 pub mod Answer
+pub mod Found
 pub mod Work

@@ -1,19 +1,18 @@
 -- The Rust's `conjugate_gradient` and `normalize_in_mass`, over lists of complex numbers, with every operation in its order. Definitions only.
 -- Each also says what it leaves in every vector, whatever it answers.
 use Prim.Native.Nat.{ℕ, zero, suc}
-use mathlib.Core.Bool.{Bool, not, cond, _||_}
+use mathlib.Core.Bool.{cond}
 use mathlib.Core.List.{List, [], _∷_}
 use lib.Dec.{ltb}
 use lib.ListN.{length, replicate}
 use lib.Ieee.{Float, le}
-use Rattle.float.specs.Double.{lit, isFinite, recipOf, _⊗_, _⊘_}
+use Rattle.float.specs.Double.{notPositive, recipOf, _⊗_, _⊘_}
 use Rattle.root.specs.Root.{rootOf}
 use Rattle.complex.specs.declared.Complex.{Complex}
 use Rattle.complex.specs.Complex.{czero}
 use Rattle.hermitian.specs.Hermitian.{Matrix, dotOf, normOf, scaled, applied}
 use Rattle.vectors.specs.Vectors.{zipOf, addScaled, subScaled, recipsOf, scaledBy}
 use Rattle.residual.specs.Residual.{productsOf}
-use Rattle.conjugate_gradient.specs.declared.Reason.{Reason}
 use Rattle.conjugate_gradient.specs.declared.Reason.the-variants.{RightHandNorm, Diagonal, FirstResidual, Denominator, LostDefiniteness, CountSpent, MassOfIterate}
 use Rattle.conjugate_gradient.specs.declared.Answer.{Answer}
 use Rattle.conjugate_gradient.specs.declared.Answer.the-variants.{Iterate, GaveUp}
@@ -22,14 +21,10 @@ use Rattle.conjugate_gradient.specs.declared.Normalized.the-variants as 
 use Rattle.conjugate_gradient.specs.declared.Turned.{Turned}
 use Rattle.conjugate_gradient.specs.declared.Turned.the-variants.{Going, Converged, Broken}
 
--- `!value.is_finite() || value <= 0.0`
-unfoldable pub unfit : Float → Bool
-unfit v = not (isFinite v) || le v (lit 0)
-
--- the first index whose value is unfit, or the length where there is none
-unfoldable pub firstUnfit : List Float → ℕ
-firstUnfit [] = 0
-firstUnfit (v ∷ d) = cond (unfit v) 0 (suc (firstUnfit d))
+-- the first index whose value is not positive, or the length where there is none
+unfoldable pub firstNotPositive : List Float → ℕ
+firstNotPositive [] = 0
+firstNotPositive (v ∷ d) = cond (notPositive v) 0 (suc (firstNotPositive d))
 
 -- ---- the vectors: the iterate, the residual, the direction, the matrix times the direction, and the inverse diagonal
 
@@ -96,13 +91,13 @@ turn t s = record { result = t; state = s }
 unfoldable pub judged : Float → Float → State → Turn
 judged limit dot s =
     cond (le (normOf (s .r)) limit) (turn Converged s)
-    (cond (unfit (residualDot s)) (turn (Broken LostDefiniteness) s)
+    (cond (notPositive (residualDot s)) (turn (Broken LostDefiniteness) s)
     (turn (Going (residualDot s)) (directed (residualDot s ⊘ dot) s)))
 
 -- after the product, s having it
 unfoldable pub stepped : Float → Float → State → Turn
 stepped limit dot s =
-    cond (unfit (denominator s)) (turn (Broken Denominator) s)
+    cond (notPositive (denominator s)) (turn (Broken Denominator) s)
     (judged limit dot (advanced (dot ⊘ denominator s) (reduced (dot ⊘ denominator s) s)))
 
 unfoldable pub turned : Matrix → Float → Float → State → Turn
@@ -136,12 +131,12 @@ run m limit (suc k) i dot s = after (turned m limit dot s .result) (turned m lim
 
 -- the first residual dot is tested, and then at most k turns are made
 unfoldable pub started : Matrix → Float → ℕ → State → Outcome
-started m limit k s = cond (unfit (residualDot s)) (outcome (GaveUp FirstResidual) s) (run m limit k 0 (residualDot s) s)
+started m limit k s = cond (notPositive (residualDot s)) (outcome (GaveUp FirstResidual) s) (run m limit k 0 (residualDot s) s)
 
 unfoldable pub solved : Matrix → Float → ℕ → State → Outcome
 solved m tolerance k s =
-    cond (unfit (normOf (s .r))) (outcome (GaveUp RightHandNorm) s)
-    (cond (ltb (firstUnfit (m .diagonal)) (length (m .diagonal))) (outcome (GaveUp (Diagonal (firstUnfit (m .diagonal)))) s)
+    cond (notPositive (normOf (s .r))) (outcome (GaveUp RightHandNorm) s)
+    (cond (ltb (firstNotPositive (m .diagonal)) (length (m .diagonal))) (outcome (GaveUp (Diagonal (firstNotPositive (m .diagonal)))) s)
     (started m (tolerance ⊗ normOf (s .r)) k (begun (m .diagonal) s)))
 
 -- ---- normalize_in_mass
@@ -151,8 +146,8 @@ unfoldable pub massOf : Matrix → List Complex → Float
 massOf m x = dotOf x (applied m x) .re
 
 unfoldable pub normalizedAnswer : Float → Normalized
-normalizedAnswer squared = cond (unfit squared) (normalized.GaveUp MassOfIterate) normalized.Done
+normalizedAnswer squared = cond (notPositive squared) (normalized.GaveUp MassOfIterate) normalized.Done
 
 -- each value times the reciprocal of the mass norm
 unfoldable pub normalizedVector : Float → List Complex → List Complex
-normalizedVector squared x = cond (unfit squared) x (scaledBy (recipOf (rootOf squared)) x)
+normalizedVector squared x = cond (notPositive squared) x (scaledBy (recipOf (rootOf squared)) x)

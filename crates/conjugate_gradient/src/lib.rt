@@ -11,7 +11,7 @@ ghost use Rattle.float.specs.Double.{lit, maxOf};
 ghost use Rattle.root.specs.Root.{rootOf};
 ghost use Rattle.cells.specs.Region.{region};
 ghost use Rattle.hermitian.specs.Work.{matrix, Graph, ApplyRoom};
-ghost use Rattle.conjugate_gradient.specs.Solve.{unfit, firstUnfit, reduced, advanced, directed, judged, turned, answerOf, run, solved};
+ghost use Rattle.conjugate_gradient.specs.Solve.{firstNotPositive, reduced, advanced, directed, judged, turned, answerOf, run, solved};
 ghost use Rattle.conjugate_gradient.specs.Work.{read, lay, VectorRoom, Room, Begun, Multiplied, Updated, Ended, Solved, InMass};
 
 // Why the solver gave up: number 24's reasons 3 to 9, in their order.
@@ -53,23 +53,13 @@ enum Turned {
     Broken(Reason),
 }
 
-// Whether a value is not finite, or not positive.
-pub fn is_unfit(value: f64) -> bool
-    ensures { λ r. ⌜ r ≡ unfit value ⌝ }
-{
-    if !float::is_finite(value) {
-        return true;
-    }
-    value <= 0.0
-}
-
-// The first of n values that is unfit, or n.
-fn first_unfit(work: &[f64], d: usize, n: usize) -> usize
+// The first of n values that is not positive, or n.
+fn first_not_positive(work: &[f64], d: usize, n: usize) -> usize
     requires { ⌜ d + n ≤ length (now work) ⌝ }
-    ensures { λ r. ⌜ r ≡ firstUnfit (region nan (now (work .entry)) d n) ⌝ }
+    ensures { λ r. ⌜ r ≡ firstNotPositive (region nan (now (work .entry)) d n) ⌝ }
 {
     for i in 0..n {
-        if is_unfit(load_real(work, d, i)) {
+        if float::not_positive(load_real(work, d, i)) {
             return i;
         }
     }
@@ -146,7 +136,7 @@ fn step(work: &mut [f64], n: usize, l: Plan, alpha: f64, dot: f64, limit: f64) -
         advance(work, n, l, alpha);
         return Turned::Converged;
     }
-    if is_unfit(sums.next) {
+    if float::not_positive(sums.next) {
         advance(work, n, l, alpha);
         return Turned::Broken(Reason::LostDefiniteness);
     }
@@ -168,7 +158,7 @@ fn turn(
     ensures { λ r. ⌜ Ended (now (work .entry)) (now (work .exit)) (h .size) l (turned (matrix (now (work .entry)) h (now (from .entry)) (now (to .entry))) limit dot (read (now (work .entry)) (h .size) l)) r ⌝ }
 {
     let denominator = multiply(work, h, l, from, to);
-    if is_unfit(denominator) {
+    if float::not_positive(denominator) {
         return Turned::Broken(Reason::Denominator);
     }
     step(work, h.size, l, dot / denominator, dot, limit)
@@ -225,15 +215,15 @@ pub fn conjugate_gradient(
     ensures { λ r. ⌜ Solved (now (work .entry)) (now (work .exit)) (h .size) l (solved (matrix (now (work .entry)) h (now (from .entry)) (now (to .entry))) tolerance most (read (now (work .entry)) (h .size) l)) r ⌝ }
 {
     let norm = hermitian::euclidean_norm(work, l.residual, h.size);
-    if is_unfit(norm) {
+    if float::not_positive(norm) {
         return Answer::GaveUp(Reason::RightHandNorm);
     }
-    let vertex = first_unfit(work, h.diagonal, h.size);
+    let vertex = first_not_positive(work, h.diagonal, h.size);
     if vertex < h.size {
         return Answer::GaveUp(Reason::Diagonal(vertex));
     }
     let first = begin(work, h, l);
-    if is_unfit(first) {
+    if float::not_positive(first) {
         return Answer::GaveUp(Reason::FirstResidual);
     }
     iterate(work, h, l, from, to, tolerance * norm, first, most)
@@ -254,7 +244,7 @@ pub fn normalize_in_mass(
 {
     hermitian::apply(work, y, x, mass, from, to);
     let squared = hermitian::dot_re(work, x, y, mass.size);
-    if is_unfit(squared) {
+    if float::not_positive(squared) {
         return Normalized::GaveUp(Reason::MassOfIterate);
     }
     vectors::scale_by(work, x, mass.size, float::recip(root::sqrt(squared)));

@@ -1,7 +1,7 @@
 -- Doubles: the operations that every layer above writes with, and what the functions of this crate compute, over the binary64 values of `lib.Ieee`. Definitions only.
 -- There is one `nan`, so all NaNs are equal; every definition is total.
-use Prim.Native.Nat.{ℕ, zero, suc, _+_, _-_, _*_, _/_, _%_, _^_}
-use mathlib.Core.Bool.{Bool, true, false, cond}
+use Prim.Native.Nat.{ℕ, _+_, _-_, _/_, _%_}
+use mathlib.Core.Bool.{Bool, true, false, not, cond, _||_}
 use lib.Dec.{ltb}
 use lib.IntN.{pos}
 use lib.Ieee.{Float, nan, inf, fin, binary64, add, sub, mul, div, rem, lt, le, eq, ne, neg, ofBits, toBits, ofInt, toUnsigned}
@@ -44,6 +44,10 @@ abbrev pub isFinite : Float → Bool
 isFinite nan = false
 isFinite (inf s) = false
 isFinite (fin s m e) = true
+
+-- "not finite, or not positive"
+unfoldable pub notPositive : Float → Bool
+notPositive x = not (isFinite x) || le x (lit 0)
 
 -- f64::abs
 unfoldable pub mag : Float → Float

@@ -3,7 +3,7 @@
 ghost use mathlib.Core.Path.{_≡_};
 ghost use lib.IntN.{pos};
 ghost use lib.Ieee.{binary64, toBits, ofBits, toUnsigned, toSigned, ofInt};
-ghost use Rattle.float.specs.Double.{isFinite, mag, maxOf, minOf, recipOf, remEuclid, high, field, sign, roundSize, roundAway};
+ghost use Rattle.float.specs.Double.{isFinite, notPositive, mag, maxOf, minOf, recipOf, remEuclid, high, field, sign, roundSize, roundAway};
 
 // std::f64::consts
 pub const FRAC_PI_4: f64 = 0.7853981633974483;
@@ -29,6 +29,13 @@ pub fn is_finite(x: f64) -> bool
     ensures { λ r. ⌜ r ≡ isFinite x ⌝ }
 {
     abs(x) < 1.0 / 0.0
+}
+
+// Whether x is not finite, or not positive.
+pub fn not_positive(x: f64) -> bool
+    ensures { λ r. ⌜ r ≡ notPositive x ⌝ }
+{
+    !is_finite(x) || x <= 0.0
 }
 
 // f64::max: a NaN is passed over, and of two equal values the first is the answer.

@@ -10,7 +10,7 @@ use Rattle.complex.specs.Angle.{IsCross}
 use Rattle.mesh.specs.Mesh.{Tri, tri, Good, All}
 use Rattle.mesh.specs.Claim.{InRange}
 use Rattle.floor.specs.Floor.{Floor, pointsOf}
-use Rattle.conjugate_gradient.specs.Solve.{unfit}
+use Rattle.float.specs.Double.{notPositive}
 use Rattle.shift.specs.declared.Traces.{Traces}
 use Rattle.refusal.specs.Refusal.{gaveUp}
 use Rattle.options.specs.declared.Options.{Options}
@@ -30,7 +30,7 @@ set-up (Edges m) next alpha e = ((m, refl), e)
 set-up (Refused x) next alpha e = let z : _≡_ {A = ℕ} 0 1 = cc in absurd (omega arith)
 
 traced : (t : Traces) (next : Passed) (alpha : List Float) → afterTraces t next ≡ field alpha → next ≡ field alpha
-traced t next alpha = go (unfit (t .energy)) (unfit (t .mass))
+traced t next alpha = go (notPositive (t .energy)) (notPositive (t .mass))
   where
     go : (b c : Bool) → cond b (faulty (gaveUp 1 0)) (cond c (faulty (gaveUp 2 0)) next) ≡ field alpha → next ≡ field alpha
     go true c e = let z : _≡_ {A = ℕ} 0 1 = cc in absurd (omega arith)

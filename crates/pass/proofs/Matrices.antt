@@ -21,7 +21,8 @@ use Rattle.assembly.proofs.Matrices.{assembled-length, assembled-below}
 use Rattle.shift.specs.declared.Traces.{Traces}
 use Rattle.shift.specs.Shift.{tracesOf, shiftOf, shiftedEnergy, TraceRoom}
 use Rattle.terms.specs.declared.Mode.{Mode}
-use Rattle.shift.proofs.Elsewhere.{shift-else-real, mass-shifted, energy-shifted}
+use Rattle.hermitian.proofs.Elsewhere.{shift-else-real, mass-shifted}
+use Rattle.shift.proofs.Energy.{energy-shifted}
 use Rattle.options.specs.declared.Options.{Options}
 use Rattle.layout.specs.declared.Layout.{Layout}
 use Rattle.layout.specs.Layout.{Ordered}

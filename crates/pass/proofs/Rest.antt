@@ -10,7 +10,7 @@ use lib.Ieee.{Float, nan}
 use Rattle.cells.proofs.Regions.{length-put}
 use Rattle.cells.proofs.Cells.{length-putC}
 use Rattle.hermitian.specs.Work.{shiftMatrix, ShiftRoom}
-use Rattle.conjugate_gradient.specs.Solve.{unfit}
+use Rattle.float.specs.Double.{notPositive}
 use Rattle.refusal.specs.declared.Fault.{Fault}
 use Rattle.refusal.specs.declared.Stage.{Stage}
 use Rattle.refusal.specs.declared.Stage.the-variants.{Done, Refused}
@@ -66,7 +66,7 @@ refusal-found l k p x w w₁ u u₁ e a b same-reals same-words = record {
 
 traces-cases : (t : Traces) (next : Passed) → ((tracesStage t ≡ Done) × (afterTraces t next ≡ next)) ⊎ ((x : Fault) × (tracesStage t ≡ Refused x) × (afterTraces t next ≡ faulty x))
 unfolding tracesStage
-traces-cases t next = go (unfit (t .energy)) (unfit (t .mass))
+traces-cases t next = go (notPositive (t .energy)) (notPositive (t .mass))
   where
     go : (e m : Bool) → ((cond e (Refused (gaveUp 1 0)) (cond m (Refused (gaveUp 2 0)) Done) ≡ Done) × (cond e (faulty (gaveUp 1 0)) (cond m (faulty (gaveUp 2 0)) next) ≡ next)) ⊎ ((x : Fault) × (cond e (Refused (gaveUp 1 0)) (cond m (Refused (gaveUp 2 0)) Done) ≡ Refused x) × (cond e (faulty (gaveUp 1 0)) (cond m (faulty (gaveUp 2 0)) next) ≡ faulty x))
     go true m = inr (gaveUp 1 0, refl, refl)

@@ -10,7 +10,7 @@ use Rattle.assembly.specs.Assembly as assembly
 use Rattle.assembly.specs.Lists.{floorOf}
 use Rattle.shift.specs.declared.Traces.{Traces}
 use Rattle.shift.specs.Shift.{tracesOf, shiftedEnergy}
-use Rattle.conjugate_gradient.specs.Solve.{unfit}
+use Rattle.float.specs.Double.{notPositive}
 use Rattle.refusal.specs.Refusal.{gaveUp}
 use Rattle.options.specs.declared.Options.{Options}
 use Rattle.options.specs.Options.{Guidance}
@@ -44,7 +44,7 @@ unfoldable pub builtOf : Options → Floor → Built
 builtOf o f = record { mass = massOf o f; energy = shiftedEnergy (massOf o f) (energyOf o f); trace = tracesIn o f .energy }
 
 abbrev pub afterTraces : Traces → Passed → Passed
-afterTraces t next = cond (unfit (t .energy)) (faulty (gaveUp 1 0)) (cond (unfit (t .mass)) (faulty (gaveUp 2 0)) next)
+afterTraces t next = cond (notPositive (t .energy)) (faulty (gaveUp 1 0)) (cond (notPositive (t .mass)) (faulty (gaveUp 2 0)) next)
 
 -- ---- all of it
 

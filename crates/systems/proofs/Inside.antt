@@ -1,16 +1,16 @@
 -- The tangent branch's fold over the soft terms. The code blanks each target and adds its term everywhere; the definition adds it off the boundary alone.
 -- Both agree off the boundary, and what is on it is overwritten when the boundary is fixed. Assumes nothing.
-use mathlib.Core.Path.{_≡_, refl, ap, _∙_}
+use mathlib.Core.Path.{_≡_, refl, ap}
 use mathlib.Core.Bool.{Bool, true, false, cond}
 use mathlib.Core.List.{List, [], _∷_, _++_, map}
 use Prim.Native.Nat.{ℕ}
 use lib.Ieee.{Float, lt}
-use lib.ListN.{length, length-replicate}
+use lib.ListN.{length-replicate}
 use Rattle.float.specs.Double.{lit}
 use Rattle.complex.specs.declared.Complex.{Complex}
 use Rattle.complex.specs.Complex.{czero}
 use Rattle.hermitian.specs.Hermitian.{Matrix, applied, shiftedBy}
-use Rattle.constraints.specs.Constraints.{blanked, coupled, dirichletRows}
+use Rattle.constraints.specs.Constraints.{blanked, dirichletRows}
 use Rattle.constraints.proofs.Systems.{Agree, agree-same, agree-more, agree-coupled}
 use Rattle.soft.specs.Soft.{Term, System, termOf, softenedBy, softened}
 use Rattle.systems.specs.Systems.{plain, insideBy, inside, fixedBy}

@@ -1,21 +1,23 @@
 -- What the functions leave, from what their calls ensure: which regions stay, and the system that then stands there. Assumes nothing.
-use mathlib.Core.Path.{_≡_, refl, sym, ap, subst, _∙_}
-use mathlib.Core.Bool.{Bool, true, false, not, cond}
-use mathlib.Core.List.{List, [], _∷_, _++_, map}
-use Prim.Native.Nat.{ℕ, zero, suc, _+_, _*_, _≤_}
+use mathlib.Core.Path.{_≡_, refl, sym, ap, _∙_}
+use mathlib.Core.Bool.{true, false, not}
+use mathlib.Core.List.{List}
+use Prim.Native.Nat.{ℕ, _+_, _*_, _≤_}
 use native.Mathlib.Omega.{arith}
+use borrow.Author.Tests.{not-true, not-false}
 use lib.Ieee.{Float, nan}
-use lib.ListN.{length, replicate, length-replicate, replicate-append-replicate}
+use lib.ListN.{length, replicate, length-replicate}
 use Rattle.float.specs.Double.{lit}
 use Rattle.complex.specs.declared.Complex.{Complex}
 use Rattle.complex.specs.Complex.{czero}
 use Rattle.cells.specs.Region.{region, put, Apart}
-use Rattle.cells.specs.Cell.{reOf, imOf, flat, regionC, putC}
+use Rattle.cells.specs.Cell.{regionC, putC}
 use Rattle.cells.proofs.Loops.{apart, length-tab}
 use Rattle.cells.proofs.Regions.{length-region, length-put, region-else}
+use Rattle.cells.proofs.Changes.{zeros}
 use Rattle.cells.proofs.Cells.{length-regionC, length-putC, regionC-same, regionC-putC, regionR-else, regionC-put-else}
 use Rattle.hermitian.specs.declared.Hermitian.{Hermitian}
-use Rattle.hermitian.specs.Hermitian.{Matrix, applied}
+use Rattle.hermitian.specs.Hermitian.{applied}
 use Rattle.hermitian.specs.Work.{matrix}
 use Rattle.hermitian.proofs.Product.{length-applied}
 use Rattle.conjugate_gradient.specs.declared.Plan.{Plan}
@@ -26,11 +28,11 @@ use Rattle.constraints.specs.Constraints.{boundaryData, blanked, coupled, diric
 use Rattle.constraints.specs.Work.{MatrixRoom, PenaltyRoom, blankedIn, coupledIn, droppedIn, rowsIn, penalisedIn, weakIn}
 use Rattle.constraints.proofs.Systems.{rows-matrix, weak-matrix, weak-rhs}
 use Rattle.soft.specs.declared.Terms.{Terms}
-use Rattle.soft.specs.Soft.{Term, System, guidedTargets, alignedTargets, termOf, softened}
+use Rattle.soft.specs.Soft.{guidedTargets, alignedTargets, termOf, softened}
 use Rattle.soft.specs.Work.{SoftRoom, systemIn, guidedIn, alignedIn, termsIn, Kept, Softens}
 use Rattle.soft.proofs.Systems.{kept-then, kept-put, kept-putC, vector-kept, matrix-kept, matrix-put, matrix-putC, aimed-then, softens-none, softens-then, length-guided, length-aligned}
-use Rattle.systems.specs.Systems.{plain, softSystem, penalty, weakSystem, inside, fixedBy, tangentSystem}
-use Rattle.systems.specs.Work.{SystemRoom, TargetRoom, blankedTerms, Makes, MakesSoft, MakesWeak, Fixes, MakesTangent}
+use Rattle.systems.specs.Systems.{plain, softSystem, penalty, weakSystem, fixedBy, tangentSystem}
+use Rattle.systems.specs.Work.{SystemRoom, TargetRoom, blankedTerms, MakesSoft, MakesWeak, Fixes, MakesTangent}
 use Rattle.systems.proofs.Inside.{blanked-more, blanked-one, inside-same}
 
 -- a slice as long has the same room
@@ -39,14 +41,6 @@ same-system e h mass l t ok = rw e ok
 
 pub same-targets : {len len′ : ℕ} → len′ ≡ len → (h : Hermitian) (l : Plan) (targets : ℕ) → TargetRoom len h l targets → TargetRoom len′ h l targets
 same-targets e h l targets ok = rw e ok
-
-map-replicate : (f : Complex → Float) (n : ℕ) (z : Complex) → map f (replicate n z) ≡ replicate n (f z)
-map-replicate f zero z = refl
-map-replicate f (suc n) z = ap (λ (l : List Float). f z ∷ l) (map-replicate f n z)
-
-flat-replicate : (n : ℕ) (z : Complex) → flat (replicate n z) ≡ replicate n (z .re) ++ replicate n (z .im)
-unfolding flat
-flat-replicate n z = rw (map-replicate reOf n z, map-replicate imOf n z)
 
 -- where the boundary's rows and the penalty are written
 pub rows-room : {len len′ : ℕ} → len′ ≡ len → (h : Hermitian) (l : Plan) (targets : ℕ) → TargetRoom len h l targets → MatrixRoom len′ h
@@ -75,13 +69,6 @@ penalty-room h mass l targets weight ok at =
       rhs-mass = apart (l .residual) (2 * h .size) (mass .diagonal) (h .size) (omega (arith, v));
       diagonal-targets = apart (h .diagonal) (h .size) targets (2 * h .size) (omega (arith, at .off-behind, at .targets-behind));
     }
-
--- zeros in a vector's region are a vector of zeros (belongs in crate cells)
-zeros : (w : List Float) (b n : ℕ) {w₁ : List Float} → w₁ ≡ put w b (replicate (2 * n) (lit 0)) → w₁ ≡ putC w b (replicate n czero)
-unfolding putC
-zeros w b n e =
-    let k : n + n ≡ 2 * n = omega arith in
-    e ∙ ap (put w b) (sym (flat-replicate n czero ∙ replicate-append-replicate n n (lit 0) ∙ ap (λ (i : ℕ). replicate i (lit 0)) k))
 
 -- ---- soft terms alone
 
@@ -165,14 +152,6 @@ module _ (w : List Float) (h mass : Hermitian) (l : Plan) (from to : List ℕ) (
 length-blanked : (flags : List ℕ) (v : List Complex) → length (blanked flags v) ≡ length v
 unfolding blanked
 length-blanked flags v = length-tab _ (length v)
-
-not-true : (b : Bool) → not b ≡ true → b ≡ false
-not-true false e = refl
-not-true true e = sym e
-
-not-false : (b : Bool) → not b ≡ false → b ≡ true
-not-false true e = refl
-not-false false e = sym e
 
 module _ (w : List Float) (h mass : Hermitian) (l : Plan) (flags from to : List ℕ) where
   pub inside-added : SoftRoom (length w) h mass l → (weight : Float) {w₁ w₂ : List Float} → w₁ ≡ blankedIn (l .direction) (h .size) flags w

@@ -14,19 +14,6 @@ use Rattle.soft.specs.Soft.{Term, System, softened}
 unfoldable pub plain : Matrix → ℕ → System
 plain energy n = record { matrix = energy; rhs = replicate n czero }
 
--- ---- soft terms alone, lines 1535 to 1549
-
-unfoldable pub softSystem : Matrix → Matrix → List Term → ℕ → System
-softSystem mass energy terms n = softened mass terms (plain energy n)
-
--- ---- weak, lines 1514 to 1533: a penalty on the boundary, and then the soft terms, everywhere
-
-unfoldable pub penalty : Float → List ℕ → List Complex → Matrix → Matrix → System
-penalty weight flags targets mass energy = record { matrix = penalisedBy flags weight mass energy; rhs = penalties flags weight (mass .diagonal) targets }
-
-unfoldable pub weakSystem : Float → List ℕ → List Complex → Matrix → Matrix → List Term → System
-weakSystem weight flags targets mass energy terms = softened mass terms (penalty weight flags targets mass energy)
-
 -- ---- tangent, lines 1470 to 1510: the targets hold exactly on the boundary
 
 -- lines 1482 to 1501: a soft term acts off the boundary alone
@@ -48,3 +35,16 @@ fixedBy flags targets coupling s = record { matrix = dirichletRows flags (s .mat
 unfoldable pub tangentSystem : List ℕ → List Complex → Matrix → Matrix → List Term → ℕ → System
 tangentSystem flags targets mass energy terms n =
     fixedBy flags targets (applied energy (boundaryData flags targets)) (inside flags mass terms (plain energy n))
+
+-- ---- weak, lines 1514 to 1533: a penalty on the boundary, and then the soft terms, everywhere
+
+unfoldable pub penalty : Float → List ℕ → List Complex → Matrix → Matrix → System
+penalty weight flags targets mass energy = record { matrix = penalisedBy flags weight mass energy; rhs = penalties flags weight (mass .diagonal) targets }
+
+unfoldable pub weakSystem : Float → List ℕ → List Complex → Matrix → Matrix → List Term → System
+weakSystem weight flags targets mass energy terms = softened mass terms (penalty weight flags targets mass energy)
+
+-- ---- soft terms alone, lines 1535 to 1549
+
+unfoldable pub softSystem : Matrix → Matrix → List Term → ℕ → System
+softSystem mass energy terms n = softened mass terms (plain energy n)

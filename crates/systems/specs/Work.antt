@@ -10,8 +10,8 @@ use Rattle.conjugate_gradient.specs.declared.Plan.{Plan}
 use Rattle.conjugate_gradient.specs.Work.{Room}
 use Rattle.constraints.specs.Constraints.{blanked}
 use Rattle.soft.specs.declared.Terms.{Terms}
-use Rattle.soft.specs.Soft.{Term, System}
-use Rattle.soft.specs.Work.{SoftRoom, systemIn, termsIn, Kept}
+use Rattle.soft.specs.Soft.{Term, System, termOf}
+use Rattle.soft.specs.Work.{SoftRoom, systemIn, termsIn, Kept, Softens}
 use Rattle.systems.specs.Systems.{softSystem, weakSystem, fixedBy, tangentSystem}
 
 -- ---- lengths and offsets
@@ -51,6 +51,10 @@ MakesSoft w w′ h mass l from to t = Makes w w′ h l from to (softSystem (matr
 abbrev pub MakesWeak : (w w′ : List Float) (h mass : Hermitian) (l : Plan) (targets : ℕ) (weight : Float) (flags from to : List ℕ) → Terms → Type 0
 MakesWeak w w′ h mass l targets weight flags from to t =
     Makes w w′ h l from to (weakSystem weight flags (regionC w targets (h .size)) (matrix w mass from to) (matrix w h from to) (termsIn w h t))
+
+-- the term of the target in the direction's region, blanked
+abbrev pub SoftensInside : (w w′ : List Float) (h mass : Hermitian) (l : Plan) (weight : Float) (flags from to : List ℕ) → Type 0
+SoftensInside w w′ h mass l weight flags from to = Softens w w′ h mass l from to (termOf weight (blanked flags (regionC w (l .direction) (h .size))))
 
 -- of any system, with the coupling in the plan's x
 abbrev pub Fixes : (w w′ : List Float) (h : Hermitian) (l : Plan) (targets : ℕ) (flags from to : List ℕ) → Type 0

@@ -10,10 +10,9 @@ ghost use mathlib.Core.Path.{_≡_};
 ghost use lib.ListN.{length};
 ghost use Rattle.cells.specs.Cell.{regionC};
 ghost use Rattle.hermitian.specs.Work.{Graph};
-ghost use Rattle.constraints.specs.Constraints.{boundaryData, blanked};
-ghost use Rattle.soft.specs.Soft.{termOf};
+ghost use Rattle.constraints.specs.Constraints.{boundaryData};
 ghost use Rattle.soft.specs.Work.{SoftRoom, guidedIn, alignedIn, termsIn, Softens};
-ghost use Rattle.systems.specs.Work.{SystemRoom, TargetRoom, blankedTerms, MakesSoft, MakesWeak, Fixes, MakesTangent};
+ghost use Rattle.systems.specs.Work.{SystemRoom, TargetRoom, blankedTerms, MakesSoft, MakesWeak, SoftensInside, Fixes, MakesTangent};
 
 // The energy and its soft terms.
 pub fn soft_system(
@@ -74,7 +73,7 @@ fn add_inside(
 )
     requires { ⌜ SoftRoom (length (now work)) h mass l ⌝ }
     requires { ⌜ Graph mass (now from) (now to) × (length (now flag) ≡ h .size) ⌝ }
-    ensures { λ _. ⌜ Softens (now (work .entry)) (now (work .exit)) h mass l (now (from .entry)) (now (to .entry)) (termOf weight (blanked (now (flag .entry)) (regionC (now (work .entry)) (l .direction) (h .size)))) ⌝ }
+    ensures { λ _. ⌜ SoftensInside (now (work .entry)) (now (work .exit)) h mass l weight (now (flag .entry)) (now (from .entry)) (now (to .entry)) ⌝ }
 {
     constraints::blank(work, l.direction, h.size, flag);
     soft::add_term(work, h, mass, l, weight, from, to);

@@ -10,14 +10,14 @@ apply-requires c κs = search needs
 dot-re-requires : tie.Need-dot-re-requires
 dot-re-requires c κs = search needs
 
-is-unfit-requires : tie.Need-is-unfit-requires
-is-unfit-requires c κs = search needs
+not-positive-requires : tie.Need-not-positive-requires
+not-positive-requires c κs = search needs
 
 same-length : tie.Need-same-length
 same-length c = search needs
 
 returns : tie.Need-returns
-returns c = normalize-not _ _ _ _ _ (c .before .before .before .before .before .before .before .before .before .before .before .pre .0) (c .before .before .before .before .before .before .apply .ensures) (c .before .before .dot-re .ensures) (c .before .is-unfit .ensures) (c .if1 .taken)
+returns c = normalize-not _ _ _ _ _ (c .before .before .before .before .before .before .before .before .before .before .before .pre .0) (c .before .before .before .before .before .before .apply .ensures) (c .before .before .dot-re .ensures) (c .before .not-positive .ensures) (c .if1 .taken)
 
 sqrt-requires : tie.Need-sqrt-requires
 sqrt-requires c κs = search needs
@@ -32,7 +32,7 @@ same-length-2 : tie.Need-same-length-2
 same-length-2 c = search needs
 
 returns-2 : tie.Need-returns-2
-returns-2 c = normalize-done _ _ _ _ _ (c .before .before .before .before .before .before .before .before .before .before .before .before .before .before .before .before .before .pre .0) (c .before .before .before .before .before .before .before .before .before .before .before .before .apply .ensures) (c .before .before .before .before .before .before .before .before .dot-re .ensures) (c .before .before .before .before .before .before .before .is-unfit .ensures) (c .before .before .before .before .before .before .if1 .left) (c .before .before .before .before .sqrt .ensures) (c .before .before .before .recip .ensures) (c .before .before .scale-by .ensures)
+returns-2 c = normalize-done _ _ _ _ _ (c .before .before .before .before .before .before .before .before .before .before .before .before .before .before .before .before .before .pre .0) (c .before .before .before .before .before .before .before .before .before .before .before .before .apply .ensures) (c .before .before .before .before .before .before .before .before .dot-re .ensures) (c .before .before .before .before .before .before .before .not-positive .ensures) (c .before .before .before .before .before .before .if1 .left) (c .before .before .before .before .sqrt .ensures) (c .before .before .before .recip .ensures) (c .before .before .scale-by .ensures)
 
 pub normalize-in-mass-spec : {M : Type 1} → statement M
 normalize-in-mass-spec =
@@ -40,7 +40,7 @@ normalize-in-mass-spec =
     (tie.spec
     apply-requires
     dot-re-requires
-    is-unfit-requires
+    not-positive-requires
     same-length
     returns
     sqrt-requires

@@ -19,8 +19,8 @@ same-length c = search needs
 returns : tie.Need-returns
 returns c = step-converged _ _ _ _ _ _ (c .before .before .before .before .before .before .before .before .before .before .before .pre) (c .before .before .before .before .before .before .before .before .update .ensures) (c .before .before .before .before .before .norm .ensures) (c .before .before .before .before .if1 .taken) (c .before .before .advance .ensures)
 
-is-unfit-requires : tie.Need-is-unfit-requires
-is-unfit-requires c κs = search needs
+not-positive-requires : tie.Need-not-positive-requires
+not-positive-requires c κs = search needs
 
 advance-requires-2 : tie.Need-advance-requires-2
 advance-requires-2 c κs = search needs
@@ -29,7 +29,7 @@ same-length-2 : tie.Need-same-length-2
 same-length-2 c = search needs
 
 returns-2 : tie.Need-returns-2
-returns-2 c = step-lost _ _ _ _ _ _ (c .before .before .before .before .before .before .before .before .before .before .before .before .before .pre) (c .before .before .before .before .before .before .before .before .before .before .update .ensures) (c .before .before .before .before .before .before .before .norm .ensures) (c .before .before .before .before .before .before .if1 .left) (c .before .before .before .before .before .is-unfit .ensures) (c .before .before .before .before .if2 .taken) (c .before .before .advance2 .ensures)
+returns-2 c = step-lost _ _ _ _ _ _ (c .before .before .before .before .before .before .before .before .before .before .before .before .before .pre) (c .before .before .before .before .before .before .before .before .before .before .update .ensures) (c .before .before .before .before .before .before .before .norm .ensures) (c .before .before .before .before .before .before .if1 .left) (c .before .before .before .before .before .not-positive .ensures) (c .before .before .before .before .if2 .taken) (c .before .before .advance2 .ensures)
 
 direct-requires : tie.Need-direct-requires
 direct-requires c κs = search needs
@@ -38,7 +38,7 @@ same-length-3 : tie.Need-same-length-3
 same-length-3 c = search needs
 
 returns-3 : tie.Need-returns-3
-returns-3 c = step-going _ _ _ _ _ _ (c .before .before .before .before .before .before .before .before .before .before .before .before .before .before .pre) (c .before .before .before .before .before .before .before .before .before .before .before .update .ensures) (c .before .before .before .before .before .before .before .before .norm .ensures) (c .before .before .before .before .before .before .before .if1 .left) (c .before .before .before .before .before .before .is-unfit .ensures) (c .before .before .before .before .before .if2 .left) (c .before .before .direct .ensures)
+returns-3 c = step-going _ _ _ _ _ _ (c .before .before .before .before .before .before .before .before .before .before .before .before .before .before .pre) (c .before .before .before .before .before .before .before .before .before .before .before .update .ensures) (c .before .before .before .before .before .before .before .before .norm .ensures) (c .before .before .before .before .before .before .before .if1 .left) (c .before .before .before .before .before .before .not-positive .ensures) (c .before .before .before .before .before .if2 .left) (c .before .before .direct .ensures)
 
 pub step-spec : {M : Type 1} → statement M
 step-spec =
@@ -49,7 +49,7 @@ step-spec =
     advance-requires
     same-length
     returns
-    is-unfit-requires
+    not-positive-requires
     advance-requires-2
     same-length-2
     returns-2

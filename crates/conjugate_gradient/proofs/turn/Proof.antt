@@ -7,14 +7,14 @@ use Rattle.conjugate_gradient.proofs.turn.Tie as tie
 multiply-requires : tie.Need-multiply-requires
 multiply-requires c κs = search needs
 
-is-unfit-requires : tie.Need-is-unfit-requires
-is-unfit-requires c κs = search needs
+not-positive-requires : tie.Need-not-positive-requires
+not-positive-requires c κs = search needs
 
 same-length : tie.Need-same-length
 same-length c = search needs
 
 returns : tie.Need-returns
-returns c = turn-broken _ _ _ _ _ _ _ (c .before .before .before .before .multiply .ensures) (c .before .is-unfit .ensures) (c .if1 .taken)
+returns c = turn-broken _ _ _ _ _ _ _ (c .before .before .before .before .multiply .ensures) (c .before .not-positive .ensures) (c .if1 .taken)
 
 step-requires : tie.Need-step-requires
 step-requires c κs = search needs
@@ -23,14 +23,14 @@ same-length-2 : tie.Need-same-length-2
 same-length-2 c = search needs
 
 returns-2 : tie.Need-returns-2
-returns-2 c = turn-stepped _ _ _ _ _ _ _ (c .before .before .before .before .before .before .before .before .before .before .before .before .before .pre .0) (c .before .before .before .before .before .before .before .before .multiply .ensures) (c .before .before .before .before .before .is-unfit .ensures) (c .before .before .before .before .if1 .left) (c .before .before .step .ensures)
+returns-2 c = turn-stepped _ _ _ _ _ _ _ (c .before .before .before .before .before .before .before .before .before .before .before .before .before .pre .0) (c .before .before .before .before .before .before .before .before .multiply .ensures) (c .before .before .before .before .before .not-positive .ensures) (c .before .before .before .before .if1 .left) (c .before .before .step .ensures)
 
 pub turn-spec : {M : Type 1} → statement M
 turn-spec =
     tie.close
     (tie.spec
     multiply-requires
-    is-unfit-requires
+    not-positive-requires
     same-length
     returns
     step-requires
