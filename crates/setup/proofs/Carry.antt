@@ -10,7 +10,7 @@ use Rattle.cells.specs.Region.{region}
 use Rattle.cells.specs.Cell.{regionC}
 use Rattle.cells.proofs.Loops.{tab-ext}
 use Rattle.hermitian.specs.Work.{Graph}
-use Rattle.boundary.proofs.After.{part-region}
+use Rattle.cells.proofs.Changes.{part-region}
 use Rattle.floor.specs.declared.Check.the-variants as check
 use Rattle.floor.specs.Floor.{Floor, trianglesOf}
 use Rattle.transports.specs.declared.Answer.{Answer}
