@@ -103,12 +103,13 @@ tangent-rhs flags targets mass energy ts n = length-tab _ (length (inside flags 
 
 -- ---- the branches
 
+crossed-inverse : (n : ℕ) (mass energy : Matrix) (trace : Float) (k : ℕ) (start : List Complex) → length start ≡ n → Crossed n (afterVector (inverseOf mass energy trace k start))
+crossed-inverse n mass energy trace k start e = crossed-found n (inverseOf mass energy trace k start) (rw e at (inverse-long mass energy trace k start))
+
 crossed-free : (b : Built) (n : ℕ) (start : List Complex) (ts : List Term) (k : ℕ) → length start ≡ n → Crossed n (free b n start ts k)
 unfolding free
 crossed-free b n start ts k e =
-    crossed-cond n (isNone ts) _ _
-    (crossed-found n (inverseOf (b .mass) (b .energy) (b .trace) k start) (rw e at (inverse-long (b .mass) (b .energy) (b .trace) k start)))
-    (crossed-linear n n k (softSystem (b .mass) (b .energy) ts n) (soft-rhs (b .mass) (b .energy) ts n))
+    crossed-cond n (isNone ts) _ _ (crossed-inverse n _ _ _ k start e) (crossed-linear n n k (softSystem (b .mass) (b .energy) ts n) (soft-rhs (b .mass) (b .energy) ts n))
 
 crossed-mode : (mode : BoundaryMode) (b : Built) (n : ℕ) (flags : List ℕ) (targets start : List Complex) (ts : List Term) (k : ℕ) → length targets ≡ n → length start ≡ n
     → Crossed n (byMode mode b n flags targets start ts k)
