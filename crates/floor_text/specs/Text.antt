@@ -80,10 +80,14 @@ unfoldable pub anglesUpTo : List ℕ → ℕ → List Float
 anglesUpTo s zero = []
 anglesUpTo s (suc i) = anglesUpTo s i ++ (radians (third s (1 + i)) ∷ [])
 
+-- the three numbers of line k
+abbrev pub sizesAt : List ℕ → ℕ → List ℕ
+sizesAt s k = sizeOf (first s k) ∷ sizeOf (second s k) ∷ sizeOf (third s k) ∷ []
+
 -- the corners of the first i triangles, behind n points
 unfoldable pub cornersUpTo : List ℕ → ℕ → ℕ → List ℕ
 cornersUpTo s n zero = []
-cornersUpTo s n (suc i) = cornersUpTo s n i ++ (sizeOf (first s (1 + n + i)) ∷ sizeOf (second s (1 + n + i)) ∷ sizeOf (third s (1 + n + i)) ∷ [])
+cornersUpTo s n (suc i) = cornersUpTo s n i ++ sizesAt s (1 + n + i)
 
 abbrev pub pointsIn : List ℕ → List Float
 pointsIn s = pointsUpTo s (pointCount s)

@@ -9,7 +9,7 @@ ghost use lib.ListN.{length};
 ghost use lib.Seq.{sets};
 ghost use Rattle.float.specs.Double.{lit};
 ghost use Rattle.columns.specs.Columns.{isNumber, isWhole, sizeOf, doubleOf};
-ghost use Rattle.floor_text.specs.Text.{columnAt, first, second, third, isLine, isCorners, every, pointCount, triangleCount, isHead, isText, radians, pointsUpTo, anglesUpTo, cornersUpTo, ReadTo};
+ghost use Rattle.floor_text.specs.Text.{columnAt, first, second, third, isLine, isCorners, every, pointCount, triangleCount, isHead, isText, radians, pointsUpTo, anglesUpTo, sizesAt, cornersUpTo, ReadTo};
 use columns::Scan;
 
 // What a text has: a floor of so many points and triangles, with a threshold; or it is of another form.
@@ -235,7 +235,7 @@ fn put_angles(text: &[u8], n: usize, out: &mut [f64])
 
 fn put_triangle(text: &[u8], n: usize, i: usize, out: &mut [u32])
     requires { ⌜ (19 * (1 + n + i) + 19 ≤ length (now text)) × (3 * i + 3 ≤ length (now out)) ⌝ }
-    ensures { λ _. ⌜ now (out .exit) ≡ sets (now (out .entry)) (3 * i) (sizeOf (first (now (text .entry)) (1 + n + i)) ∷ sizeOf (second (now (text .entry)) (1 + n + i)) ∷ sizeOf (third (now (text .entry)) (1 + n + i)) ∷ []) ⌝ }
+    ensures { λ _. ⌜ now (out .exit) ≡ sets (now (out .entry)) (3 * i) (sizesAt (now (text .entry)) (1 + n + i)) ⌝ }
 {
     let a = 19 * (1 + n + i);
     let u = corner_at(text, a);

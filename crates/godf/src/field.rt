@@ -1,9 +1,8 @@
 // The two calls that read a field: the probe and the count of singularities. An answer's case is a code, and its numbers go to
 // places that the caller lends, which keep what they hold where the answer has none.
-ghost use mathlib.Core.Path.{_≡_};
 ghost use Rattle.probe.specs.Probe.{probeOf};
 ghost use Rattle.singularities.specs.Count.{singularities};
-ghost use Rattle.godf.specs.Answers.{probeCode, probeAngle, countCode, threes, fives};
+ghost use Rattle.godf.specs.Answers.{Probed, CountedIn};
 use probe::Probe;
 use singularities::Singularities;
 
@@ -17,7 +16,7 @@ pub extern "C" fn godf_interp_angle(
     y: f64,
     angle: &mut f64,
 ) -> u32
-    ensures { λ r. ⌜ (r ≡ probeCode (probeOf (now (alpha .entry)) (now (points .entry)) (now (tris .entry)) (record { x = x; y = y }))) × (now (angle .exit) ≡ probeAngle (probeOf (now (alpha .entry)) (now (points .entry)) (now (tris .entry)) (record { x = x; y = y })) (now (angle .entry))) ⌝ }
+    ensures { λ r. ⌜ Probed (probeOf (now (alpha .entry)) (now (points .entry)) (now (tris .entry)) (record { x = x; y = y })) (now (angle .entry)) r (now (angle .exit)) ⌝ }
 {
     let answer = probe::interp_angle(alpha, points, tris, x, y);
     match answer {
@@ -39,7 +38,8 @@ pub extern "C" fn godf_count_singularities(
     valence_3: &mut usize,
     valence_5: &mut usize,
 ) -> u32
-    ensures { λ r. ⌜ (r ≡ countCode (singularities (now (alpha .entry)) (now (tris .entry)))) × (now (valence_3 .exit) ≡ threes (singularities (now (alpha .entry)) (now (tris .entry))) (now (valence_3 .entry))) × (now (valence_5 .exit) ≡ fives (singularities (now (alpha .entry)) (now (tris .entry))) (now (valence_5 .entry))) ⌝ }
+    ensures { λ r. ⌜ CountedIn (singularities (now (alpha .entry)) (now (tris .entry)))
+        (now (valence_3 .entry)) (now (valence_5 .entry)) r (now (valence_3 .exit)) (now (valence_5 .exit)) ⌝ }
 {
     let answer = singularities::count_singularities(alpha, tris);
     let Singularities::Counted(counts) = answer else {

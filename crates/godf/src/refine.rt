@@ -1,11 +1,9 @@
 // The refinement call, with the angles given. A slice is a pointer and a length.
 ghost use mathlib.Core.Path.{_≡_};
 ghost use mathlib.Core.List.{[], _∷_};
-ghost use lib.ListN.{length, set};
+ghost use lib.ListN.{set};
 ghost use lib.Seq.{sets};
-ghost use Rattle.refinement.specs.Floor.{refinementOf, trisOf};
-ghost use Rattle.refine_call.specs.Call.{checkCall, answerOf, Called};
-ghost use Rattle.godf.specs.Report.{codeOf, numbersOf};
+ghost use Rattle.godf.specs.Report.{codeOf, numbersOf, ToldOn};
 
 // x at i, if the slice goes so far.
 fn put(report: &mut [u64], i: usize, x: u64)
@@ -61,8 +59,9 @@ pub extern "C" fn godf_refine(
     oe: &mut [u32],
     report: &mut [u64],
 ) -> u64
-    ensures called { λ r. ⌜ Called (checkCall (now (points .entry)) (now (triangles .entry)) (now (sizes .entry)) (length (now (angles .entry))) threshold (length (now (op .entry))) (length (now (os .entry))) (length (now (ot .entry))) (length (now (oe .entry)))) (refinementOf threshold (now (angles .entry)) (now (points .entry)) (now (sizes .entry)) (trisOf (now (triangles .entry)))) (now (op .entry)) (now (os .entry)) (now (ot .entry)) (now (oe .entry)) (answerOf (checkCall (now (points .entry)) (now (triangles .entry)) (now (sizes .entry)) (length (now (angles .entry))) threshold (length (now (op .entry))) (length (now (os .entry))) (length (now (ot .entry))) (length (now (oe .entry)))) (refinementOf threshold (now (angles .entry)) (now (points .entry)) (now (sizes .entry)) (trisOf (now (triangles .entry))))) (now (op .exit)) (now (os .exit)) (now (ot .exit)) (now (oe .exit)) ⌝ }
-    ensures told { λ r. ⌜ (r ≡ codeOf (answerOf (checkCall (now (points .entry)) (now (triangles .entry)) (now (sizes .entry)) (length (now (angles .entry))) threshold (length (now (op .entry))) (length (now (os .entry))) (length (now (ot .entry))) (length (now (oe .entry)))) (refinementOf threshold (now (angles .entry)) (now (points .entry)) (now (sizes .entry)) (trisOf (now (triangles .entry)))))) × (now (report .exit) ≡ sets (now (report .entry)) 0 (numbersOf (answerOf (checkCall (now (points .entry)) (now (triangles .entry)) (now (sizes .entry)) (length (now (angles .entry))) threshold (length (now (op .entry))) (length (now (os .entry))) (length (now (ot .entry))) (length (now (oe .entry)))) (refinementOf threshold (now (angles .entry)) (now (points .entry)) (now (sizes .entry)) (trisOf (now (triangles .entry))))))) ⌝ }
+    ensures { λ r. ⌜ ToldOn (now (points .entry)) (now (triangles .entry)) (now (sizes .entry)) (now (angles .entry)) threshold
+        (now (op .entry)) (now (os .entry)) (now (ot .entry)) (now (oe .entry)) (now (report .entry))
+        r (now (op .exit)) (now (os .exit)) (now (ot .exit)) (now (oe .exit)) (now (report .exit)) ⌝ }
 {
     let answer = refine_call::refine(points, triangles, sizes, angles, threshold, op, os, ot, oe);
     tell(answer, report)

@@ -2,7 +2,9 @@
 -- flagged, cut sides; the triangles; the ends of each cut side"). Definitions only.
 use Prim.Native.Nat.{ℕ, zero, suc, _+_, _*_, _≤_}
 use mathlib.Core.List.{List, [], _∷_, _++_}
-use lib.ListN.{getD}
+use mathlib.Core.Path.{_≡_}
+use lib.ListN.{length, getD}
+use lib.Seq.{sets}
 use Rattle.mesh.specs.Mesh.{Tri, tri, Side, side}
 use Rattle.refinement.specs.Floor.{tris}
 use Rattle.refine_call.specs.declared.Counts.{Counts}
@@ -48,3 +50,7 @@ lineAt l i = lineOf (getD l (3 * i) 0 ∷ getD l (3 * i + 1) 0 ∷ getD l (3 * i
 
 abbrev pub sideAt : List ℕ → ℕ → List ℕ
 sideAt l i = lineOf (getD l (2 * i) 0 ∷ getD l (2 * i + 1) 0 ∷ [])
+
+-- the bytes stand at the front of the slice, and r counts them
+abbrev pub Prints : List ℕ → List ℕ → List ℕ → ℕ → Type 0
+Prints bytes out out′ r = (out′ ≡ sets out 0 bytes) × (r ≡ length bytes)

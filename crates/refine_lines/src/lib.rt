@@ -7,7 +7,7 @@ ghost use lib.ListN.{length};
 ghost use lib.Seq.{sets};
 ghost use Rattle.refinement.specs.Floor.{tris};
 ghost use Rattle.columns.specs.Columns.{lineOf};
-ghost use Rattle.refine_lines.specs.Lines.{triangleLines, sideLines, linesOf, refusedLine, sidesUpTo, lineAt, sideAt, bytesFor, Holds};
+ghost use Rattle.refine_lines.specs.Lines.{triangleLines, sideLines, linesOf, refusedLine, sidesUpTo, lineAt, sideAt, bytesFor, Holds, Prints};
 use refine_call::Answer;
 use refine_call::Counts;
 
@@ -76,7 +76,7 @@ fn put_counts(c: Counts, out: &mut [u8])
 // The lines of an accepted call.
 fn put_floor(c: Counts, ot: &[u32], oe: &[u32], out: &mut [u8]) -> usize
     requires { ⌜ (3 * c .triangles ≤ length (now ot)) × ((2 * c .cut ≤ length (now oe)) × (25 + 19 * c .triangles + 13 * c .cut ≤ length (now out))) ⌝ }
-    ensures { λ r. ⌜ (now (out .exit) ≡ sets (now (out .entry)) 0 (linesOf c (tris (now (ot .entry)) (c .triangles)) (sidesUpTo (now (oe .entry)) (c .cut)))) × (r ≡ length (linesOf c (tris (now (ot .entry)) (c .triangles)) (sidesUpTo (now (oe .entry)) (c .cut)))) ⌝ }
+    ensures { λ r. ⌜ Prints (linesOf c (tris (now (ot .entry)) (c .triangles)) (sidesUpTo (now (oe .entry)) (c .cut))) (now (out .entry)) (now (out .exit)) r ⌝ }
 {
     let k = c.triangles;
     let m = c.cut;

@@ -5,6 +5,7 @@ ghost use Prim.Native.Nat.{_*_, _/_, _≤_};
 ghost use lib.ListN.{length, take, replicate};
 ghost use lib.Seq.{sets};
 ghost use Rattle.float.specs.Double.{lit};
+ghost use Rattle.refine_lines.specs.Lines.{Prints};
 ghost use Rattle.refine_text.specs.Printed.{printed, longest, filledBy, countBy};
 ghost use Rattle.refine_text.specs.Steps.{bytesFrom, Sized};
 use floor_text::Read;
@@ -28,7 +29,8 @@ fn answer_into(
     out: &mut [u8],
 ) -> usize
     requires { ⌜ Sized (length (now triangles)) (length (now op)) (length (now os)) (length (now ot)) (length (now oe)) (length (now out)) ⌝ }
-    ensures { λ r. ⌜ (now (out .exit) ≡ sets (now (out .entry)) 0 (bytesFrom (now (points .entry)) (now (triangles .entry)) (now (sizes .entry)) (now (angles .entry)) threshold)) × (r ≡ length (bytesFrom (now (points .entry)) (now (triangles .entry)) (now (sizes .entry)) (now (angles .entry)) threshold)) ⌝ }
+    ensures { λ r. ⌜ Prints (bytesFrom (now (points .entry)) (now (triangles .entry)) (now (sizes .entry)) (now (angles .entry)) threshold)
+        (now (out .entry)) (now (out .exit)) r ⌝ }
 {
     let answer = refine_call::refine(points, triangles, sizes, angles, threshold, op, os, ot, oe);
     refine_lines::write_answer(answer, ot, oe, out)
@@ -44,7 +46,8 @@ fn answer_floor(
     out: &mut [u8],
 ) -> usize
     requires { ⌜ (length (now triangles) / 3 ≤ 256) × (longest ≤ length (now out)) ⌝ }
-    ensures { λ r. ⌜ (now (out .exit) ≡ sets (now (out .entry)) 0 (bytesFrom (now (points .entry)) (now (triangles .entry)) (now (sizes .entry)) (now (angles .entry)) threshold)) × (r ≡ length (bytesFrom (now (points .entry)) (now (triangles .entry)) (now (sizes .entry)) (now (angles .entry)) threshold)) ⌝ }
+    ensures { λ r. ⌜ Prints (bytesFrom (now (points .entry)) (now (triangles .entry)) (now (sizes .entry)) (now (angles .entry)) threshold)
+        (now (out .entry)) (now (out .exit)) r ⌝ }
 {
     let mut op = [0.0; 3072];
     let mut os = [0.0; 1024];
@@ -79,7 +82,8 @@ fn answer_front(
 ) -> usize
     requires { ⌜ ((n ≤ 256) × (t ≤ 256)) × (longest ≤ length (now out)) ⌝ }
     requires { ⌜ (length (now points) ≡ 768) × ((length (now corners) ≡ 768) × ((length (now sizes) ≡ 256) × (length (now angles) ≡ 256))) ⌝ }
-    ensures { λ r. ⌜ (now (out .exit) ≡ sets (now (out .entry)) 0 (bytesFrom (take (3 * n) (now (points .entry))) (take (3 * t) (now (corners .entry))) (take n (now (sizes .entry))) (take n (now (angles .entry))) threshold)) × (r ≡ length (bytesFrom (take (3 * n) (now (points .entry))) (take (3 * t) (now (corners .entry))) (take n (now (sizes .entry))) (take n (now (angles .entry))) threshold)) ⌝ }
+    ensures { λ r. ⌜ Prints (bytesFrom (take (3 * n) (now (points .entry))) (take (3 * t) (now (corners .entry))) (take n (now (sizes .entry))) (take n (now (angles .entry))) threshold)
+        (now (out .entry)) (now (out .exit)) r ⌝ }
 {
     let a = 3 * n;
     let b = 3 * t;

@@ -30,7 +30,7 @@ same-length-5 : tie.Need-same-length-5
 same-length-5 c = search needs
 
 returns : tie.Need-returns
-returns c = let e = c .before .before .before .before .before .before .before .before .before .before .before .before .refine .ensures in (record { answer = refl; points = e .points; sizes = e .sizes; triangles = e .triangles; ends = e .ends }, (c .before .before .tell .ensures .0 ∙ ap codeOf (e .answer), c .before .before .tell .ensures .1 ∙ ap (λ (l : List ℕ). sets (c .before .before .before .before .before .before .before .before .before .before .before .before .before .before .before .before .before .before .before .before .before .before .before .before .before .before .args .report .now) 0 l) (ap numbersOf (e .answer))))
+returns c = let e = c .before .before .before .before .before .before .before .before .before .before .before .before .refine .ensures in record { called = record { answer = refl; points = e .points; sizes = e .sizes; triangles = e .triangles; ends = e .ends }; told = c .before .before .tell .ensures .0 ∙ ap codeOf (e .answer); numbers = c .before .before .tell .ensures .1 ∙ ap (λ (l : List ℕ). sets (c .before .before .before .before .before .before .before .before .before .before .before .before .before .before .before .before .before .before .before .before .before .before .before .before .before .before .args .report .now) 0 l) (ap numbersOf (e .answer)) }
 
 pub godf-refine-spec : {M : Type 1} → statement M
 godf-refine-spec =
