@@ -11,7 +11,7 @@ use lib.Dec.{ltb}
 use lib.ListN.{length, getD}
 use lib.Ieee.{nan}
 use Rattle.mesh.specs.Mesh.{Tri, tri, Good, All}
-use Rattle.mesh.proofs.Cuts.{Keyed, cuts-keyed}
+use Rattle.setup.proofs.Keyed.{Keyed, cuts-keyed}
 use Rattle.cells.proofs.Loops.{length-tab, getD-tab}
 use Rattle.edges.specs.Table.{lower, upper}
 use Rattle.edges.proofs.Split.{length-map}
@@ -25,7 +25,7 @@ use Rattle.transports.specs.declared.Answer.{Answer}
 use Rattle.transports.specs.declared.Answer.the-variants as answer
 use Rattle.transports.specs.Transports as transports
 use Rattle.transports.proofs.Lists.{length-coefficients}
-use Rattle.options.specs.Pass.{InRange}
+use Rattle.mesh.specs.Claim.{InRange}
 use Rattle.refusal.specs.Refusal.{row}
 use Rattle.setup.specs.declared.Setup.{Setup}
 use Rattle.setup.specs.declared.Setup.the-variants.{Edges, Refused}

@@ -9,7 +9,7 @@ use lib.ListN.{length, getD}
 use lib.Seq.{ext-getD}
 use lib.Ieee.{Float}
 use Rattle.mesh.specs.Mesh.{Side, side, Tri, tri, sidesAfter, All}
-use Rattle.mesh.proofs.Cuts.{Keyed}
+use Rattle.setup.proofs.Keyed.{Keyed}
 use Rattle.cells.specs.Region.{region}
 use Rattle.cells.proofs.Regions.{length-region, getD-region}
 use Rattle.edges.specs.Table.{loOf, hiOf, sidesIn, lower, upper, split, NumbersOf}

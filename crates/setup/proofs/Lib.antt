@@ -1,3 +1,4 @@
+pub mod Keyed
 pub mod Floors
 pub mod Slices
 pub mod Turn

@@ -13,7 +13,7 @@ use Rattle.edges.proofs.Numbering.{length-tris, tri-at}
 use Rattle.floor.specs.Floor.{Floor, pointsOf, trianglesOf, valueAt, triangleAt}
 use Rattle.geometries.specs.Geometries.{coordsFrom}
 use Rattle.geometries.proofs.Steps.{corners-below}
-use Rattle.options.specs.Pass.{InRange}
+use Rattle.mesh.specs.Claim.{InRange}
 use Rattle.layout.specs.declared.Layout.{Layout}
 use Rattle.layout.specs.Layout.{Ordered}
 use Rattle.layout.specs.Work.{floorIn}
