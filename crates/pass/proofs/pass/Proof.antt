@@ -8,7 +8,7 @@ layout-at-requires : tie.Need-layout-at-requires
 layout-at-requires c κs = search needs
 
 set-up-requires : tie.Need-set-up-requires
-set-up-requires c κs = (ordered-by (c .before .before .before .before .before .args .at) (c .before .before .layout-at .ensures) (c .before .before .before .before .before .pre .0), below-by (c .before .before .before .before .before .args .at) _ _ (c .before .before .layout-at .ensures) (c .before .before .before .before .before .pre .1))
+set-up-requires c κs = (ordered-by (c .before .before .before .before .before .args .at) (c .before .before .layout-at .ensures) (c .before .before .before .before .before .pre .0), below-by (c .before .before .before .before .before .args .at) _ (c .before .before .before .before .before .args .u .now) (c .before .before .layout-at .ensures) (c .before .before .before .before .before .pre .1))
 
 enum-known-found : tie.Need-enum-known-found
 enum-known-found c = search needs
