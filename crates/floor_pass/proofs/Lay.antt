@@ -146,7 +146,7 @@ module _ (at : Base) (guided : Bool) (points sizes angles : List Float) (c : Cut
       ∙ region-put _ (l .sizes) _ long-sizes nan (omega (arith, ok .fits .reals-fit, length-put (put w (l .x) (coordinatePlane points cuts 0)) (l .y) (coordinatePlane points cuts 1), length-put w (l .x) (coordinatePlane points cuts 0)))
 
   floor-laid : floorIn l ready u ≡ floorOf (morePoints points cuts) (trisFrom (at .words) u (at .triangles)) (moreSizes sizes cuts)
-  unfolding floorIn floorOf layoutOf
+  unfolding floorIn layoutOf
   floor-laid = λ k. record {
     xs = (xs-laid ∙ x-plane points cuts (ok .whole)) k;
     ys = (ys-laid ∙ y-plane points cuts (ok .whole)) k;
