@@ -1,5 +1,5 @@
--- A whole solve is what its checks, its passes and the copies of the angles come to: `Ends` of `solveOf`, from what each of them ensures. And the claims
--- of crate calls hold of it, over the pass of this project. Assumes nothing.
+-- A whole solve is what its checks, its passes and the copies of the angles come to: `Ends` of `solveOf`, from what each of them ensures. And what the calls of
+-- `solve` ask for. Assumes nothing.
 use Prim.Native.Nat.{ℕ, _+_, _*_, _/_, _≤_, _<_}
 use native.Mathlib.Omega.{arith}
 use mathlib.Core.Path.{_≡_, refl, sym, ap, _∙_}
@@ -13,14 +13,11 @@ use Rattle.floor.specs.declared.Check.the-variants as check
 use Rattle.refinement.specs.Floor.{over}
 use Rattle.options.specs.Pass.{Passed, field, faulty}
 use Rattle.pass.specs.Pass.{passOf}
-use Rattle.pass.proofs.Facts.{pass-facts}
 use Rattle.calls.specs.declared.Counts.{Counts}
 use Rattle.calls.specs.declared.Outcome.{Outcome}
 use Rattle.calls.specs.declared.Outcome.the-variants as outcome
 use Rattle.calls.specs.Checks.{Call, Lent, lengthsOf, pointsIn, trianglesIn, isAdaptive, mostPoints, mostTriangles, checkSolve}
 use Rattle.calls.specs.Solve.{firstPass, secondPass, refinedBy, refines, early, Ended, afterSecond, afterFirst, afterChecks, solvedOnce, solveOf, Ends}
-use Rattle.calls.specs.Claim.{DemandThree}
-use Rattle.calls.proofs.Claim.{demand-three}
 use Rattle.calls.proofs.Ready.{sound-ready}
 use Rattle.calls.proofs.Room.{second-points, second-few}
 use Rattle.solve.specs.declared.Found.{Found}
@@ -143,7 +140,3 @@ finish-room c l s {w′} {u′} {found} made =
       coarse-room = r .coarse-room;
       second-fits = twice-fits c l s (length w′) (made .lengths .all-reals) found (made .answer);
     }
-
--- ---- demand 3 holds of every accepted solve that refines: `solve` ensures `Ends` of `solveOf passOf`
-pub demand-three-holds : DemandThree passOf
-demand-three-holds = demand-three passOf pass-facts
