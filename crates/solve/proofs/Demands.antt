@@ -29,7 +29,7 @@ module _ (c : Call) (lent : Lent) {r : Outcome} {coarse fine work : List Float} 
   refining : (counts : Counts) (alpha : List Float) → Refines c r counts alpha → DemandThree c lent counts alpha coarse fine
   refining counts alpha h =
       let claim : RefiningSolve passOf c lent counts alpha = refining-solve passOf pass-facts c lent counts alpha
-        (record { accepted = sym (ends .outcome) ∙ h .accepted; first = h .first; above = h .above; flags = h .flags }) in
+      (record { accepted = sym (ends .outcome) ∙ h .accepted; first = h .first; above = h .above; flags = h .flags }) in
       record { claim = claim; answer = rw (ends .coarse-left, ends .fine-left) (claim .answer) }
 
   pub demands : Demands c lent r coarse fine work numbers
