@@ -1,25 +1,49 @@
-// The solve. A slice is a pointer and a length, a reference to an array a pointer: C sees seven doubles as a struct godf_options, and seven counts as a struct
-// godf_report.
+// The solve. A slice is a pointer and a length, a reference to an array a pointer: C sees seven doubles as a struct godf_options, and seven numbers as a
+// struct godf_report.
+ghost use mathlib.Core.Path.{_≡_};
+ghost use Prim.Native.Nat.{_≤_};
+ghost use Rattle.pass.specs.Pass.{passOf};
+ghost use Rattle.calls.specs.Solve.{solveOf, numberOf};
+ghost use Rattle.solve.specs.Passes.{callFor, lent};
+ghost use Rattle.godf.specs.Solve.{boundaryOf, optionsOf, askedOf, reportOf, SolveTold, mostOf, fineCount, workReals, workWords, AnswerTold};
 use calls::Outcome;
 use options::BoundaryMode;
 use options::Options;
 use pass::Asked;
 
-// The boundary mode of a number: 0 none, 1 tangent, 2 weak. Any other is weak with a weight that is no number, which row 13 refuses.
-fn boundary_of(mode: f64, weight: f64) -> BoundaryMode {
-    if mode == 0.0 {
+// Row 1's limits.
+const MOST_POINTS: usize = 16384;
+
+const MOST_TRIANGLES: usize = 32768;
+
+// The boundary modes as numbers.
+const NONE: f64 = 0.0;
+
+const TANGENT: f64 = 1.0;
+
+const WEAK: f64 = 2.0;
+
+// Any other number is a weak mode of this weight, which row 13 refuses.
+const NO_WEIGHT: f64 = -1.0;
+
+fn boundary_of(mode: f64, weight: f64) -> BoundaryMode
+    ensures { λ r. ⌜ r ≡ boundaryOf mode weight ⌝ }
+{
+    if mode == NONE {
         return BoundaryMode::None;
     }
-    if mode == 1.0 {
+    if mode == TANGENT {
         return BoundaryMode::Tangent;
     }
-    if mode == 2.0 {
+    if mode == WEAK {
         return BoundaryMode::Weak(weight);
     }
-    BoundaryMode::Weak(float::from_bits(0x7ff8_0000_0000_0000))
+    BoundaryMode::Weak(NO_WEIGHT)
 }
 
-fn options_of(o: &[f64; 7]) -> Options {
+fn options_of(o: &[f64; 7]) -> Options
+    ensures { λ r. ⌜ r ≡ optionsOf (now (o .entry)) ⌝ }
+{
     let boundary = boundary_of(o[4], o[5]);
     Options {
         accurate: o[0] != 0.0,
@@ -31,16 +55,28 @@ fn options_of(o: &[f64; 7]) -> Options {
     }
 }
 
-// Tells an outcome: number, place, other place, pass, reason, flagged triangles, cut sides; each 0 where there is none.
-fn tell(outcome: Outcome, report: &mut [u64; 7]) -> u64 {
+fn asked_of(guided: u32, weight: f64, iterations: usize) -> Asked
+    ensures { λ r. ⌜ r ≡ askedOf guided weight iterations ⌝ }
+{
+    Asked {
+        guided: guided != 0,
+        weight,
+        iterations,
+    }
+}
+
+// Tells an outcome: its number, and all seven of the report.
+fn tell_outcome(outcome: Outcome, report: &mut [u64; 7]) -> u64
+    ensures { λ r. ⌜ (r ≡ numberOf outcome) × (now (report .exit) ≡ reportOf outcome) ⌝ }
+{
     match outcome {
         Outcome::Solved(c) => {
             *report = [0, 0, 0, 0, 0, c.flagged as u64, c.cut as u64];
             0
         }
-        Outcome::Refused(r) => {
-            *report = [r.number, r.place, r.other, r.pass, r.reason, 0, 0];
-            r.number
+        Outcome::Refused(x) => {
+            *report = [x.number, x.place, x.other, x.pass, x.reason, 0, 0];
+            x.number
         }
     }
 }
@@ -61,52 +97,88 @@ pub extern "C" fn godf_solve(
     work: &mut [f64],
     numbers: &mut [u32],
     report: &mut [u64; 7],
-) -> u64 {
-    let asked = Asked {
-        guided: guided != 0,
-        weight,
-        iterations,
-    };
-    let outcome = solve::solve(points, triangles, sizes, guidance, coarse, fine, work, numbers, options_of(options), asked);
-    tell(outcome, report)
+) -> u64
+    ensures { λ r. ⌜ SolveTold
+        (solveOf passOf
+        (callFor (now (points .entry)) (now (triangles .entry)) (now (sizes .entry)) (now (guidance .entry)) (optionsOf (now (options .entry))) (askedOf guided weight iterations))
+        (lent (now (coarse .entry)) (now (fine .entry)) (now (work .entry)) (now (numbers .entry))))
+        r (now (coarse .exit)) (now (fine .exit)) (now (work .exit)) (now (numbers .exit)) (now (report .exit)) ⌝ }
+{
+    let o = options_of(options);
+    let a = asked_of(guided, weight, iterations);
+    let outcome = solve::solve(
+        points,
+        triangles,
+        sizes,
+        guidance,
+        coarse,
+        fine,
+        work,
+        numbers,
+        o,
+        a,
+    );
+    tell_outcome(outcome, report)
 }
 
-// Whether row 1 refuses so many points and triangles.
-fn too_many(n: usize, triangles: usize) -> bool {
-    n > 16384 || triangles > 32768
+// Row 18's n' and t'.
+pub struct Most {
+    pub points: usize,
+    pub triangles: usize,
 }
 
-// How many points the refined floor has at most: row 18's n' where the threshold is above 0. Otherwise 0, as where row 1 refuses.
-#[no_mangle]
-pub extern "C" fn godf_fine_count(n: usize, triangles: usize, threshold: f64) -> usize {
-    if too_many(n, triangles) {
-        return 0;
+fn most_of(n: usize, triangles: usize, threshold: f64) -> Most
+    ensures { λ r. ⌜ (r ≡ mostOf n triangles threshold) × ((r .points ≤ 114688) × (r .triangles ≤ 131072)) ⌝ }
+{
+    if n > MOST_POINTS {
+        return Most {
+            points: 0,
+            triangles: 0,
+        };
     }
+    if triangles > MOST_TRIANGLES {
+        return Most {
+            points: 0,
+            triangles: 0,
+        };
+    }
+    let points = calls::most_points(threshold > 0.0, n, triangles);
+    Most {
+        points,
+        triangles: calls::most_triangles(threshold > 0.0, triangles),
+    }
+}
+
+// How long the fine slice has to be by row 18; 0 where row 1 refuses so many points and triangles.
+#[no_mangle]
+pub extern "C" fn godf_fine_count(n: usize, triangles: usize, threshold: f64) -> usize
+    ensures { λ r. ⌜ r ≡ fineCount n triangles threshold ⌝ }
+{
     if threshold > 0.0 {
-        return calls::most_points(true, n, triangles);
+        return most_of(n, triangles, threshold).points;
     }
     0
 }
 
-// How long the f64 work has to be by row 18; 0 where row 1 refuses.
+// The f64 work likewise.
 #[no_mangle]
-pub extern "C" fn godf_work_f64(n: usize, triangles: usize, threshold: f64) -> usize {
-    if too_many(n, triangles) {
-        return 0;
-    }
-    64 * calls::most_points(threshold > 0.0, n, triangles) + 32 * calls::most_triangles(threshold > 0.0, triangles)
+pub extern "C" fn godf_work_f64(n: usize, triangles: usize, threshold: f64) -> usize
+    ensures { λ r. ⌜ r ≡ workReals n triangles threshold ⌝ }
+{
+    let m = most_of(n, triangles, threshold);
+    64 * m.points + 32 * m.triangles
 }
 
-// How long the u32 work has to be by row 18; 0 where row 1 refuses.
+// The u32 work likewise.
 #[no_mangle]
-pub extern "C" fn godf_work_u32(n: usize, triangles: usize, threshold: f64) -> usize {
-    if too_many(n, triangles) {
-        return 0;
-    }
-    16 * calls::most_points(threshold > 0.0, n, triangles) + 32 * calls::most_triangles(threshold > 0.0, triangles)
+pub extern "C" fn godf_work_u32(n: usize, triangles: usize, threshold: f64) -> usize
+    ensures { λ r. ⌜ r ≡ workWords n triangles threshold ⌝ }
+{
+    let m = most_of(n, triangles, threshold);
+    16 * m.points + 32 * m.triangles
 }
 
-// The answer of a solve: calls::answer, as a slice's front: 0 of `coarse`, 1 of `fine`, so many as `count` says.
+// The answer of a solve: calls::answer, as the first `count` angles of `coarse` (0) or of `fine` (1).
 #[no_mangle]
 pub extern "C" fn godf_answer<'a>(
     coarse: &'a [f64],
@@ -114,7 +186,9 @@ pub extern "C" fn godf_answer<'a>(
     n: usize,
     flagged: usize,
     count: &mut usize,
-) -> u32 {
+) -> u32
+    ensures { λ r. ⌜ AnswerTold n flagged (now (coarse .entry)) (now (fine .entry)) r (now (count .exit)) ⌝ }
+{
     let part = calls::answer(coarse, fine, n, flagged);
     *count = part.len();
     if flagged == 0 {
