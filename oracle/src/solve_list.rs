@@ -42,15 +42,15 @@ fn row(case: &Case, given: &Given) -> Vec<u64> {
     };
     let (guided, pull) = case.guidance.as_ref().map_or((0, 0.0), |g| (1, g.weight));
     let counts = [case.points.len(), case.tris.len(), case.sizes.len(), angles.len()];
-    let (told, place, coarse, fine) = match given.answer {
+    let (told, places, coarse, fine) = match given.answer {
         Answer::Refused(r) => (
-            [r.number.into(), r.reason.into(), r.pass.into(), 0],
+            [r.number.into(), r.reason.into(), r.pass.into()],
             [r.place[0], r.place[1], 0, 0],
             0,
             0,
         ),
         Answer::Accepted { flagged, cut } => (
-            [0; 4],
+            [0; 3],
             [0, 0, flagged as u64, cut as u64],
             case.n(),
             if flagged > 0 { case.n() + cut } else { 0 },
@@ -60,7 +60,7 @@ fn row(case: &Case, given: &Given) -> Vec<u64> {
         0,
         four(counts.map(|k| k as u64)),
         four(case.lent().map(|k| k as u64)),
-        four([guided, o.accurate.into(), boundary, 0]),
+        four([guided, o.accurate.into(), boundary, coarse as u64]),
         word(pull),
         word(o.holomorphic),
         word(o.anisotropy),
@@ -68,8 +68,8 @@ fn row(case: &Case, given: &Given) -> Vec<u64> {
         word(weight),
         word(o.adaptive),
         case.iterations,
-        four(told),
-        four(place),
+        four([told[0], told[1], told[2], fine as u64]),
+        four(places),
     ];
     row.extend(words(&case.points));
     row.extend(words(&case.sizes));

@@ -92,17 +92,6 @@ pub fn paused(seen: Tally) -> Tally
     }
 }
 
-// Perhaps more, though the chunk has no other row.
-pub fn more(seen: Tally) -> Tally
-    ensures { λ r. ⌜ r ≡ record { more = true; recorded = seen .recorded; differ = seen .differ } ⌝ }
-{
-    Tally {
-        more: true,
-        recorded: seen.recorded,
-        differ: seen.differ,
-    }
-}
-
 // One row more, which holds for the program too, or differs.
 pub fn judged(seen: Tally, holds: bool) -> Tally
     ensures { λ r. ⌜ r ≡ judgedBy holds seen ⌝ }
