@@ -109,7 +109,9 @@ fn tells_right(case: &Case, given: &Given) -> bool {
     let from = if flagged == 0 { &given.coarse } else { &given.fine };
     let part = if from.len() < n { &from[..0] } else { &from[..n] };
     let answer = godf::answer(&given.coarse, &given.fine, n, flagged);
-    godf::needed(n, t, case.options.adaptive) == needed && answer.as_ptr() == part.as_ptr() && answer.len() == part.len()
+    godf::needed(n, t, case.options.adaptive) == needed
+        && answer.as_ptr() == part.as_ptr()
+        && answer.len() == part.len()
 }
 
 impl Candidate for Godf {

@@ -235,7 +235,10 @@ pub fn solve(case: &Case, lent: &mut Lent) -> (u64, Report) {
         adaptive: o.adaptive,
     };
     let none = vec![];
-    let (guided, weight, angles) = case.guidance.as_ref().map_or((0, 0.0, &none), |g| (1, g.weight, &g.angle));
+    let (guided, weight, angles) = case
+        .guidance
+        .as_ref()
+        .map_or((0, 0.0, &none), |g| (1, g.weight, &g.angle));
     let held = u64::from(MARK_U32);
     let mut report = Report {
         number: held,

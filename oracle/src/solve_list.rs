@@ -84,7 +84,12 @@ fn row(case: &Case, given: &Given) -> Vec<u64> {
 /// The calls whose outcome is known, and the first of a seed, that have room in the program: `count` solves, and twice as many passes.
 /// What they come to is said on the error stream.
 pub fn record(reference: &Reference, seed: u64, count: u64, folder: &Path) {
-    let calls = || known::cases().into_iter().chain((0..).map(|i| cases::nth(seed, i))).filter(fits);
+    let calls = || {
+        known::cases()
+            .into_iter()
+            .chain((0..).map(|i| cases::nth(seed, i)))
+            .filter(fits)
+    };
     let list = |name: &str, calls: &mut dyn Iterator<Item = Case>| {
         let mut list = Parted::new(folder, name);
         let mut outcomes: BTreeMap<String, usize> = BTreeMap::new();
@@ -97,6 +102,12 @@ pub fn record(reference: &Reference, seed: u64, count: u64, folder: &Path) {
             eprintln!("{name} {times:6} {outcome}");
         }
     };
-    list("passes", &mut calls().filter(|c| c.options.adaptive == 0.0).take(2 * count as usize));
-    list("solves", &mut calls().filter(|c| c.options.adaptive != 0.0).take(count as usize));
+    list(
+        "passes",
+        &mut calls().filter(|c| c.options.adaptive == 0.0).take(2 * count as usize),
+    );
+    list(
+        "solves",
+        &mut calls().filter(|c| c.options.adaptive != 0.0).take(count as usize),
+    );
 }

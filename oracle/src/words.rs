@@ -71,7 +71,9 @@ impl Parted {
 
     fn put(&mut self, words: &[u64]) {
         let text: Vec<String> = words.iter().map(|w| format!("{w:016x}")).collect();
-        self.file.write_all((text.join(" ") + "\n").as_bytes()).expect("recorded words");
+        self.file
+            .write_all((text.join(" ") + "\n").as_bytes())
+            .expect("recorded words");
         self.used = (self.used + words.len()) % CHUNK;
     }
 
