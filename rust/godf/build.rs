@@ -47,13 +47,15 @@ fn build(project: &Path) {
 fn main() {
     println!("cargo:rerun-if-env-changed=GODF_LIBRARY");
     println!("cargo:rerun-if-changed=build.rs");
-    let project = PathBuf::from(env::var_os("CARGO_MANIFEST_DIR").expect("CARGO_MANIFEST_DIR")).join("../..");
+    let here = PathBuf::from(env::var_os("CARGO_MANIFEST_DIR").expect("CARGO_MANIFEST_DIR"));
+    // this folder is rust/godf of the project
+    let project = here.ancestors().nth(2).unwrap_or(&here);
     let named = env::var_os("GODF_LIBRARY").map(PathBuf::from);
     let folder = named.clone().unwrap_or_else(|| project.join("target/staticlib"));
     let library = folder.join("libgodf.a");
     println!("cargo:rerun-if-changed={}", library.display());
     if named.is_none() && !library.exists() {
-        build(&project);
+        build(project);
     }
     let bytes = fs::read(&library).unwrap_or_else(|e| stop(&format!("{}: {e}", library.display())));
     if !bytes.windows(NEWEST_CALL.len()).any(|name| name == NEWEST_CALL) {
