@@ -244,3 +244,31 @@ fn corners_past_32_bits() {
     assert_eq!(simons_godf::interp_angle(&[0.25; 3], &points, &tris, [0.1, 0.1]), 0.25);
     assert_eq!(simons_godf::count_singularities(&[0.0, 0.5, 1.0], &tris), (1, 0));
 }
+
+/// The reference's signatures, as it has them.
+#[test]
+fn signatures() {
+    type Points<'a> = &'a [[f64; 3]];
+    type Triangles<'a> = &'a [[usize; 3]];
+    type Angles = Result<Vec<f64>, String>;
+    use simons_godf::{Guidance, Options};
+    let _: fn(Points, Triangles, &[f64], usize) -> Angles = simons_godf::solve;
+    let _: fn(Points, Triangles, &[f64], &Options, usize) -> Angles = simons_godf::solve_with_options;
+    let _: fn(Points, Triangles, &[f64], &Guidance, usize) -> Angles = simons_godf::solve_with_guidance;
+    let _: fn(Points, Triangles, &[f64], &Guidance, &Options, usize) -> Angles =
+        simons_godf::solve_with_guidance_and_options;
+    let _: fn(&[f64], Points, Triangles, [f64; 2]) -> f64 = simons_godf::interp_angle;
+    let _: fn(&[f64], Triangles) -> (usize, usize) = simons_godf::count_singularities;
+    let default = Options::default();
+    assert!(!default.accurate && default.boundary == simons_godf::BoundaryMode::None);
+    assert_eq!((default.holomorphic, default.anisotropy), (0.0, 1.0));
+    assert_eq!((default.anisotropy_angle, default.adaptive), (0.0, 0.0));
+}
+
+/// A workspace can be handed to another thread.
+#[test]
+fn workspaces_travel() {
+    fn travels<T: Send + Sync>() {}
+    travels::<Workspace>();
+    travels::<Refusal>();
+}
