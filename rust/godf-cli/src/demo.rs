@@ -23,14 +23,19 @@ pub struct Scene {
     pub adaptive: f64,
 }
 
+/// By the root alone, which is the same on every machine, so that a demo is.
+fn length(x: f64, y: f64) -> f64 {
+    (x * x + y * y).sqrt()
+}
+
 fn circle([x, y]: Point, [cx, cy]: Point, radius: f64) -> f64 {
-    (x - cx).hypot(y - cy) - radius
+    length(x - cx, y - cy) - radius
 }
 
 /// A rectangle with round corners, by its middle and the half of its sides.
 fn rounded([x, y]: Point, [cx, cy]: Point, [w, h]: Point, radius: f64) -> f64 {
     let (u, v) = ((x - cx).abs() - (w - radius), (y - cy).abs() - (h - radius));
-    u.max(0.0).hypot(v.max(0.0)) + u.max(v).min(0.0) - radius
+    length(u.max(0.0), v.max(0.0)) + u.max(v).min(0.0) - radius
 }
 
 /// Both shapes, with the inner corners between them filled round.
@@ -117,7 +122,7 @@ fn between(a: Point, b: Point, t: f64) -> Point {
 }
 
 fn far(a: Point, b: Point) -> f64 {
-    (a[0] - b[0]).hypot(a[1] - b[1])
+    length(a[0] - b[0], a[1] - b[1])
 }
 
 /// A lattice over a shape: positions, values of the shape there, and triangles.

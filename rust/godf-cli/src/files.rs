@@ -74,16 +74,29 @@ fn folder_of(path: &Path) -> &Path {
     }
 }
 
+/// The file that a name means, links followed.
+fn meant_by(name: &str) -> PathBuf {
+    let path = Path::new(name);
+    let beside = || Some(fs::canonicalize(folder_of(path)).ok()?.join(path.file_name()?));
+    fs::canonicalize(path)
+        .ok()
+        .or_else(beside)
+        .unwrap_or_else(|| path.to_path_buf())
+}
+
 impl Outputs {
     /// Writes a text beside the file that is meant.
     pub fn stage(&mut self, name: &str, text: String) -> Result<(), String> {
-        let meant = fs::canonicalize(name).unwrap_or_else(|_| PathBuf::from(name));
+        let meant = meant_by(name);
         let special = fs::metadata(&meant).is_ok_and(|data| !data.is_file() && !data.is_dir());
         if name == STANDARD || special {
             self.direct.push((name.to_string(), text));
             return Ok(());
         }
         check(name)?;
+        if self.staged.iter().any(|other| other.meant == meant) {
+            return Err(format!("cannot write {name}: another output goes there"));
+        }
         let last = meant.file_name().unwrap_or_default().to_string_lossy().into_owned();
         let written = folder_of(&meant).join(format!(".{last}.{}.part", process::id()));
         // from here on the part is removed, whatever happens

@@ -11,9 +11,9 @@ use arguments::{Arguments, Command, Demo};
 use files::Outputs;
 use godf::{BoundaryMode, Floor, Guidance, Options, Probe, Refined, Refusal, Singularity, Valence, Workspace};
 use stages::Stages;
-use std::{fmt::Write, process::ExitCode};
+use std::{ffi::OsString, fmt::Write, process::ExitCode};
 use svg::Picture;
-use text::{grouped, OwnedFloor};
+use text::{counted, grouped, OwnedFloor};
 
 const REFUSED: u8 = 1;
 const WRONG_USE: u8 = 2;
@@ -58,8 +58,15 @@ impl Solved {
 }
 
 fn counts(floor: Floor) -> String {
-    let (points, triangles) = (grouped(floor.points.len()), grouped(floor.triangles.len()));
-    format!("{points} points, {triangles} triangles")
+    let [points, triangles] =
+        [(floor.points.len(), "point"), (floor.triangles.len(), "triangle")].map(|(n, of)| counted(n, of));
+    format!("{points}, {triangles}")
+}
+
+/// What a refinement did.
+fn refinement(flagged: usize, cut: usize, refined: Floor) -> String {
+    let (flagged, cut) = (counted(flagged, "triangle"), counted(cut, "side"));
+    format!("refined: {flagged} flagged, {cut} cut: {}\n", counts(refined))
 }
 
 /// What was asked of a solve, with a demo's own wishes where nothing was said.
@@ -190,12 +197,7 @@ fn solve_and_write(
         .map_or(&[][..], |(refined, _)| &refined.cut_sides);
     let mut summary = format!("{name}: {}; {}\n", counts(floor), said(options, arguments));
     if options.adaptive > 0.0 {
-        let (flagged, sides) = (grouped(solved.flagged.len()), grouped(cut.len()));
-        let _ = writeln!(
-            summary,
-            "refined: {flagged} triangles flagged, {sides} sides cut: {}",
-            counts(last)
-        );
+        summary += &refinement(solved.flagged.len(), cut.len(), last);
     }
     let _ = writeln!(summary, "singularities: {}", charges(&singularities));
     let mut outputs = Outputs::default();
@@ -230,11 +232,10 @@ fn refine_and_write(stages: &mut Stages, name: &str, given: &OwnedFloor, argumen
         let refined = godf::refine(floor, &angles, threshold)?;
         Ok::<_, Refusal>((refined, godf::flagged(&angles, floor.triangles, threshold)?))
     })?;
-    let (many, sides) = (grouped(refined.flagged), grouped(refined.cut_sides.len()));
     let summary = format!(
-        "{name}: {}\nrefined: {many} triangles flagged, {sides} sides cut: {}\n",
+        "{name}: {}\n{}",
         counts(floor),
-        counts(refined.floor())
+        refinement(refined.flagged, refined.cut_sides.len(), refined.floor())
     );
     let mut outputs = Outputs::default();
     let mut arguments = arguments.clone();
@@ -320,9 +321,8 @@ fn title(name: &str) -> &str {
 }
 
 fn run() -> Result<(), Stop> {
-    let words = std::env::args_os()
-        .skip(1)
-        .map(|word| word.to_string_lossy().into_owned());
+    let words: Result<Vec<String>, _> = std::env::args_os().skip(1).map(OsString::into_string).collect();
+    let words = words.map_err(|word| format!("`{}` is not a text", word.to_string_lossy()))?;
     let (command, arguments) = arguments::parse(words)?;
     arguments.outputs().try_for_each(|name| files::check(name))?;
     let stages = &mut Stages::default();

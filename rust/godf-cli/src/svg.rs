@@ -32,10 +32,12 @@ const TINTS: usize = 36;
 // units of the drawing are tenths of a pixel, so that all numbers in it are whole
 const WIDTH: f64 = 9600.0;
 const MARGIN: f64 = 300.0;
-const TOP: f64 = 860.0;
+const TOP: f64 = 960.0;
 const MOST_HEIGHT: f64 = 8000.0;
 const LEAST_HEIGHT: f64 = 1200.0;
 const LEGEND_ROW: f64 = 330.0;
+/// So that a cross on the rim stays within the margin.
+const LONGEST_ARM: f64 = 240.0;
 
 const INK: &str = "#1b2330";
 const SOFT: &str = "#5b6675";
@@ -116,7 +118,7 @@ fn tint_of(angles: &[f64], triangle: [u32; 3]) -> usize {
     let four = triangle.map(|v| 4.0 * angles[v as usize]);
     let sum = |f: fn(f64) -> f64| four.iter().map(|&x| f(x)).sum::<f64>();
     let turn = sum(f64::sin).atan2(sum(f64::cos)) / TAU;
-    (turn.rem_euclid(1.0) * TINTS as f64) as usize % TINTS
+    (turn.rem_euclid(1.0) * TINTS as f64).round() as usize % TINTS
 }
 
 fn triangles(picture: &Picture, at: &[[f64; 2]]) -> String {
@@ -128,7 +130,7 @@ fn triangles(picture: &Picture, at: &[[f64; 2]]) -> String {
     }
     let mut svg = String::new();
     for (k, path) in paths.iter().enumerate().filter(|(_, path)| !path.is_empty()) {
-        let colour = tint((k as f64 + 0.5) / TINTS as f64 * FRAC_PI_2);
+        let colour = tint(k as f64 / TINTS as f64 * FRAC_PI_2);
         let _ = writeln!(
             svg,
             "<path fill=\"{colour}\" stroke=\"{colour}\" stroke-width=\"6\" d=\"{path}\"/>"
@@ -350,7 +352,9 @@ fn entries(picture: &Picture, drawn: usize) -> Vec<Entry> {
     entries
 }
 
+/// A text as XML may hold it.
 fn escaped(text: &str) -> String {
+    let text: String = text.chars().filter(|c| !c.is_control()).collect();
     text.replace('&', "&amp;").replace('<', "&lt;").replace('>', "&gt;")
 }
 
@@ -362,7 +366,7 @@ pub fn draw(picture: &Picture) -> String {
     let crossed = crosses(picture, &at, &sides.all);
     let mut arms = String::new();
     for &(v, room) in &crossed {
-        cross(&mut arms, at[v], picture.angles[v], 0.36 * room);
+        cross(&mut arms, at[v], picture.angles[v], (0.36 * room).min(LONGEST_ARM));
     }
     let room = crossed.iter().map(|c| c.1).sum::<f64>() / crossed.len().max(1) as f64;
     let (hatched, cut) = refinement(picture, &frame, room);
@@ -402,4 +406,105 @@ pub fn draw(picture: &Picture) -> String {
         );
     }
     svg + "</svg>\n"
+}
+
+#[cfg(test)]
+mod tests {
+    use super::*;
+    use crate::arguments::Demo;
+
+    /// That tags close in order and numbers in paths are whole and within the drawing, a little more allowed for crosses.
+    fn check(svg: &str) {
+        let mut open = vec![];
+        for tag in svg.split('<').skip(1) {
+            let (tag, _) = tag.split_once('>').expect("a tag that ends");
+            let name = tag.split([' ', '/']).find(|word| !word.is_empty()).expect("a name");
+            if tag.starts_with('/') {
+                assert_eq!(open.pop(), Some(name));
+            } else if !tag.ends_with('/') {
+                open.push(name);
+            }
+            if let Some((_, path)) = tag.split_once(" d=\"") {
+                let path = path.split('"').next().unwrap();
+                let words = path.replace('-', " -").replace(|c: char| c.is_ascii_alphabetic(), " ");
+                for word in words.split_whitespace() {
+                    let number: i64 = word.parse().expect("a whole number");
+                    assert!(number.abs() < 20_000, "{number}");
+                }
+            }
+        }
+        assert_eq!(open, [""; 0]);
+    }
+
+    fn drawn(points: &[[f64; 3]], triangles: &[[u32; 3]], angles: &[f64]) -> String {
+        let sizes = vec![1.0; points.len()];
+        let floor = Floor {
+            points,
+            triangles,
+            sizes: &sizes,
+        };
+        let singularities: Vec<Singularity> = godf::singularities(angles, triangles).collect();
+        draw(&Picture {
+            title: "a <b> & c\u{1}",
+            subtitle: "",
+            floor,
+            angles,
+            singularities: &singularities,
+            given: floor,
+            flagged: &[0],
+            cut: &[[0, 1]],
+        })
+    }
+
+    #[test]
+    fn floors_of_any_extent() {
+        for scale in [1e-310, 1e-300, 1e-3, 1.0, 1e9, 1e300, f64::MAX] {
+            for tall in [1e-9, 1.0, 1e9] {
+                let points = [
+                    [-scale, -scale / tall, 0.0],
+                    [scale, 0.0, 0.0],
+                    [0.0, scale / tall, 0.0],
+                ];
+                check(&drawn(&points, &[[0, 1, 2]], &[0.0, 0.5, 1.0]));
+            }
+        }
+    }
+
+    #[test]
+    fn crosses_are_thinned() {
+        let scene = Demo::Disk.scene();
+        for (asked, least, most) in [(900, 800, 900), (5000, 600, 1300), (12000, 600, 1300)] {
+            let floor = scene.floor(asked);
+            let angles = vec![0.3; floor.points.len()];
+            let svg = drawn(&floor.points, &floor.triangles, &angles);
+            check(&svg);
+            // the crosses are the longest path without a fill that has round ends and the ink's colour, after the rim's
+            let path = svg
+                .lines()
+                .filter(|line| line.starts_with(&format!("<path stroke=\"{INK}\"")))
+                .last()
+                .unwrap();
+            let crosses = path.matches('M').count() / 2;
+            assert!((least..=most).contains(&crosses), "{crosses} crosses of {asked}");
+        }
+    }
+
+    #[test]
+    fn signs_by_shape_and_colour() {
+        let points = [[0.0; 3], [1.0, 0.0, 0.0], [0.0, 1.0, 0.0], [1.0, 1.0, 0.0]];
+        let svg = drawn(&points, &[[0, 1, 2], [1, 0, 2]], &[0.0, 0.5, 1.0, 0.0]);
+        for (colour, corners) in [(RED, 3), (BLUE, 5)] {
+            let mark = format!("<path fill=\"{colour}\" stroke=\"#fff\"");
+            let shape = svg
+                .split(&mark)
+                .nth(1)
+                .expect("a mark")
+                .split(" d=\"")
+                .nth(1)
+                .expect("a path");
+            assert_eq!(shape.split('z').next().unwrap().matches('l').count() + 1, corners);
+        }
+        assert!(svg.contains("three quads meet: 1") && svg.contains("five quads meet: 1"));
+        assert!(svg.contains("<title>a &lt;b&gt; &amp; c</title>"));
+    }
 }

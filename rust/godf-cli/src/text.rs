@@ -69,6 +69,11 @@ pub fn grouped(n: usize) -> String {
     text
 }
 
+/// So many of a thing.
+pub fn counted(n: usize, thing: &str) -> String {
+    format!("{} {thing}{}", grouped(n), if n == 1 { "" } else { "s" })
+}
+
 impl OwnedFloor {
     fn read_point(&mut self, words: &[&str]) -> Result<(), String> {
         if words.len() != 4 && words.len() != 5 {
@@ -233,6 +238,7 @@ mod tests {
 
     #[test]
     fn thousands() {
+        assert_eq!([1, 2000].map(|n| counted(n, "side")), ["1 side", "2,000 sides"]);
         assert_eq!(
             [0, 999, 1000, 16384, 1234567].map(grouped),
             ["0", "999", "1,000", "16,384", "1,234,567"]

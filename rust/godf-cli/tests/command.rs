@@ -168,7 +168,7 @@ fn standard_input_and_output() {
     assert_eq!(numbers(&told.out).len(), 4);
     // document 01's listing
     let refined = folder.run_on("refine - --adaptive 0.25", TURNING);
-    refined.expect(0, "1 triangles flagged, 3 sides cut: 7 points, 6 triangles");
+    refined.expect(0, "1 triangle flagged, 3 sides cut: 7 points, 6 triangles");
     let lines: Vec<&str> = refined.out.lines().collect();
     assert_eq!(lines[0], "7 6");
     assert_eq!(lines[8..], ["0 4 6", "4 1 5", "6 5 2", "4 5 6", "0 6 3", "6 2 3"]);
@@ -321,6 +321,9 @@ fn outputs_that_cannot_be_written() {
     folder
         .run(&format!("{solve} --svg square.txt/a.svg"))
         .expect(2, "square.txt is not a folder");
+    folder
+        .run(&format!("{solve} --svg a.svg --angles ./a.svg"))
+        .expect(2, "cannot write ./a.svg: another output goes there");
     folder
         .run(&format!("{solve} --angles a.txt --svg /dev/full"))
         .expect(2, "cannot write /dev/full: No space left");

@@ -233,6 +233,35 @@ fn functions_of_the_reference() {
     assert!(probed > CALLS / 3 && singular > 50);
 }
 
+/// Floors of 1,000 to 4,225 points.
+#[test]
+fn large_floors() {
+    let mut workspace = Workspace::new();
+    let mut refined = 0;
+    for i in [1, 2, 3, 5, 6, 7] {
+        let case = oracle::cases::large(SEED, i);
+        let call = Call {
+            points: case.triples(),
+            triangles: common::narrowed(&case.corners()),
+            case: oracle::case::Case { spare: [0; 4], ..case },
+        };
+        let given = expected(BOUND, &call.case);
+        let guidance = guidance_of(&call.case);
+        let options = options_of(&call.case);
+        let field = workspace.solve(floor_of(&call), &options, guidance.as_ref(), call.iterations());
+        let wanted = answer_of(&call, &given);
+        assert_eq!(field.map(|f| f.counts()), wanted, "large call {i}");
+        let counts = wanted.expect("a field");
+        let last = if counts.flagged > 0 { &given.fine } else { &given.coarse };
+        assert!(
+            same_angles(field.unwrap().angles(), &last[..call.points.len()]),
+            "angles of large call {i}"
+        );
+        refined += usize::from(counts.flagged > 0);
+    }
+    assert!(refined > 0);
+}
+
 /// Corners past 32 bits are no points, as in the reference.
 #[test]
 fn corners_past_32_bits() {
