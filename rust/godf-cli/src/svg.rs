@@ -481,8 +481,7 @@ mod tests {
             // the crosses are the longest path without a fill that has round ends and the ink's colour, after the rim's
             let path = svg
                 .lines()
-                .filter(|line| line.starts_with(&format!("<path stroke=\"{INK}\"")))
-                .last()
+                .rfind(|line| line.starts_with(&format!("<path stroke=\"{INK}\"")))
                 .unwrap();
             let crosses = path.matches('M').count() / 2;
             assert!((least..=most).contains(&crosses), "{crosses} crosses of {asked}");
