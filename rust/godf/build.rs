@@ -18,7 +18,6 @@ fn stop(message: &str) -> ! {
 
 /// Proves the crates under libgodf.a and compiles them; the toolchain's own account goes to a file.
 fn build(project: &Path) {
-    println!("cargo:warning=godf: libgodf.a was not there; `rt staticlib godf` has proved and built it");
     let log = PathBuf::from(env::var_os("OUT_DIR").expect("OUT_DIR")).join("staticlib.log");
     let out = fs::File::create(&log).unwrap_or_else(|e| stop(&format!("{}: {e}", log.display())));
     let err = out
@@ -32,7 +31,9 @@ fn build(project: &Path) {
         .stderr(err)
         .status();
     match status {
-        Ok(status) if status.success() => {}
+        Ok(status) if status.success() => {
+            println!("cargo:warning=godf: libgodf.a was not there; `rt staticlib godf` has proved and built it");
+        }
         Ok(status) => stop(&format!(
             "`rt staticlib godf` ended with {status}; see {}",
             log.display()
