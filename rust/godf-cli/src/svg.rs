@@ -365,7 +365,7 @@ pub fn draw(picture: &Picture) -> String {
     let sides = Sides::of(picture.floor);
     let crossed = crosses(picture, &at, &sides.all);
     let mut arms = String::new();
-    for &(v, room) in &crossed {
+    for &(v, room) in crossed.iter().filter(|(v, _)| picture.angles[*v].is_finite()) {
         cross(&mut arms, at[v], picture.angles[v], (0.36 * room).min(LONGEST_ARM));
     }
     let room = crossed.iter().map(|c| c.1).sum::<f64>() / crossed.len().max(1) as f64;
