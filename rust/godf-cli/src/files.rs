@@ -24,9 +24,18 @@ fn read_bytes(name: &str) -> io::Result<Vec<u8>> {
     Ok(bytes)
 }
 
+/// An input's name in a message.
+pub fn shown(name: &str) -> &str {
+    if name == STANDARD {
+        "standard input"
+    } else {
+        name
+    }
+}
+
 /// The text of a file, or of standard input.
 pub fn read(name: &str) -> Result<String, String> {
-    let shown = if name == STANDARD { "standard input" } else { name };
+    let shown = shown(name);
     let bytes = read_bytes(name).map_err(|e| format!("cannot read {shown}: {e}"))?;
     if bytes.len() as u64 > MOST_BYTES {
         return Err(format!("{shown} is longer than 64 MiB, and no floor is"));

@@ -110,8 +110,9 @@ fn solve(stages: &mut Stages, given: &OwnedFloor, options: &Options, arguments: 
 }
 
 fn read(stages: &mut Stages, name: &str) -> Result<OwnedFloor, Stop> {
-    let read = || text::read(&files::read(name)?).map_err(|what| format!("{name}: {what}"));
-    Ok(stages.run("reading", &format!("reading {name}"), read)?)
+    let shown = files::shown(name);
+    let read = || text::read(&files::read(name)?).map_err(|what| format!("{shown}: {what}"));
+    Ok(stages.run("reading", &format!("reading {shown}"), read)?)
 }
 
 /// The floor's own angles, or those of a solve without refining.

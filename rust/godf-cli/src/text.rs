@@ -113,6 +113,8 @@ impl OwnedFloor {
 pub fn read(text: &str) -> Result<OwnedFloor, String> {
     let mut floor = OwnedFloor::default();
     let mut wanted = None;
+    // some editors begin a text with a mark of its coding
+    let text = text.strip_prefix('\u{feff}').unwrap_or(text);
     for (i, line) in text.lines().enumerate() {
         let line = line.split('#').next().unwrap_or("");
         let words: Vec<&str> = line.split_whitespace().collect();
@@ -181,6 +183,8 @@ mod tests {
             (-2.5e-7, 5e-324, &None)
         );
         assert_eq!(read(&write(floor.floor(), None)).unwrap(), floor);
+        let marked = format!("\u{feff}{}", SQUARE.replace('\n', "\r\n"));
+        assert_eq!(read(&marked).unwrap(), floor);
         let angles = vec![0.1 + 0.2, -0.0, f64::MAX, 1e22];
         let with = OwnedFloor {
             angles: Some(angles.clone()),

@@ -422,7 +422,7 @@ fn a_line_while_it_lasts() {
     let told = Told::of(child.wait_with_output().unwrap());
     assert_eq!(
         (told.status, told.err.as_str()),
-        (Some(0), "godf: reading -: 2 s\n"),
+        (Some(0), "godf: reading standard input: 2 s\n"),
         "{told:?}"
     );
 }
