@@ -37,7 +37,7 @@ static const char *const REFUSALS[] = {
 };
 
 /* A fan of SECTORS triangles round a middle point, point 0. */
-enum { SECTORS = 12, POINTS = SECTORS + 1, ROUND = 100 };
+enum { SECTORS = 12, POINTS = SECTORS + 1, ITERATIONS = 100 };
 
 /* The slices that a solve is lent. */
 struct lent {
@@ -81,14 +81,16 @@ int main(void) {
         sizes[i] = 1;
 
     /* crosses along the rim, and one refinement where the field turns by more than 0.3 on a triangle */
-    godf_options options = {.anisotropy = 1, .boundary = 1, .adaptive = 0.3};
+    godf_options options = GODF_OPTIONS_DEFAULT;
+    options.boundary = GODF_BOUNDARY_TANGENT;
+    options.adaptive = 0.3;
     struct lent lent;
     if (!lend(&lent, POINTS, SECTORS, options.adaptive)) {
         fputs("out of memory\n", stderr);
         return 1;
     }
     godf_report report;
-    uint64_t number = godf_solve(points, 3 * POINTS, triangles, 3 * SECTORS, sizes, POINTS, NULL, 0, 0, 0, &options, ROUND,
+    uint64_t number = godf_solve(points, 3 * POINTS, triangles, 3 * SECTORS, sizes, POINTS, NULL, 0, 0, 0, &options, ITERATIONS,
                                  lent.coarse, lent.coarse_count, lent.fine, lent.fine_count, lent.work, lent.work_count,
                                  lent.numbers, lent.number_count, &report);
     if (number != 0) {
@@ -99,8 +101,8 @@ int main(void) {
 
     /* the answer: the front of one of the two slices */
     size_t count;
-    const double *answer = godf_answer(lent.coarse, lent.coarse_count, lent.fine, lent.fine_count, POINTS,
-                                       (size_t)report.flagged, &count) == 0 ? lent.coarse : lent.fine;
+    uint32_t of_fine = godf_answer(lent.coarse, lent.coarse_count, lent.fine, lent.fine_count, POINTS, (size_t)report.flagged, &count);
+    const double *answer = of_fine ? lent.fine : lent.coarse;
     for (size_t i = 0; i < count; i++)
         printf("%zu: %.4f\n", i, answer[i]);
     size_t threes = 0, fives = 0;
@@ -109,7 +111,7 @@ int main(void) {
 
     /* a size that is none, and what is said of it: the angles stay as they are */
     sizes[5] = -1;
-    number = godf_solve(points, 3 * POINTS, triangles, 3 * SECTORS, sizes, POINTS, NULL, 0, 0, 0, &options, ROUND,
+    number = godf_solve(points, 3 * POINTS, triangles, 3 * SECTORS, sizes, POINTS, NULL, 0, 0, 0, &options, ITERATIONS,
                         lent.coarse, lent.coarse_count, lent.fine, lent.fine_count, lent.work, lent.work_count,
                         lent.numbers, lent.number_count, &report);
     printf("refused by row %llu: %s (place %llu)\n", (unsigned long long)number, REFUSALS[number], (unsigned long long)report.place);
