@@ -39,48 +39,61 @@ static const char *const REFUSALS[] = {
 /* A fan of SECTORS triangles round a middle point, point 0. */
 enum { SECTORS = 12, POINTS = SECTORS + 1, ITERATIONS = 100 };
 
-/* The slices that a solve is lent. */
+struct fan {
+    double points[3 * POINTS], sizes[POINTS];
+    uint32_t triangles[3 * SECTORS];
+};
+
+static void make(struct fan *fan) {
+    for (size_t i = 0; i < POINTS; i++) {
+        double turn = 6.283185307179586 * (double)i / SECTORS;
+        fan->points[3 * i] = i == 0 ? 0 : godf_cos(turn);
+        fan->points[3 * i + 1] = i == 0 ? 0 : godf_sin(turn);
+        fan->points[3 * i + 2] = 0;
+        fan->sizes[i] = 1;
+    }
+    for (uint32_t i = 0; i < SECTORS; i++) {
+        fan->triangles[3 * i] = 0;
+        fan->triangles[3 * i + 1] = i + 1;
+        fan->triangles[3 * i + 2] = (i + 1) % SECTORS + 1;
+    }
+}
+
+/* The slices that a solve is lent, which can be lent again. */
 struct lent {
     double *coarse, *fine, *work;
     uint32_t *numbers;
     size_t coarse_count, fine_count, work_count, number_count;
 };
 
-/* Slices of the lengths that the library asks for. */
+/* Slices of the lengths that the library asks for; 0 where memory is short. One more than asked, since malloc(0) may give NULL. */
 static int lend(struct lent *lent, size_t points, size_t triangles, double threshold) {
     lent->coarse_count = points;
     lent->fine_count = godf_fine_count(points, triangles, threshold);
     lent->work_count = godf_work_f64(points, triangles, threshold);
     lent->number_count = godf_work_u32(points, triangles, threshold);
-    lent->coarse = calloc(lent->coarse_count + 1, sizeof(double));
-    lent->fine = calloc(lent->fine_count + 1, sizeof(double));
-    lent->work = calloc(lent->work_count + 1, sizeof(double));
-    lent->numbers = calloc(lent->number_count + 1, sizeof(uint32_t));
+    lent->coarse = malloc((lent->coarse_count + 1) * sizeof(double));
+    lent->fine = malloc((lent->fine_count + 1) * sizeof(double));
+    lent->work = malloc((lent->work_count + 1) * sizeof(double));
+    lent->numbers = malloc((lent->number_count + 1) * sizeof(uint32_t));
     return lent->coarse && lent->fine && lent->work && lent->numbers;
 }
 
-static void give_back(struct lent *lent) {
-    free(lent->coarse);
-    free(lent->fine);
-    free(lent->work);
-    free(lent->numbers);
+/* 0, or the number of a refusal, told in words. */
+static uint64_t solve(const struct fan *fan, const godf_options *options, const struct lent *lent, godf_report *report) {
+    uint64_t number = godf_solve(fan->points, 3 * POINTS, fan->triangles, 3 * SECTORS, fan->sizes, POINTS, NULL, 0, 0, 0, options,
+                                 ITERATIONS, lent->coarse, lent->coarse_count, lent->fine, lent->fine_count, lent->work,
+                                 lent->work_count, lent->numbers, lent->number_count, report);
+    if (number != 0)
+        printf("refused by row %u: %s (place %u)\n", (unsigned)number, REFUSALS[number], (unsigned)report->place);
+    return number;
 }
 
 int main(void) {
-    double points[3 * POINTS] = {0}, sizes[POINTS];
-    uint32_t triangles[3 * SECTORS];
-    for (uint32_t i = 0; i < SECTORS; i++) {
-        double turn = 6.283185307179586 * i / SECTORS;
-        points[3 * (i + 1)] = godf_cos(turn);
-        points[3 * (i + 1) + 1] = godf_sin(turn);
-        triangles[3 * i] = 0;
-        triangles[3 * i + 1] = i + 1;
-        triangles[3 * i + 2] = (i + 1) % SECTORS + 1;
-    }
-    for (size_t i = 0; i < POINTS; i++)
-        sizes[i] = 1;
+    struct fan fan;
+    make(&fan);
 
-    /* crosses along the rim, and one refinement where the field turns by more than 0.3 on a triangle */
+    /* crosses along the rim, and a second pass where the field turns by more than 0.3 on a triangle */
     godf_options options = GODF_OPTIONS_DEFAULT;
     options.boundary = GODF_BOUNDARY_TANGENT;
     options.adaptive = 0.3;
@@ -90,31 +103,26 @@ int main(void) {
         return 1;
     }
     godf_report report;
-    uint64_t number = godf_solve(points, 3 * POINTS, triangles, 3 * SECTORS, sizes, POINTS, NULL, 0, 0, 0, &options, ITERATIONS,
-                                 lent.coarse, lent.coarse_count, lent.fine, lent.fine_count, lent.work, lent.work_count,
-                                 lent.numbers, lent.number_count, &report);
-    if (number != 0) {
-        fprintf(stderr, "refused by row %llu: %s\n", (unsigned long long)number, REFUSALS[number]);
+    if (solve(&fan, &options, &lent, &report) != 0)
         return 1;
-    }
-    printf("%llu triangles flagged, %llu sides cut\n", (unsigned long long)report.flagged, (unsigned long long)report.cut);
+    printf("%u triangles flagged, %u sides cut\n", (unsigned)report.flagged, (unsigned)report.cut);
 
     /* the answer: the front of one of the two slices */
     size_t count;
     uint32_t of_fine = godf_answer(lent.coarse, lent.coarse_count, lent.fine, lent.fine_count, POINTS, (size_t)report.flagged, &count);
-    const double *answer = of_fine ? lent.fine : lent.coarse;
+    const double *angles = of_fine ? lent.fine : lent.coarse;
     for (size_t i = 0; i < count; i++)
-        printf("%zu: %.4f\n", i, answer[i]);
+        printf("angle at point %u: %.4f\n", (unsigned)i, angles[i]);
     size_t threes = 0, fives = 0;
-    godf_count_singularities(answer, count, triangles, 3 * SECTORS, &threes, &fives);
-    printf("singularities: %zu of valence 3, %zu of valence 5\n", threes, fives);
+    godf_count_singularities(angles, count, fan.triangles, 3 * SECTORS, &threes, &fives);
+    printf("singularities: %u of valence 3, %u of valence 5\n", (unsigned)threes, (unsigned)fives);
 
-    /* a size that is none, and what is said of it: the angles stay as they are */
-    sizes[5] = -1;
-    number = godf_solve(points, 3 * POINTS, triangles, 3 * SECTORS, sizes, POINTS, NULL, 0, 0, 0, &options, ITERATIONS,
-                        lent.coarse, lent.coarse_count, lent.fine, lent.fine_count, lent.work, lent.work_count,
-                        lent.numbers, lent.number_count, &report);
-    printf("refused by row %llu: %s (place %llu)\n", (unsigned long long)number, REFUSALS[number], (unsigned long long)report.place);
-    give_back(&lent);
-    return number == 7 && report.place == 5 ? 0 : 1;
+    /* a size that is none: row 7, at point 5, and the angles stay as they are */
+    fan.sizes[5] = -1;
+    int refused = solve(&fan, &options, &lent, &report) == 7 && report.place == 5;
+    free(lent.coarse);
+    free(lent.fine);
+    free(lent.work);
+    free(lent.numbers);
+    return count == POINTS && refused ? 0 : 1;
 }
