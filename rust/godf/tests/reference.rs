@@ -266,7 +266,8 @@ fn large_floors() {
 #[test]
 fn corners_past_32_bits() {
     let points = [[0.0, 0.0, 0.0], [1.0, 0.0, 0.0], [0.0, 1.0, 0.0]];
-    let far = usize::MAX - 5;
+    // its lower half is the number of a point
+    let far = (1 << 32) + 2;
     let text = simons_godf::solve(&points, &[[0, 1, 2], [0, 1, far]], &[1.0; 3], 10).unwrap_err();
     assert_eq!(text, "a corner of triangle 1 is not the number of a point");
     let tris = [[0, 1, far], [0, 1, 2]];
