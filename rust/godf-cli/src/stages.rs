@@ -1,0 +1,63 @@
+//! The stages of a command: how long each took, and a line on standard error while one lasts.
+
+use std::{
+    io::{self, IsTerminal, Write},
+    sync::mpsc::{self, Receiver, RecvTimeoutError},
+    thread,
+    time::{Duration, Instant},
+};
+
+#[derive(Default)]
+pub struct Stages(Vec<(&'static str, Duration)>);
+
+/// Says every second that a stage lasts, on one line of a terminal; elsewhere a line after 2, 4, 8, .. seconds.
+fn tell(what: &str, ended: &Receiver<()>) {
+    let terminal = io::stderr().is_terminal();
+    let begun = Instant::now();
+    let (mut told, mut next) = (false, if terminal { 1 } else { 2 });
+    loop {
+        let wait = Duration::from_secs(next).saturating_sub(begun.elapsed());
+        if ended.recv_timeout(wait) != Err(RecvTimeoutError::Timeout) {
+            break;
+        }
+        let mut err = io::stderr().lock();
+        let _ = if terminal {
+            write!(err, "\rgodf: {what}: {next} s ").and_then(|()| err.flush())
+        } else {
+            writeln!(err, "godf: {what}: {next} s")
+        };
+        told = true;
+        next = if terminal { next + 1 } else { 2 * next };
+    }
+    if terminal && told {
+        let _ = write!(io::stderr(), "\r\x1b[K");
+    }
+}
+
+impl Stages {
+    /// Runs a stage; `what` is said of it while it lasts.
+    pub fn run<T>(&mut self, name: &'static str, what: &str, stage: impl FnOnce() -> T) -> T {
+        let begun = Instant::now();
+        let answer = thread::scope(|scope| {
+            let (end, ended) = mpsc::channel();
+            // without a thread to spare nothing is said
+            let teller = thread::Builder::new().spawn_scoped(scope, move || tell(what, &ended));
+            let answer = stage();
+            drop(end);
+            drop(teller);
+            answer
+        });
+        self.0.push((name, begun.elapsed()));
+        answer
+    }
+
+    /// `reading 0.002 s, solving 1.251 s, ..`
+    pub fn times(&self) -> String {
+        let times: Vec<String> = self
+            .0
+            .iter()
+            .map(|(name, time)| format!("{name} {:.3} s", time.as_secs_f64()))
+            .collect();
+        times.join(", ")
+    }
+}
