@@ -185,7 +185,7 @@ fn solve(rounds: usize, sides: &[usize]) {
     heading("Whole solve, refined: godf_solve beside solve_impl", "ms");
     cases(sides, true, |name, c| {
         beside(name, rounds, c, |c| {
-            std::hint::black_box((PLATFORM.solve)(c));
+            let _ = std::hint::black_box((PLATFORM.solve)(c));
         })
     });
 }
