@@ -48,6 +48,111 @@ uint64_t godf_refine(const double *points, size_t point_numbers, const uint32_t 
                      uint32_t *new_triangles, size_t new_corners, uint32_t *cut_ends, size_t cut_end_count,
                      uint64_t *report, size_t report_count);
 
+/* ---- solve
+ * The cross field of a floor: an angle in [0, pi/2) at each point, along which quads are laid. A first pass finds the field of the floor as
+ * given. Where the threshold is above 0 and the field turns by more than it along a side of a triangle, that triangle and its neighbours
+ * along the cut sides are split as godf_refine splits them, and a second pass finds the field of the refined floor.
+ *
+ * In: points (x, y, z each; z is never read), triangles (three corner numbers each), a size for each point, options, guidance or none,
+ * and how many outer iterations there may be. Guidance is given where `guided` is not 0: an angle for each point and a weight; otherwise
+ * neither is read. Counts are of array elements.
+ *
+ * Lent: with n points and T triangles the coarse array holds n angles or more; the other three hold as many numbers as these functions
+ * say, or more. They take the counts of points and triangles, and the threshold; above row 1's limits they answer 0, since no length
+ * would do. What the work arrays hold before a call never matters. */
+size_t godf_fine_count(size_t n, size_t triangles, double threshold); /* n + 3 T where the threshold is above 0, otherwise 0 */
+size_t godf_work_f64(size_t n, size_t triangles, double threshold);   /* 64 n' + 32 t' where n' = n + 3 T and t' = 4 T if the */
+size_t godf_work_u32(size_t n, size_t triangles, double threshold);   /* 16 n' + 32 t'   threshold is above 0, else n and T   */
+
+/* Options, each a double. */
+typedef struct godf_options {
+    double accurate;         /* not 0: the curvature-aware integrals of the paper's Appendix D; 0: their flat limits */
+    double holomorphic;      /* 0: Dirichlet energy; up to 1: holomorphic, with fewer singularities; down to -1: anti-holomorphic */
+    double anisotropy;       /* a ratio of axes a draws the field to the angle below by the weight (a + 1/a - 2)^2; 1: not at all */
+    double anisotropy_angle; /* in radians from the x axis */
+    double boundary;         /* GODF_BOUNDARY_NONE, GODF_BOUNDARY_TANGENT or GODF_BOUNDARY_WEAK; any other number is refused by row 13 */
+    double boundary_weight;  /* of the weak mode; read in no other */
+    double adaptive;         /* the threshold, in radians; 0 for one pass */
+} godf_options;
+
+#define GODF_BOUNDARY_NONE 0.0    /* the boundary is free */
+#define GODF_BOUNDARY_TANGENT 1.0 /* the field is tangent to it */
+#define GODF_BOUNDARY_WEAK 2.0    /* the field is drawn to it by the weight */
+
+/* godf_options o = GODF_OPTIONS_DEFAULT; */
+#define GODF_OPTIONS_DEFAULT {0.0, 0.0, 1.0, 0.0, GODF_BOUNDARY_NONE, 0.0, 0.0}
+
+/* What a solve tells. All seven are written at every call; each is 0 where there is none. */
+typedef struct godf_report {
+    uint64_t number;  /* 0: accepted. Otherwise the number of a refusal */
+    uint64_t place;   /* where: a point, a triangle, or one end of an edge, counted from 0 */
+    uint64_t other;   /* row 22: the edge's other end */
+    uint64_t pass;    /* rows 19 to 24: the pass that found it, 1 or 2. In pass 2 numbers are those of the refined floor */
+    uint64_t reason;  /* row 24: why the solver gave up */
+    uint64_t flagged; /* accepted: how many triangles turn by more than the threshold */
+    uint64_t cut;     /* accepted: how many sides were cut, so that the refined floor has n + cut points */
+} godf_report;
+
+/* Returns report->number. Refusals, in the order in which they are tested; within a row the lowest place is told:
+ *   1  point numbers or corners not a multiple of 3, or over 16,384 points or 32,768 triangles
+ *   2  iterations 0        3  no points        4  no triangles        5  as many sizes as points are not given
+ *   6  a point's x or y is not finite (place: point)         7  a size is not finite and positive (place: point)
+ *   8  a corner number is not below n (place: triangle)
+ *   9  holomorphic is not in -1 to 1                        10  anisotropy is not finite and positive
+ *  11  the anisotropy angle is not finite                   12  the threshold is not finite, or below 0
+ *  13  the weak weight is not finite, or below 0; or the boundary is none of the three
+ *  14  the guidance's weight is not finite, or below 0      15  as many guidance angles as points are not given
+ *  16  a guidance angle is not finite (place: point)
+ *  17  the anisotropy angle (place: n) or a guidance angle (place: point) is above 131,072 in size, used or not
+ *  18  a lent array is too short
+ *  19  a triangle's area is not finite, or not above 1e-14 of its longest side squared (place: triangle)
+ *  20  a point is in no triangle, or the areas of its triangles add to infinity (place: point)
+ *  21  a point's size gradient is not finite (place: point; 20 and 21 are tested point by point)
+ *  22  the mean size of an edge is not finite (place and other: its ends)
+ *  23  the boundary mode acts, and no side is in exactly one triangle
+ *  24  the solver gave up, by its reason: 1 energy trace, 2 mass trace, 3 right-hand norm, 4 diagonal (place: point), 5 first residual,
+ *      6 denominator, 7 lost definiteness, 8 inner count spent, 9 mass of the iterate, 10 Rayleigh denominator, 11 estimate, 12 outer
+ *      count spent, 13 non-finite field
+ *
+ * What is written. Refused, neither angle array is. By rows 1 to 18 the work is not written either; from row 19 on, and where accepted,
+ * all of both work arrays ends as zeros. Accepted, the first n coarse angles are the first pass's field and, if a triangle was flagged,
+ * the first n + cut fine angles the second's; the rest of both stays.
+ *
+ * Pointers are valid for the counts that go with them and aligned as C aligns their types; a null pointer goes with count 0 only. `options`
+ * and `report` are never null. What is written (the four lent arrays and the report) overlaps nothing else that is passed. The
+ * processor rounds to nearest, as C programs start out, and neither flushes subnormal results to zero nor takes subnormal operands for
+ * zero (MXCSR's FTZ and DAZ are off; gcc's -ffast-math, and some libraries, set them). The call uses a few kilobytes of stack, no memory
+ * but what it is lent, and keeps nothing: calls from several threads on arrays of their own do not disturb each other.
+ *
+ *   size_t n = 3, t = 1;
+ *   double points[] = {0, 0, 0, 1, 0, 0, 0, 1, 0}, sizes[] = {1, 1, 1};
+ *   uint32_t triangles[] = {0, 1, 2};
+ *   godf_options o = GODF_OPTIONS_DEFAULT;
+ *   o.boundary = GODF_BOUNDARY_TANGENT;
+ *   o.adaptive = 0.1;
+ *   size_t fine = godf_fine_count(n, t, o.adaptive), reals = godf_work_f64(n, t, o.adaptive), words = godf_work_u32(n, t, o.adaptive);
+ *   double *coarse_angles = malloc(n * sizeof(double)), *fine_angles = malloc(fine * sizeof(double));
+ *   double *work = malloc(reals * sizeof(double));
+ *   uint32_t *numbers = malloc(words * sizeof(uint32_t));
+ *   godf_report r;
+ *   if (godf_solve(points, 3 * n, triangles, 3 * t, sizes, n, NULL, 0, 0, 0, &o, 100, coarse_angles, n, fine_angles, fine,
+ *                  work, reals, numbers, words, &r) == 0) {
+ *       size_t count;
+ *       const double *angles = godf_answer(coarse_angles, n, fine_angles, fine, n, r.flagged, &count) ? fine_angles : coarse_angles;
+ *       for (size_t i = 0; i < count; i++) printf("%.17g\n", angles[i]);
+ *   }
+ */
+uint64_t godf_solve(const double *points, size_t point_numbers, const uint32_t *triangles, size_t corners,
+                    const double *sizes, size_t size_count, const double *guidance, size_t guidance_count, uint32_t guided,
+                    double weight, const godf_options *options, size_t iterations, double *coarse, size_t coarse_count,
+                    double *fine, size_t fine_count, double *work, size_t work_count, uint32_t *numbers, size_t number_count,
+                    godf_report *report);
+
+/* The answer of a solve on n points that flagged so many triangles: the first *count angles of the coarse array where 0 is returned, of
+ * the fine array where 1 is. *count is n, or 0 if that array is shorter than n. */
+uint32_t godf_answer(const double *coarse, size_t coarse_count, const double *fine, size_t fine_count, size_t n, size_t flagged,
+                     size_t *count);
+
 /* ---- calls that read a field
  * A floor's points are numbers x, y, z in one array, its triangles three corner numbers each in one array; z is never read.
  * Counts are of array elements, not of points or triangles. Arrays are only read. A lent place keeps what it holds where the

@@ -5,7 +5,15 @@ mod linear;
 mod time;
 
 use floors::{case, turning, MODES, SIDES, SIZES};
-use oracle::{case::Boundary, godf, outcome::same, random::Random, PLATFORM};
+use oracle::{
+    candidates::Godf,
+    case::{Boundary, Case},
+    compare::against,
+    godf,
+    outcome::{expected, same, Answer},
+    random::Random,
+    BOUND, PLATFORM,
+};
 use time::{heading, row, seconds};
 
 /// A field of the reference on a floor: wavy sizes, tangent.
@@ -107,36 +115,79 @@ fn singularities(rounds: usize, sides: &[usize]) {
     }
 }
 
-/// The reference's own time of a whole solve; ours stands beside it once libgodf.a has godf_solve.
-fn solve(rounds: usize, sides: &[usize]) {
-    println!("\nWhole solve: the Rust alone\n\n| floor | least, ms | median | most |\n|---|---|---|---|");
+/// Ours beside the reference's on a call, the lent slices touched before. Their bits are compared first, with the reference over our
+/// leaves; what the call comes to is told.
+fn beside(name: &str, rounds: usize, c: &Case, theirs: impl Fn(&Case)) {
+    let want = expected(BOUND, c);
+    let kinds = against(&Godf, c, &want);
+    assert!(kinds.is_empty(), "{name} differs in {}", kinds.join(", "));
+    let told = match want.answer {
+        Answer::Accepted { flagged: 0, .. } => String::new(),
+        Answer::Accepted { flagged, cut } => format!(": {flagged} flagged, {cut} cut"),
+        Answer::Refused(r) => format!(": refused by row {}, pass {}, reason {}", r.number, r.pass, r.reason),
+    };
+    let mut lent = godf::Lent::to(c);
+    let ours = || seconds(|| godf::solve(c, &mut lent));
+    row(&format!("{name}{told}"), rounds, 1e-3, ours, || seconds(|| theirs(c)));
+}
+
+/// Every floor of the bench, with a threshold that flags some triangles, or none.
+fn cases(sides: &[usize], refined: bool, mut run: impl FnMut(&str, &Case)) {
     for &side in sides {
         for sizes in SIZES {
             for (mode, boundary) in MODES {
-                for threshold in [0.0, turning(side)] {
-                    let c = case(side, sizes, boundary, threshold);
-                    let mut told = String::new();
-                    let run = |_| {
-                        let mut answer = None;
-                        let time = seconds(|| answer = Some((PLATFORM.solve)(&c)));
-                        let (answer, seen) = answer.expect("an answer");
-                        let (flagged, cut) = seen.counts.unwrap_or((0, 0));
-                        let end = answer.map_or_else(|text| text, |_| format!("{flagged} flagged, {cut} cut"));
-                        told = if threshold > 0.0 {
-                            format!(", threshold {threshold:.4}: {end}")
-                        } else {
-                            format!(": {end}")
-                        };
-                        time
-                    };
-                    let mut times: Vec<f64> = (0..rounds).map(run).collect();
-                    times.sort_by(f64::total_cmp);
-                    let [least, median, most] = [times[0], times[rounds / 2], times[rounds - 1]].map(|t| 1e3 * t);
-                    println!("| {side} by {side}, {sizes}, {mode}{told} | {least:.1} | {median:.1} | {most:.1} |");
-                }
+                let threshold = if refined { turning(side) } else { 0.0 };
+                let c = case(side, sizes, boundary, threshold);
+                let at = if refined {
+                    format!(", threshold {threshold:.4}")
+                } else {
+                    String::new()
+                };
+                run(&format!("{side} by {side}, {sizes}, {mode}{at}"), &c);
             }
         }
     }
+}
+
+fn pass(rounds: usize, sides: &[usize]) {
+    heading("One pass: godf_solve with threshold 0 beside solve_mesh", "ms");
+    cases(sides, false, |name, c| {
+        beside(name, rounds, c, |c| {
+            let _ = std::hint::black_box((PLATFORM.pass)(c));
+        })
+    });
+}
+
+/// Tangent calls on closed floors, which row 23 refuses: all of a pass but its branch, on both sides.
+fn setup(rounds: usize, sides: &[usize]) {
+    heading(
+        "Set-up of a pass: godf_solve beside solve_mesh, refused by row 23",
+        "ms",
+    );
+    for &side in sides {
+        for accurate in [false, true] {
+            let mut c = case(side, "wavy", Boundary::Tangent, 0.0);
+            let closed = oracle::floors::wrapped(side, side);
+            (c.points, c.tris) = (closed.points.concat(), closed.tris.concat());
+            c.options.accurate = accurate;
+            let name = format!(
+                "{side} by {side} going round{}",
+                if accurate { ", accurate" } else { "" }
+            );
+            beside(&name, rounds, &c, |c| {
+                let _ = std::hint::black_box((PLATFORM.pass)(c));
+            });
+        }
+    }
+}
+
+fn solve(rounds: usize, sides: &[usize]) {
+    heading("Whole solve, refined: godf_solve beside solve_impl", "ms");
+    cases(sides, true, |name, c| {
+        beside(name, rounds, c, |c| {
+            std::hint::black_box((PLATFORM.solve)(c));
+        })
+    });
 }
 
 fn main() {
@@ -148,11 +199,13 @@ fn main() {
     let (numbers, names): (Vec<&String>, Vec<&String>) = words.iter().skip(1).partition(|w| w.parse::<usize>().is_ok());
     let asked: Vec<usize> = numbers.iter().filter_map(|w| w.parse().ok()).collect();
     let sides = if asked.is_empty() { SIDES.to_vec() } else { asked };
-    let layers: [(&str, fn(usize, &[usize])); 5] = [
+    let layers: [(&str, fn(usize, &[usize])); 7] = [
         ("refinement", refinement),
         ("linear", linear::run),
         ("probe", probe),
         ("singularities", singularities),
+        ("setup", setup),
+        ("pass", pass),
         ("solve", solve),
     ];
     for (name, run) in layers {

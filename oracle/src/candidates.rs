@@ -1,12 +1,10 @@
 //! What is compared with the judge. A candidate makes a whole call in slices of the lengths that the case lends, the angle slices full
 //! of MARK, and says what came back; and, where it has one, a pass on its own.
-//!
-//! libgodf.a has no godf_solve yet. Its candidate belongs here, beside `Copied` (oracle/README.md says what it has to do), and into
-//! `candidate` below under the name `godf`.
 
 use crate::{
     case::Case,
-    outcome::{expected, Answer, Given, Work, MARK},
+    godf,
+    outcome::{self, expected, Answer, Given, Work, MARK},
     reference::Reference,
     refusal::{self, Refusal},
     BOUND, PLATFORM,
@@ -59,6 +57,92 @@ impl Candidate for Copied {
     fn pass(&self, case: &Case) -> Option<Result<Vec<f64>, Refusal>> {
         let pass = || (self.0.pass)(case).map_err(|text| refusal::of_message(&text, 1));
         Some(caught(pass).unwrap_or(Err(STOPPED)))
+    }
+}
+
+/// libgodf.a through C. A pass is a solve with threshold 0, where the solve itself has another.
+pub struct Godf;
+
+/// What the lent work holds after a call.
+fn work_of(lent: &godf::Lent) -> Work {
+    if lent.work.iter().all(|x| x.to_bits() == 0) && lent.numbers.iter().all(|&x| x == 0) {
+        return Work::Zeros;
+    }
+    let held = lent.work.iter().all(|x| x.to_bits() == godf::MARK.to_bits());
+    if held && lent.numbers.iter().all(|&x| x == godf::MARK_U32) {
+        return Work::Untouched;
+    }
+    Work::Other
+}
+
+/// Document 01's answer of what a solve tells; a report that no solve may give is none of its answers.
+fn answer_of(number: u64, r: godf::Report) -> Answer {
+    let refusal = Refusal {
+        number: number as u32,
+        place: [r.place, r.other],
+        reason: r.reason as u32,
+        pass: r.pass as u32,
+    };
+    let accepted = refusal == STOPPED;
+    if number != r.number || (!accepted && (r.flagged, r.cut) != (0, 0)) {
+        return Answer::Refused(STOPPED);
+    }
+    if accepted {
+        return Answer::Accepted {
+            flagged: r.flagged as usize,
+            cut: r.cut as usize,
+        };
+    }
+    Answer::Refused(refusal)
+}
+
+/// Whether the lengths that libgodf.a says are those of row 18, and its answer the front of a slice that document 01 says.
+fn tells_right(case: &Case, given: &Given) -> bool {
+    let (n, t) = (case.n(), case.triangles());
+    let [_, fine, work, numbers] = case.needed();
+    let few = n <= outcome::MOST_POINTS && t <= outcome::MOST_TRIANGLES;
+    let needed = if few { [fine, work, numbers] } else { [0; 3] };
+    let flagged = match given.answer {
+        Answer::Accepted { flagged, .. } => flagged,
+        Answer::Refused(_) => 0,
+    };
+    let from = if flagged == 0 { &given.coarse } else { &given.fine };
+    let part = if from.len() < n { &from[..0] } else { &from[..n] };
+    let answer = godf::answer(&given.coarse, &given.fine, n, flagged);
+    godf::needed(n, t, case.options.adaptive) == needed
+        && answer.as_ptr() == part.as_ptr()
+        && answer.len() == part.len()
+}
+
+impl Candidate for Godf {
+    fn solve(&self, case: &Case) -> Given {
+        let mut lent = godf::Lent::to(case);
+        let (number, report) = godf::solve(case, &mut lent);
+        let mut given = Given {
+            answer: answer_of(number, report),
+            work: work_of(&lent),
+            coarse: lent.coarse,
+            fine: lent.fine,
+        };
+        if !tells_right(case, &given) {
+            given.answer = Answer::Refused(STOPPED);
+        }
+        given
+    }
+
+    fn pass(&self, case: &Case) -> Option<Result<Vec<f64>, Refusal>> {
+        if case.options.adaptive == 0.0 {
+            return None;
+        }
+        let mut one = case.clone();
+        one.options.adaptive = 0.0;
+        one.spare = [0; 4];
+        let given = self.solve(&one);
+        Some(match given.answer {
+            Answer::Accepted { flagged: 0, cut: 0 } => Ok(given.coarse),
+            Answer::Accepted { .. } => Err(STOPPED),
+            Answer::Refused(refusal) => Err(refusal),
+        })
     }
 }
 
@@ -191,6 +275,9 @@ pub const SPOILT: [(&str, Spoilt); 12] = [
 
 /// The candidate of a name.
 pub fn candidate(name: &str) -> Option<Box<dyn Candidate>> {
+    if name == "godf" {
+        return Some(Box::new(Godf));
+    }
     if name == "platform" {
         return Some(Box::new(Copied(PLATFORM)));
     }

@@ -18,6 +18,7 @@ pub struct Copy {
 const USAGE: &str = "usage:
   record LAYER COUNT SEED FOLDER [COPY]   the answers to a layer's inputs, as lists; layers: scalars, refinement, linear, texts, solve
   solve CANDIDATE COUNT SEED              passes and whole solves of a candidate beside the reference
+  pass CANDIDATE COUNT SEED               the same calls with threshold 0: one pass each
   try CANDIDATE < FILE                    one printed case
   notice COUNT SEED                       wrong copies and spoilt answers as candidates: is each noticed?
   refine COUNT SEED                       godf_refine beside refine_once
@@ -84,7 +85,8 @@ pub fn run(copies: &'static [Copy]) {
             record(layer, reference, number(count), number(seed), Path::new(folder));
             true
         }
-        ["solve", name, count, seed] => solves::compare(name, named(name), number(count), number(seed)),
+        ["solve", name, count, seed] => solves::compare(name, named(name), solves::calls(number(count), number(seed))),
+        ["pass", name, count, seed] => solves::compare(name, named(name), solves::passes(number(count), number(seed))),
         ["try", name] => solves::attempt(named(name).as_ref(), &read_case()),
         ["notice", count, seed] => solves::notice(copies, number(count), number(seed)),
         ["refine", count, seed] => refine_call::compare(number(count), number(seed)),

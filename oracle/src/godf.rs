@@ -1,6 +1,68 @@
 //! The calls of libgodf.a on floors (include/godf.h), on slices.
 
+use crate::case::{Boundary, Case};
+
+/// include/godf.h's struct godf_options.
+#[repr(C)]
+pub struct Options {
+    accurate: f64,
+    holomorphic: f64,
+    anisotropy: f64,
+    anisotropy_angle: f64,
+    boundary: f64,
+    boundary_weight: f64,
+    adaptive: f64,
+}
+
+/// include/godf.h's struct godf_report.
+#[repr(C)]
+#[derive(Clone, Copy, Default)]
+pub struct Report {
+    pub number: u64,
+    pub place: u64,
+    pub other: u64,
+    pub pass: u64,
+    pub reason: u64,
+    pub flagged: u64,
+    pub cut: u64,
+}
+
 extern "C" {
+    fn godf_solve(
+        points: *const f64,
+        point_numbers: usize,
+        triangles: *const u32,
+        corners: usize,
+        sizes: *const f64,
+        size_count: usize,
+        guidance: *const f64,
+        guidance_count: usize,
+        guided: u32,
+        weight: f64,
+        options: *const Options,
+        iterations: usize,
+        coarse: *mut f64,
+        coarse_count: usize,
+        fine: *mut f64,
+        fine_count: usize,
+        work: *mut f64,
+        work_count: usize,
+        numbers: *mut u32,
+        number_count: usize,
+        report: *mut Report,
+    ) -> u64;
+    fn godf_work_f64(n: usize, triangles: usize, threshold: f64) -> usize;
+    fn godf_work_u32(n: usize, triangles: usize, threshold: f64) -> usize;
+    fn godf_fine_count(n: usize, triangles: usize, threshold: f64) -> usize;
+    fn godf_answer(
+        coarse: *const f64,
+        coarse_count: usize,
+        fine: *const f64,
+        fine_count: usize,
+        n: usize,
+        flagged: usize,
+        count: *mut usize,
+    ) -> u32;
     fn godf_refine(
         points: *const f64,
         point_numbers: usize,
@@ -132,4 +194,116 @@ pub fn count_singularities(alpha: &[f64], tris: &[u32]) -> (usize, usize) {
         )
     };
     (threes, fives)
+}
+
+/// What a solve is lent: coarse and fine angles, f64 and u32 work.
+pub struct Lent {
+    pub coarse: Vec<f64>,
+    pub fine: Vec<f64>,
+    pub work: Vec<f64>,
+    pub numbers: Vec<u32>,
+}
+
+impl Lent {
+    /// Slices of the lengths that a case lends, full of marks.
+    pub fn to(case: &Case) -> Self {
+        let [coarse, fine, work, numbers] = case.lent();
+        Self {
+            coarse: vec![MARK; coarse],
+            fine: vec![MARK; fine],
+            work: vec![MARK; work],
+            numbers: vec![MARK_U32; numbers],
+        }
+    }
+}
+
+/// A solve: the number that it returns, and its report, which holds 777s before the call.
+pub fn solve(case: &Case, lent: &mut Lent) -> (u64, Report) {
+    let o = &case.options;
+    let (boundary, boundary_weight) = match o.boundary {
+        Boundary::None => (0.0, 0.0),
+        Boundary::Tangent => (1.0, 0.0),
+        Boundary::Weak(weight) => (2.0, weight),
+    };
+    let options = Options {
+        accurate: if o.accurate { 1.0 } else { 0.0 },
+        holomorphic: o.holomorphic,
+        anisotropy: o.anisotropy,
+        anisotropy_angle: o.anisotropy_angle,
+        boundary,
+        boundary_weight,
+        adaptive: o.adaptive,
+    };
+    let none = vec![];
+    let (guided, weight, angles) = case
+        .guidance
+        .as_ref()
+        .map_or((0, 0.0, &none), |g| (1, g.weight, &g.angle));
+    let held = u64::from(MARK_U32);
+    let mut report = Report {
+        number: held,
+        place: held,
+        other: held,
+        pass: held,
+        reason: held,
+        flagged: held,
+        cut: held,
+    };
+    // SAFETY: each pointer goes with the length of its own slice
+    let number = unsafe {
+        godf_solve(
+            case.points.as_ptr(),
+            case.points.len(),
+            case.tris.as_ptr(),
+            case.tris.len(),
+            case.sizes.as_ptr(),
+            case.sizes.len(),
+            angles.as_ptr(),
+            angles.len(),
+            guided,
+            weight,
+            &options,
+            case.iterations as usize,
+            lent.coarse.as_mut_ptr(),
+            lent.coarse.len(),
+            lent.fine.as_mut_ptr(),
+            lent.fine.len(),
+            lent.work.as_mut_ptr(),
+            lent.work.len(),
+            lent.numbers.as_mut_ptr(),
+            lent.numbers.len(),
+            &mut report,
+        )
+    };
+    (number, report)
+}
+
+/// The lengths that row 18 asks for, of a fine slice, f64 work and u32 work.
+pub fn needed(n: usize, triangles: usize, threshold: f64) -> [usize; 3] {
+    // SAFETY: numbers alone
+    unsafe {
+        [
+            godf_fine_count(n, triangles, threshold),
+            godf_work_f64(n, triangles, threshold),
+            godf_work_u32(n, triangles, threshold),
+        ]
+    }
+}
+
+/// The answer of a solve.
+pub fn answer<'a>(coarse: &'a [f64], fine: &'a [f64], n: usize, flagged: usize) -> &'a [f64] {
+    let mut count = usize::MAX;
+    // SAFETY: each pointer goes with the length of its own slice
+    let which = unsafe {
+        godf_answer(
+            coarse.as_ptr(),
+            coarse.len(),
+            fine.as_ptr(),
+            fine.len(),
+            n,
+            flagged,
+            &mut count,
+        )
+    };
+    [coarse, fine][which as usize].get(..count).unwrap_or(&[f64::NAN])
 }

@@ -33,8 +33,8 @@ pub struct Given {
     pub work: Work,
 }
 
-const MOST_POINTS: usize = 16384;
-const MOST_TRIANGLES: usize = 32768;
+pub const MOST_POINTS: usize = 16384;
+pub const MOST_TRIANGLES: usize = 32768;
 const LARGEST_ANGLE: f64 = 131072.0;
 
 fn row_1(case: &Case) -> bool {

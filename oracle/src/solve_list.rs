@@ -1,30 +1,38 @@
-//! Records whole solves on small floors, for a program to replay: a call a row, 200 words each (oracle/README.md says what a row
-//! holds). No program replays the list yet, so none is committed.
+//! Records whole solves on small floors, for crates/solves to replay: `passes`, calls with threshold 0, which come to one pass or to
+//! a refusal, and `solves`, calls with any other. crates/solves/data/README.md says what a row holds.
 
 use crate::{
     case::{Boundary, Case},
     cases, known,
-    outcome::{expected, Answer},
+    outcome::{expected, Answer, Given},
     reference::Reference,
-    words::{word, words, List},
+    solves::named,
+    words::{word, words, Parted},
 };
-use std::path::Path;
+use std::{collections::BTreeMap, path::Path};
 
 const POINTS: usize = 12;
 const TRIANGLES: usize = 12;
 
-/// Whether every part has room in a row.
+/// Whether every part has room in the program.
 fn fits(case: &Case) -> bool {
     let angles = case.guidance.as_ref().map_or(0, |g| g.angle.len());
-    case.points.len() <= 3 * POINTS && case.tris.len() <= 3 * TRIANGLES && case.sizes.len() <= 16 && angles <= 16
+    case.points.len() <= 3 * POINTS + 3
+        && case.n() <= POINTS
+        && case.tris.len() <= 3 * TRIANGLES + 3
+        && case.triangles() <= TRIANGLES
+        && case.sizes.len() <= 16
+        && angles <= 16
 }
 
-fn put(row: &mut [u64], at: usize, part: &[u64]) {
-    row[at..at + part.len()].copy_from_slice(part);
+/// Four counts in one word, the first uppermost.
+fn four(parts: [u64; 4]) -> u64 {
+    assert!(parts.iter().all(|&p| p < 1 << 16), "a count over 16 bits");
+    parts.iter().fold(0, |word, part| word << 16 | part)
 }
 
-fn row(reference: &Reference, case: &Case) -> Vec<u64> {
-    let (o, given) = (&case.options, expected(reference, case));
+fn row(case: &Case, given: &Given) -> Vec<u64> {
+    let o = &case.options;
     let none = vec![];
     let angles = case.guidance.as_ref().map_or(&none, |g| &g.angle);
     let (boundary, weight) = match o.boundary {
@@ -32,62 +40,74 @@ fn row(reference: &Reference, case: &Case) -> Vec<u64> {
         Boundary::Tangent => (1, 0.0),
         Boundary::Weak(weight) => (2, weight),
     };
-    let mut row = vec![0; 200];
-    put(
-        &mut row,
-        0,
-        &[case.points.len(), case.tris.len(), case.sizes.len(), angles.len()].map(|k| k as u64),
-    );
-    let guided = case.guidance.as_ref().map_or([0, 0], |g| [1, word(g.weight)]);
-    put(&mut row, 4, &guided);
-    put(
-        &mut row,
-        6,
-        &[
-            u64::from(o.accurate),
-            word(o.holomorphic),
-            word(o.anisotropy),
-            word(o.anisotropy_angle),
-        ],
-    );
-    put(
-        &mut row,
-        10,
-        &[boundary, word(weight), word(o.adaptive), case.iterations],
-    );
-    put(&mut row, 14, &case.lent().map(|k| k as u64));
-    match given.answer {
-        Answer::Refused(r) => put(
-            &mut row,
-            18,
-            &[
-                u64::from(r.number),
-                r.place[0],
-                r.place[1],
-                u64::from(r.reason),
-                u64::from(r.pass),
-            ],
+    let (guided, pull) = case.guidance.as_ref().map_or((0, 0.0), |g| (1, g.weight));
+    let counts = [case.points.len(), case.tris.len(), case.sizes.len(), angles.len()];
+    let (told, places, coarse, fine) = match given.answer {
+        Answer::Refused(r) => (
+            [r.number.into(), r.reason.into(), r.pass.into()],
+            [r.place[0], r.place[1], 0, 0],
+            0,
+            0,
         ),
-        Answer::Accepted { flagged, cut } => {
-            let fine = if flagged > 0 { case.n() + cut } else { 0 };
-            put(&mut row, 23, &[flagged as u64, cut as u64]);
-            put(&mut row, 136, &words(&given.coarse[..case.n()]));
-            put(&mut row, 152, &words(&given.fine[..fine]));
-        }
-    }
-    put(&mut row, 25, &words(&case.points));
-    put(&mut row, 64, &words(&case.sizes));
-    put(&mut row, 80, &words(angles));
-    let corners: Vec<u64> = case.tris.iter().map(|&v| u64::from(v)).collect();
-    put(&mut row, 96, &corners);
+        Answer::Accepted { flagged, cut } => (
+            [0; 3],
+            [0, 0, flagged as u64, cut as u64],
+            case.n(),
+            if flagged > 0 { case.n() + cut } else { 0 },
+        ),
+    };
+    let mut row = vec![
+        0,
+        four(counts.map(|k| k as u64)),
+        four(case.lent().map(|k| k as u64)),
+        four([guided, o.accurate.into(), boundary, coarse as u64]),
+        word(pull),
+        word(o.holomorphic),
+        word(o.anisotropy),
+        word(o.anisotropy_angle),
+        word(weight),
+        word(o.adaptive),
+        case.iterations,
+        four([told[0], told[1], told[2], fine as u64]),
+        four(places),
+    ];
+    row.extend(words(&case.points));
+    row.extend(words(&case.sizes));
+    row.extend(words(angles));
+    row.extend(case.tris.iter().map(|&v| u64::from(v)));
+    row.extend(words(&given.coarse[..coarse]));
+    row.extend(words(&given.fine[..fine]));
+    row[0] = row.len() as u64;
     row
 }
 
-/// The calls whose outcome is known, and the first of a seed, that have room in a row; `count` in all.
+/// The calls whose outcome is known, and the first of a seed, that have room in the program: `count` solves, and twice as many passes.
+/// What they come to is said on the error stream.
 pub fn record(reference: &Reference, seed: u64, count: u64, folder: &Path) {
-    let mut list = List::new(folder, "solves", 200);
-    let calls = known::cases().into_iter().chain((0..).map(|i| cases::nth(seed, i)));
-    for case in calls.filter(fits).take(count as usize) {
-        list.row(&row(reference, &case));
-    }
+    let calls = || {
+        known::cases()
+            .into_iter()
+            .chain((0..).map(|i| cases::nth(seed, i)))
+            .filter(fits)
+    };
+    let list = |name: &str, calls: &mut dyn Iterator<Item = Case>| {
+        let mut list = Parted::new(folder, name);
+        let mut outcomes: BTreeMap<String, usize> = BTreeMap::new();
+        for case in calls {
+            let given = expected(reference, &case);
+            *outcomes.entry(named(&given)).or_default() += 1;
+            list.row(&row(&case, &given));
+        }
+        for (outcome, times) in outcomes {
+            eprintln!("{name} {times:6} {outcome}");
+        }
+    };
+    list(
+        "passes",
+        &mut calls().filter(|c| c.options.adaptive == 0.0).take(2 * count as usize),
+    );
+    list(
+        "solves",
+        &mut calls().filter(|c| c.options.adaptive != 0.0).take(count as usize),
+    );
 }

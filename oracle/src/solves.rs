@@ -21,6 +21,14 @@ pub fn calls(count: u64, seed: u64) -> impl Iterator<Item = Case> {
     known::cases().into_iter().chain(small).chain(large)
 }
 
+/// The same with threshold 0: each comes to one pass, or to a refusal.
+pub fn passes(count: u64, seed: u64) -> impl Iterator<Item = Case> {
+    calls(count, seed).map(|mut case| {
+        case.options.adaptive = 0.0;
+        case
+    })
+}
+
 /// A short name of what came out.
 pub fn named(given: &Given) -> String {
     match given.answer {
@@ -53,12 +61,14 @@ pub struct Tally {
     pub tried: usize,
     pub differ: usize,
     pub kinds: BTreeMap<Kind, usize>,
+    pub outcomes: BTreeMap<String, usize>,
     pub first: Option<Case>,
 }
 
 impl Tally {
-    fn add(&mut self, case: &Case, kinds: &[Kind]) {
+    fn add(&mut self, case: &Case, want: &Given, kinds: &[Kind]) {
         self.tried += 1;
+        *self.outcomes.entry(named(want)).or_default() += 1;
         self.differ += usize::from(!kinds.is_empty());
         for kind in kinds {
             *self.kinds.entry(kind).or_default() += 1;
@@ -78,12 +88,12 @@ impl Tally {
 }
 
 /// Every candidate on the same calls, the judge asked once for each.
-pub fn tallies(candidates: &[Box<dyn Candidate>], count: u64, seed: u64) -> Vec<Tally> {
+pub fn tallies(candidates: &[Box<dyn Candidate>], calls: impl Iterator<Item = Case>) -> Vec<Tally> {
     let mut tallies: Vec<Tally> = candidates.iter().map(|_| Tally::default()).collect();
-    for case in calls(count, seed) {
+    for case in calls {
         let want = expected(BOUND, &case);
         for (candidate, tally) in candidates.iter().zip(&mut tallies) {
-            tally.add(&case, &against(candidate.as_ref(), &case, &want));
+            tally.add(&case, &want, &against(candidate.as_ref(), &case, &want));
         }
     }
     tallies
@@ -118,10 +128,14 @@ pub fn attempt(candidate: &dyn Candidate, case: &Case) -> bool {
     kinds.is_empty()
 }
 
-/// The comparison of one candidate: a line of counts, and the first case that differs, made small. True where none differs.
-pub fn compare(name: &str, candidate: Box<dyn Candidate>, count: u64, seed: u64) -> bool {
+/// The comparison of one candidate: what the calls come to, a line of counts, and the first case that differs, made small. True where
+/// none differs.
+pub fn compare(name: &str, candidate: Box<dyn Candidate>, calls: impl Iterator<Item = Case>) -> bool {
     let candidates = [candidate];
-    let tally = &tallies(&candidates, count, seed)[0];
+    let tally = &tallies(&candidates, calls)[0];
+    for (outcome, times) in &tally.outcomes {
+        println!("{times:8} {outcome}");
+    }
     println!("{name} {} compared, {} differ", tally.tried, tally.differ);
     if let Some(case) = &tally.first {
         println!("by kind: {}", tally.by_kind());
@@ -145,7 +159,7 @@ pub fn notice(copies: &[Copy], count: u64, seed: u64) -> bool {
     );
     candidates.extend(SPOILT.map(|s| Box::new(s.1) as Box<dyn Candidate>));
     let mut good = true;
-    for (tally, (name, layers)) in tallies(&candidates, count, seed).iter().zip(names) {
+    for (tally, (name, layers)) in tallies(&candidates, calls(count, seed)).iter().zip(names) {
         let kinds = if tally.differ == 0 {
             String::new()
         } else {

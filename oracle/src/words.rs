@@ -49,3 +49,39 @@ pub fn word(x: f64) -> u64 {
 pub fn words(xs: &[f64]) -> Vec<u64> {
     xs.iter().map(|&x| word(x)).collect()
 }
+
+/// The words that a program reads at a time (crates/replay).
+const CHUNK: usize = 3840;
+
+/// A list of rows that say in their first word how long they are. No row straddles two chunks: a word 0 says that none is left in one.
+pub struct Parted {
+    file: BufWriter<File>,
+    used: usize,
+}
+
+impl Parted {
+    pub fn new(folder: &Path, name: &str) -> Self {
+        let path = folder.join(name);
+        let file = File::create(&path).unwrap_or_else(|e| panic!("{}: {e}", path.display()));
+        Self {
+            file: BufWriter::new(file),
+            used: 0,
+        }
+    }
+
+    fn put(&mut self, words: &[u64]) {
+        let text: Vec<String> = words.iter().map(|w| format!("{w:016x}")).collect();
+        self.file
+            .write_all((text.join(" ") + "\n").as_bytes())
+            .expect("recorded words");
+        self.used = (self.used + words.len()) % CHUNK;
+    }
+
+    pub fn row(&mut self, words: &[u64]) {
+        assert!(words[0] == words.len() as u64 && words.len() <= CHUNK, "a row's length");
+        if self.used + words.len() > CHUNK {
+            self.put(&vec![0; CHUNK - self.used]);
+        }
+        self.put(words);
+    }
+}

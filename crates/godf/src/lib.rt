@@ -1,6 +1,7 @@
 // What C and Rust call. Each function is one of a layer below under C's calling rules, and include/godf.h mirrors this file.
 pub mod field;
 pub mod refine;
+pub mod solve_call;
 
 ghost use mathlib.Core.Path.{_≡_};
 ghost use Rattle.sine.specs.Sine.{sinOf, cosOf};

@@ -1,0 +1,2 @@
+mod Answer
+mod Told

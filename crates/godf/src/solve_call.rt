@@ -1,0 +1,198 @@
+// The solve. A slice is a pointer and a length, a reference to an array a pointer: C sees seven doubles as a struct godf_options, and seven numbers as a
+// struct godf_report.
+ghost use mathlib.Core.Path.{_≡_};
+ghost use Prim.Native.Nat.{_≤_};
+ghost use Rattle.pass.specs.Pass.{passOf};
+ghost use Rattle.calls.specs.Solve.{solveOf, numberOf};
+ghost use Rattle.solve.specs.Passes.{callFor, lent};
+ghost use Rattle.godf.specs.Solve.{boundaryOf, optionsOf, askedOf, reportOf, SolveTold, mostOf, fineCount, workReals, workWords, AnswerTold};
+use calls::Outcome;
+use options::BoundaryMode;
+use options::Options;
+use pass::Asked;
+
+// Row 1's limits.
+const MOST_POINTS: usize = 16384;
+
+const MOST_TRIANGLES: usize = 32768;
+
+// The boundary modes as numbers.
+const NONE: f64 = 0.0;
+
+const TANGENT: f64 = 1.0;
+
+const WEAK: f64 = 2.0;
+
+// Any other number is a weak mode of this weight, which row 13 refuses.
+const NO_WEIGHT: f64 = -1.0;
+
+fn boundary_of(mode: f64, weight: f64) -> BoundaryMode
+    ensures { λ r. ⌜ r ≡ boundaryOf mode weight ⌝ }
+{
+    if mode == NONE {
+        return BoundaryMode::None;
+    }
+    if mode == TANGENT {
+        return BoundaryMode::Tangent;
+    }
+    if mode == WEAK {
+        return BoundaryMode::Weak(weight);
+    }
+    BoundaryMode::Weak(NO_WEIGHT)
+}
+
+fn options_of(o: &[f64; 7]) -> Options
+    ensures { λ r. ⌜ r ≡ optionsOf (now (o .entry)) ⌝ }
+{
+    let boundary = boundary_of(o[4], o[5]);
+    Options {
+        accurate: o[0] != 0.0,
+        holomorphic: o[1],
+        anisotropy: o[2],
+        anisotropy_angle: o[3],
+        boundary,
+        adaptive: o[6],
+    }
+}
+
+fn asked_of(guided: u32, weight: f64, iterations: usize) -> Asked
+    ensures { λ r. ⌜ r ≡ askedOf guided weight iterations ⌝ }
+{
+    Asked {
+        guided: guided != 0,
+        weight,
+        iterations,
+    }
+}
+
+// Tells an outcome: its number, and all seven of the report.
+fn tell_outcome(outcome: Outcome, report: &mut [u64; 7]) -> u64
+    ensures { λ r. ⌜ (r ≡ numberOf outcome) × (now (report .exit) ≡ reportOf outcome) ⌝ }
+{
+    match outcome {
+        Outcome::Solved(c) => {
+            *report = [0, 0, 0, 0, 0, c.flagged as u64, c.cut as u64];
+            0
+        }
+        Outcome::Refused(x) => {
+            *report = [x.number, x.place, x.other, x.pass, x.reason, 0, 0];
+            x.number
+        }
+    }
+}
+
+// A solve: solve::solve. 0, or the number of a refusal.
+#[no_mangle]
+pub extern "C" fn godf_solve(
+    points: &[f64],
+    triangles: &[u32],
+    sizes: &[f64],
+    guidance: &[f64],
+    guided: u32,
+    weight: f64,
+    options: &[f64; 7],
+    iterations: usize,
+    coarse: &mut [f64],
+    fine: &mut [f64],
+    work: &mut [f64],
+    numbers: &mut [u32],
+    report: &mut [u64; 7],
+) -> u64
+    ensures { λ r. ⌜ SolveTold
+        (solveOf passOf
+        (callFor (now (points .entry)) (now (triangles .entry)) (now (sizes .entry)) (now (guidance .entry)) (optionsOf (now (options .entry))) (askedOf guided weight iterations))
+        (lent (now (coarse .entry)) (now (fine .entry)) (now (work .entry)) (now (numbers .entry))))
+        r (now (coarse .exit)) (now (fine .exit)) (now (work .exit)) (now (numbers .exit)) (now (report .exit)) ⌝ }
+{
+    let o = options_of(options);
+    let a = asked_of(guided, weight, iterations);
+    let outcome = solve::solve(
+        points,
+        triangles,
+        sizes,
+        guidance,
+        coarse,
+        fine,
+        work,
+        numbers,
+        o,
+        a,
+    );
+    tell_outcome(outcome, report)
+}
+
+// Row 18's n' and t'.
+pub struct Most {
+    pub points: usize,
+    pub triangles: usize,
+}
+
+fn most_of(n: usize, triangles: usize, threshold: f64) -> Most
+    ensures { λ r. ⌜ (r ≡ mostOf n triangles threshold) × ((r .points ≤ 114688) × (r .triangles ≤ 131072)) ⌝ }
+{
+    if n > MOST_POINTS {
+        return Most {
+            points: 0,
+            triangles: 0,
+        };
+    }
+    if triangles > MOST_TRIANGLES {
+        return Most {
+            points: 0,
+            triangles: 0,
+        };
+    }
+    let points = calls::most_points(threshold > 0.0, n, triangles);
+    Most {
+        points,
+        triangles: calls::most_triangles(threshold > 0.0, triangles),
+    }
+}
+
+// How long the fine slice has to be by row 18; 0 where row 1 refuses so many points and triangles.
+#[no_mangle]
+pub extern "C" fn godf_fine_count(n: usize, triangles: usize, threshold: f64) -> usize
+    ensures { λ r. ⌜ r ≡ fineCount n triangles threshold ⌝ }
+{
+    if threshold > 0.0 {
+        return most_of(n, triangles, threshold).points;
+    }
+    0
+}
+
+// The f64 work likewise.
+#[no_mangle]
+pub extern "C" fn godf_work_f64(n: usize, triangles: usize, threshold: f64) -> usize
+    ensures { λ r. ⌜ r ≡ workReals n triangles threshold ⌝ }
+{
+    let m = most_of(n, triangles, threshold);
+    64 * m.points + 32 * m.triangles
+}
+
+// The u32 work likewise.
+#[no_mangle]
+pub extern "C" fn godf_work_u32(n: usize, triangles: usize, threshold: f64) -> usize
+    ensures { λ r. ⌜ r ≡ workWords n triangles threshold ⌝ }
+{
+    let m = most_of(n, triangles, threshold);
+    16 * m.points + 32 * m.triangles
+}
+
+// The answer of a solve: calls::answer, as the first `count` angles of `coarse` (0) or of `fine` (1).
+#[no_mangle]
+pub extern "C" fn godf_answer<'a>(
+    coarse: &'a [f64],
+    fine: &'a [f64],
+    n: usize,
+    flagged: usize,
+    count: &mut usize,
+) -> u32
+    ensures { λ r. ⌜ AnswerTold n flagged (now (coarse .entry)) (now (fine .entry)) r (now (count .exit)) ⌝ }
+{
+    let part = calls::answer(coarse, fine, n, flagged);
+    *count = part.len();
+    if flagged == 0 {
+        return 0;
+    }
+    1
+}

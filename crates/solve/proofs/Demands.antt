@@ -1,0 +1,41 @@
+-- Demands 1 and 3 of everything that meets the contract of `solve`: the claims of crate calls, over the pass of this project, on the outcome and the slices
+-- as `Ends` has them. Assumes nothing.
+use Prim.Native.Nat.{ℕ}
+use mathlib.Core.Path.{_≡_, sym, _∙_}
+use mathlib.Core.Logic.{_↔_}
+use mathlib.Core.List.{List}
+use lib.Ieee.{Float}
+use Rattle.pass.specs.Pass.{passOf}
+use Rattle.pass.proofs.Facts.{pass-facts}
+use Rattle.calls.specs.declared.Refusal.{Refusal}
+use Rattle.calls.specs.declared.Counts.{Counts}
+use Rattle.calls.specs.declared.Outcome.{Outcome}
+use Rattle.calls.specs.declared.Outcome.the-variants.{Solved, Refused}
+use Rattle.calls.specs.Checks.{Call, Lent, pointsIn}
+use Rattle.calls.specs.Solve.{solveOf, answerPart, Ends}
+use Rattle.calls.specs.Refusals.{RefusedBy, Refusals}
+use Rattle.calls.specs.Claim.{RefiningSolve}
+use Rattle.calls.proofs.Refusals.{refusals}
+use Rattle.calls.proofs.Claim.{refining-solve}
+use Rattle.solve.specs.Demands.{Refines, DemandThree, Demands}
+
+module _ (c : Call) (lent : Lent) {r : Outcome} {coarse fine work : List Float} {numbers : List ℕ} (ends : Ends (solveOf passOf c lent) r coarse fine work numbers) where
+  by-rows : Refusals passOf c lent
+  by-rows = refusals passOf c lent
+
+  refused-when : (x : Refusal) → (r ≡ Refused x) ↔ RefusedBy passOf c lent x
+  refused-when x = (λ h. by-rows .exactly x .0 (sym (ends .outcome) ∙ h), λ h. ends .outcome ∙ by-rows .exactly x .1 h)
+
+  refining : (counts : Counts) (alpha : List Float) → Refines c r counts alpha → DemandThree c lent counts alpha coarse fine
+  refining counts alpha h =
+      let claim : RefiningSolve passOf c lent counts alpha = refining-solve passOf pass-facts c lent counts alpha
+      (record { accepted = sym (ends .outcome) ∙ h .accepted; first = h .first; above = h .above; flags = h .flags }) in
+      record { claim = claim; answer = rw (ends .coarse-left, ends .fine-left) (claim .answer) }
+
+  pub demands : Demands c lent r coarse fine work numbers
+  demands = record {
+    refused = refused-when;
+    no-angles = λ x h. let e = by-rows .no-angles x (sym (ends .outcome) ∙ h) in (ends .coarse-left ∙ e .0, ends .fine-left ∙ e .1);
+    zeros = λ s. let e = by-rows .zeros s in (ends .work-left ∙ e .0, ends .numbers-left ∙ e .1);
+    refining = refining;
+  }

@@ -1,0 +1,45 @@
+-- What is owed of a whole solve, as claims on what the function `solve` answers and leaves: r is its outcome, coarse, fine, work and numbers are the lent
+-- slices as they are when it returns. Proved in proofs/Demands of everything that meets the contract of `solve`. Definitions only.
+use Prim.Native.Nat.{ℕ}
+use mathlib.Core.Path.{_≡_}
+use mathlib.Core.Logic.{_↔_}
+use mathlib.Core.List.{List}
+use lib.ListN.{length, take, replicate}
+use lib.Ieee.{Float, lt}
+use mathlib.Core.Bool.{true}
+use Rattle.float.specs.Double.{lit}
+use Rattle.mesh.specs.Mesh.{Tri}
+use Rattle.options.specs.Pass.{field}
+use Rattle.pass.specs.Pass.{passOf}
+use Rattle.calls.specs.declared.Refusal.{Refusal}
+use Rattle.calls.specs.declared.Counts.{Counts}
+use Rattle.calls.specs.declared.Outcome.{Outcome}
+use Rattle.calls.specs.declared.Outcome.the-variants.{Solved, Refused}
+use Rattle.calls.specs.Checks.{Call, Lent, pointsIn}
+use Rattle.calls.specs.Solve.{firstPass, answerPart}
+use Rattle.calls.specs.Claim.{old, Listed, Turns, RefiningSolve}
+use Rattle.calls.specs.Refusals.{RefusedBy, Passes}
+
+-- "every accepted solve that refines": the threshold is above 0, and the first pass's angles alpha flag a triangle
+pub record Refines (c : Call) (r : Outcome) (counts : Counts) (alpha : List Float) : Type 0 where
+  pub accepted : r ≡ Solved counts
+  pub first : firstPass passOf c ≡ field alpha
+  pub above : lt (lit 0) (c .options .adaptive) ≡ true
+  pub flags : (t : Tri) × Listed (old c) t × Turns c alpha t
+
+-- demand 3 of that solve: `RefiningSolve` of crate calls, whose fields follow the demand's sentences, and its answer in the slices as they are left:
+-- "the answer equals, bit for bit, the first n angles of the second pass on that floor"
+pub record DemandThree (c : Call) (lent : Lent) (counts : Counts) (alpha coarse fine : List Float) : Type 0 where
+  pub claim : RefiningSolve passOf c lent counts alpha
+  pub answer : answerPart (pointsIn c) (counts .flagged) coarse fine ≡ take (pointsIn c) (claim .beta)
+
+pub record Demands (c : Call) (lent : Lent) (r : Outcome) (coarse fine work : List Float) (numbers : List ℕ) : Type 0 where
+  -- demand 1: "every solve ends in a field or in a refusal with its number and place from document 01's table"; a refusal is given exactly if its row
+  -- holds and no earlier one does
+  pub refused : (x : Refusal) → (r ≡ Refused x) ↔ RefusedBy passOf c lent x
+  -- "a refusal leaves the answer slices untouched"
+  pub no-angles : (x : Refusal) → r ≡ Refused x → (coarse ≡ lent .coarse) × (fine ≡ lent .fine)
+  -- from row 19 on all of both work slices ends as zeros
+  pub zeros : Passes c lent → (work ≡ replicate (length (lent .work)) (lit 0)) × (numbers ≡ replicate (length (lent .numbers)) 0)
+  -- demand 3
+  pub refining : (counts : Counts) (alpha : List Float) → Refines c r counts alpha → DemandThree c lent counts alpha coarse fine
