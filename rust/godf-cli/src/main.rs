@@ -18,6 +18,7 @@ use text::{counted, grouped, OwnedFloor};
 const REFUSED: u8 = 1;
 const WRONG_USE: u8 = 2;
 const ITERATIONS: usize = 100;
+const WRITING: &str = "writing";
 
 /// Why a command ends early.
 enum Stop {
@@ -156,9 +157,16 @@ fn said(options: &Options, arguments: &Arguments) -> String {
     words
 }
 
-/// Writes what was asked for, and then the summary: to standard output, or to standard error where an output went there.
+impl Outputs {
+    /// Makes a text and writes it, to be put in its place with the others.
+    fn add(&mut self, stages: &mut Stages, name: &str, text: impl FnOnce() -> String) -> Result<(), Stop> {
+        Ok(stages.run(WRITING, &format!("{WRITING} {name}"), || self.stage(name, text()))?)
+    }
+}
+
+/// Puts in its place what was written, and then tells the summary: to standard output, or to standard error where an output went there.
 fn write(stages: &mut Stages, outputs: Outputs, arguments: &Arguments, mut summary: String) -> Result<(), Stop> {
-    let names = stages.run("writing", "writing", || outputs.finish())?;
+    let names = stages.run(WRITING, WRITING, || outputs.finish())?;
     if !names.is_empty() {
         let _ = writeln!(summary, "wrote {}", names.join(", "));
     }
@@ -214,13 +222,13 @@ fn solve_and_write(
             cut,
         };
         let svg = stages.run("drawing", &format!("drawing {}", counts(last)), || svg::draw(&picture));
-        outputs.stage(to, svg)?;
+        outputs.add(stages, to, || svg)?;
     }
     if let Some(to) = &arguments.angles {
-        outputs.stage(to, text::write_angles(&solved.angles))?;
+        outputs.add(stages, to, || text::write_angles(&solved.angles))?;
     }
     if let Some(to) = &arguments.floor {
-        outputs.stage(to, text::write(last, Some(angles)))?;
+        outputs.add(stages, to, || text::write(last, Some(angles)))?;
     }
     write(stages, outputs, arguments, summary)
 }
@@ -259,13 +267,14 @@ fn refine_and_write(stages: &mut Stages, name: &str, given: &OwnedFloor, argumen
             flagged: &flagged,
             cut: &refined.cut_sides,
         };
-        outputs.stage(to, stages.run("drawing", "drawing", || svg::draw(&picture)))?;
+        let svg = stages.run("drawing", &format!("drawing {}", counts(floor)), || svg::draw(&picture));
+        outputs.add(stages, to, || svg)?;
     }
     if let Some(to) = &arguments.angles {
-        outputs.stage(to, text::write_angles(&angles))?;
+        outputs.add(stages, to, || text::write_angles(&angles))?;
     }
     if let Some(to) = &arguments.floor {
-        outputs.stage(to, text::write(refined.floor(), None))?;
+        outputs.add(stages, to, || text::write(refined.floor(), None))?;
     }
     write(stages, outputs, &arguments, summary)
 }

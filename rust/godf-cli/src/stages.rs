@@ -35,7 +35,7 @@ fn tell(what: &str, ended: &Receiver<()>) {
 }
 
 impl Stages {
-    /// Runs a stage; `what` is said of it while it lasts.
+    /// Runs a stage, or more of it; `what` is said of it while it lasts.
     pub fn run<T>(&mut self, name: &'static str, what: &str, stage: impl FnOnce() -> T) -> T {
         let begun = Instant::now();
         let answer = thread::scope(|scope| {
@@ -47,7 +47,11 @@ impl Stages {
             drop(teller);
             answer
         });
-        self.0.push((name, begun.elapsed()));
+        let time = begun.elapsed();
+        match self.0.iter_mut().find(|stage| stage.0 == name) {
+            Some(stage) => stage.1 += time,
+            None => self.0.push((name, time)),
+        }
         answer
     }
 
