@@ -4,8 +4,8 @@ use mathlib.Core.Bool.{Bool, not, cond, _&&_, _||_}
 use mathlib.Core.List.{List}
 use lib.Dec.{eqb, ltb, leb}
 use lib.ListN.{length, getD}
-use lib.Ieee.{Float, nan, lt, le}
-use Rattle.float.specs.Double.{lit, isFinite}
+use lib.Ieee.{Float, nan, lt}
+use Rattle.float.specs.Double.{lit, isFinite, notPositive}
 use Rattle.areas.specs.Points.{xOf, yOf}
 use Rattle.floor.specs.declared.Refusal.{Refusal}
 use Rattle.floor.specs.declared.Check.{Check}
@@ -23,13 +23,16 @@ unfoldable pub lowest : (ℕ → Bool) → ℕ → ℕ
 lowest p zero = zero
 lowest p (suc i) = cond (ltb (lowest p i) i) (lowest p i) (cond (p i) i (suc i))
 
--- row 1, of the lengths of the two slices: whole triples, at most 16,384 points and 32,768 triangles
-unfoldable pub wellFormed : ℕ → ℕ → Bool
-wellFormed numbers corners = eqb (numbers % 3) 0 && (eqb (corners % 3) 0 && (leb (numbers / 3) 16384 && leb (corners / 3) 32768))
+-- the most that row 1 lets through
+abbrev pub MOST-POINTS : ℕ
+MOST-POINTS = 16384
 
--- rows 7 and 10: "not finite and positive"
-unfoldable pub notFiniteAndPositive : Float → Bool
-notFiniteAndPositive x = not (isFinite x) || le x (lit 0)
+abbrev pub MOST-TRIANGLES : ℕ
+MOST-TRIANGLES = 32768
+
+-- row 1, of the lengths of the two slices: whole triples, and not too many
+unfoldable pub wellFormed : ℕ → ℕ → Bool
+wellFormed numbers corners = eqb (numbers % 3) 0 && (eqb (corners % 3) 0 && (leb (numbers / 3) MOST-POINTS && leb (corners / 3) MOST-TRIANGLES))
 
 -- rows 12, 13 and 14: "not finite or below 0"
 unfoldable pub notFiniteOrBelowZero : Float → Bool
@@ -39,9 +42,9 @@ notFiniteOrBelowZero x = not (isFinite x) || lt x (lit 0)
 unfoldable pub badPoint : List Float → ℕ → Bool
 badPoint points i = not (isFinite (xOf points i)) || not (isFinite (yOf points i))
 
--- row 7
+-- row 7: "not finite and positive"
 unfoldable pub badSize : List Float → ℕ → Bool
-badSize sizes i = notFiniteAndPositive (getD sizes i nan)
+badSize sizes i = notPositive (getD sizes i nan)
 
 -- row 8, with n points
 unfoldable pub badCorner : List ℕ → ℕ → ℕ → Bool

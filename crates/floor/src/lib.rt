@@ -4,7 +4,7 @@ ghost use mathlib.Core.Bool.{not};
 ghost use Prim.Native.Nat.{_+_, _*_, _/_, _≤_};
 ghost use lib.ListN.{length, getD};
 ghost use lib.Ieee.{nan};
-ghost use Rattle.floor.specs.Checks.{lowest, wellFormed, badPoint, badSize, badCorner, notFiniteAndPositive, notFiniteOrBelowZero, rowAt, checkFloor};
+ghost use Rattle.floor.specs.Checks.{lowest, wellFormed, badPoint, badSize, badCorner, notFiniteOrBelowZero, rowAt, checkFloor};
 
 // A row of the table, and the place that it reports: 0 where the table says "none".
 pub struct Refusal {
@@ -16,6 +16,11 @@ pub enum Check {
     Sound,
     Refused(Refusal),
 }
+
+// The most that row 1 lets through.
+pub const MOST_POINTS: usize = 16384;
+
+pub const MOST_TRIANGLES: usize = 32768;
 
 // The number at i, and a NaN past the end.
 pub fn read(s: &[f64], i: usize) -> f64
@@ -37,14 +42,7 @@ pub fn well_formed(numbers: usize, corners: usize) -> bool
     if corners % 3 != 0 {
         return false;
     }
-    numbers / 3 <= 16384 && corners / 3 <= 32768
-}
-
-// Rows 7 and 10.
-pub fn not_finite_and_positive(x: f64) -> bool
-    ensures { λ r. ⌜ r ≡ notFiniteAndPositive x ⌝ }
-{
-    !float::is_finite(x) || x <= 0.0
+    numbers / 3 <= MOST_POINTS && corners / 3 <= MOST_TRIANGLES
 }
 
 // Rows 12, 13 and 14.
@@ -64,7 +62,7 @@ fn bad_point(points: &[f64], i: usize) -> bool
 fn bad_size(sizes: &[f64], i: usize) -> bool
     ensures { λ r. ⌜ r ≡ badSize (now (sizes .entry)) i ⌝ }
 {
-    not_finite_and_positive(read(sizes, i))
+    float::not_positive(read(sizes, i))
 }
 
 fn bad_corner(triangles: &[u32], n: usize, i: usize) -> bool

@@ -8,8 +8,8 @@ use mathlib.Core.Bool.{Bool, cond, not, _||_}
 use mathlib.Core.List.{List}
 use lib.Dec.{eqb, ltb}
 use lib.ListN.{length, getD, set}
-use lib.Ieee.{Float, nan, le}
-use Rattle.float.specs.Double.{lit, isFinite, _⊕_, _⊗_, _⊘_}
+use lib.Ieee.{Float, nan}
+use Rattle.float.specs.Double.{lit, isFinite, notPositive, _⊕_, _⊗_, _⊘_}
 use Rattle.plane.specs.declared.Pair.{Pair}
 use Rattle.mesh.specs.Mesh.{Tri, tri}
 use Rattle.edges.specs.Numbering.{triFrom}
@@ -45,17 +45,14 @@ weighedY X Y S ts A t = A t ⊗ gradientOn X Y S (ts t) (A t) .y
 
 -- ---- the mean at each point, of the sums X and Y and the weights W
 
--- row 20: "point in no triangle, or the areas of its triangles add to infinity"
-abbrev pub noWeight : Float → Bool
-noWeight weight = not (isFinite weight) || le weight (lit 0)
-
 -- row 21: "size gradient not finite"
 abbrev pub notFinite : Float → Float → Bool
 notFinite x y = not (isFinite x) || not (isFinite y)
 
--- "rows 20 and 21 are tested point by point": the row that refuses a point, or 0
+-- "rows 20 and 21 are tested point by point": the row that refuses a point, or 0. Row 20: "point in no triangle, or the areas of its triangles add to
+-- infinity", so that its weight is 0 or not finite
 unfoldable pub rowOf : Float → Float → Float → ℕ
-rowOf x y weight = cond (noWeight weight) 20 (cond (notFinite (x ⊘ weight) (y ⊘ weight)) 21 0)
+rowOf x y weight = cond (notPositive weight) 20 (cond (notFinite (x ⊘ weight) (y ⊘ weight)) 21 0)
 
 abbrev pub rowOfPoint : (ℕ → Float) → (ℕ → Float) → (ℕ → Float) → ℕ → ℕ
 rowOfPoint X Y W v = rowOf (X v) (Y v) (W v)

@@ -7,7 +7,7 @@ ghost use lib.ListN.{length};
 ghost use Rattle.mesh.specs.Mesh.{tri};
 ghost use Rattle.edges.specs.Numbering.{Below};
 ghost use Rattle.geometries.specs.Geometries.{Cornered};
-ghost use Rattle.gradients.specs.Gradients.{gradientIn, Room, addAt, addThree, addTriangle, GatheredTriangle, GatheredTo, noWeight, notFinite, rowOf, divideAt, DividedPoint, Divided};
+ghost use Rattle.gradients.specs.Gradients.{gradientIn, Room, addAt, addThree, addTriangle, GatheredTriangle, GatheredTo, notFinite, rowOf, divideAt, DividedPoint, Divided};
 
 // How many points and triangles there are, and where: in the f64 work the points' coordinates and sizes and the triangles' areas, and the sums, n first
 // parts, then n second parts, then n weights; in the u32 work the corners, counter-clockwise.
@@ -100,12 +100,6 @@ pub fn gather(work: &mut [f64], words: &[u32], p: Plan)
     gather_all(work, words, p);
 }
 
-fn no_weight(weight: f64) -> bool
-    ensures { λ r. ⌜ r ≡ noWeight weight ⌝ }
-{
-    !float::is_finite(weight) || weight <= 0.0
-}
-
 fn not_finite(x: f64, y: f64) -> bool
     ensures { λ r. ⌜ r ≡ notFinite x y ⌝ }
 {
@@ -116,7 +110,7 @@ fn not_finite(x: f64, y: f64) -> bool
 fn row_of(x: f64, y: f64, weight: f64) -> u64
     ensures { λ r. ⌜ r ≡ rowOf x y weight ⌝ }
 {
-    if no_weight(weight) {
+    if float::not_positive(weight) {
         return 20;
     }
     if not_finite(x / weight, y / weight) {

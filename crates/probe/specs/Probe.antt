@@ -25,8 +25,11 @@ abbrev pub finite : Float → Bool
 finite x = isFinite x
 
 -- at most 131,072 in size
+abbrev pub LARGEST-ANGLE : Float
+LARGEST-ANGLE = lit 0x4100_0000_0000_0000
+
 abbrev pub small : Float → Bool
-small x = not (lt (lit 0x4100_0000_0000_0000) (mag x))
+small x = not (lt LARGEST-ANGLE (mag x))
 
 -- x and y of point v; z is not read
 abbrev pub cornerAt : List Float → ℕ → Pair

@@ -200,12 +200,15 @@ fn all_finite(alpha: &[f64]) -> bool
     true
 }
 
+// The largest angle that the probe takes: any above it is the answer "angle too large".
+const LARGEST_ANGLE: f64 = 131072.0;
+
 fn all_small(alpha: &[f64]) -> bool
     ensures { λ r. ⌜ r ≡ every small (now (alpha .entry)) ⌝ }
 {
     let mut i = 0;
     while i < alpha.len() {
-        if float::abs(alpha[i]) > 131072.0 {
+        if float::abs(alpha[i]) > LARGEST_ANGLE {
             return false;
         }
         i += 1;

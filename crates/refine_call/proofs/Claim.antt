@@ -48,9 +48,9 @@ corners-in points corners sizes e =
     in-range corners n t (λ i h. lowest-before (badCorner corners n) t i (omega (arith, ltb-false (lowest (badCorner corners n) t) t (g .0))))
 
 -- row 12
-not-low : (n t angles : ℕ) (threshold : Float) (op os ot oe : ℕ) → checkRest n t angles threshold op os ot oe ≡ Sound → le (lit 0) threshold ≡ true
+not-low : (n t angles : ℕ) (threshold : Float) (newPoints newSizes newTriangles cutEnds : ℕ) → checkRest n t angles threshold newPoints newSizes newTriangles cutEnds ≡ Sound → le (lit 0) threshold ≡ true
 unfolding checkRest notFiniteOrBelowZero
-not-low n t angles threshold op os ot oe e =
+not-low n t angles threshold newPoints newSizes newTriangles cutEnds e =
     let a = passed (not (eqb angles n)) (row 5) _ e in
     let b = passed (notFiniteOrBelowZero threshold) (row 12) _ (a .1) in
     let c = or-none (not (isFinite threshold)) (lt threshold (lit 0)) (b .0) in
@@ -61,18 +61,18 @@ module _ (points : List Float) (corners : List ℕ) (sizes angles : List Float) 
   unfolding refinementOf
   made-points = points-length points (cuts (flaggedTri threshold angles) (trisOf corners))
 
-  pub accepted-call : (op os ot oe : ℕ) (counts : Counts)
-      → answerOf (checkCall points corners sizes (length angles) threshold op os ot oe) (refinementOf threshold angles points sizes (trisOf corners)) ≡ Refinement counts
+  pub accepted-call : (newPoints newSizes newTriangles cutEnds : ℕ) (counts : Counts)
+      → answerOf (checkCall points corners sizes (length angles) threshold newPoints newSizes newTriangles cutEnds) (refinementOf threshold angles points sizes (trisOf corners)) ≡ Refinement counts
       → AcceptedCall threshold angles points sizes (trisOf corners) (refinementOf threshold angles points sizes (trisOf corners)) counts
   unfolding checkCall refinementOf
-  accepted-call op os ot oe counts e =
+  accepted-call newPoints newSizes newTriangles cutEnds counts e =
       let r = refinementOf threshold angles points sizes (trisOf corners) in
-      let a = answered (checkCall points corners sizes (length angles) threshold op os ot oe) r counts e in
+      let a = answered (checkCall points corners sizes (length angles) threshold newPoints newSizes newTriangles cutEnds) r counts e in
       let b = passed-last (wellFormed (length points) (length corners)) _ _ (a .0) in
       let c = passed-both (checkFloor points corners sizes) _ (b .1) in
       let whole = whole-slices (length points) (length corners) (b .0) .points in
       let sized = sizes-are points corners sizes (c .0) in
-      let high = not-low (length points / 3) (length corners / 3) (length angles) threshold op os ot oe (c .1) in
+      let high = not-low (length points / 3) (length corners / 3) (length angles) threshold newPoints newSizes newTriangles cutEnds (c .1) in
       let told = a .1 in
       let cut : counts .cut ≡ length (r .cut) = sym (ap (λ (k : Counts). k .cut) told) in
       let points-told : counts .points ≡ length (r .points) / 3 = sym (ap (λ (k : Counts). k .points) told) in

@@ -29,7 +29,7 @@ use Rattle.refine_floor.proofs.Parts.{ends-length}
 use Rattle.refine_call.specs.declared.Counts.{Counts}
 use Rattle.refine_call.specs.declared.Answer.{Answer}
 use Rattle.refine_call.specs.declared.Answer.the-variants.{Refinement}
-use Rattle.refine_call.specs.Call.{passedUp, Called, FilledFor, short, checkRest, checkCall, Filled, Roomy}
+use Rattle.refine_call.specs.Call.{BUCKETS, TABLE, answerOf, Called, FilledFor, short, checkRest, checkCall, Filled, Roomy}
 
 -- ---- tests
 
@@ -56,40 +56,40 @@ sizes-are points triangles sizes e =
     let c = passed (not (eqb (length sizes) (length points / 3))) (row 5) _ (b .1) in
     eqb-true (length sizes) (length points / 3) (not-false _ (c .0))
 
-record Long (n t op os ot oe : ℕ) : Type 0 where
-  in-points : 3 * (n + 3 * t) ≤ op
-  in-sizes : n + 3 * t ≤ os
-  in-triangles : 12 * t ≤ ot
-  in-ends : 8 * t ≤ oe
+record Long (n t newPoints newSizes newTriangles cutEnds : ℕ) : Type 0 where
+  in-points : 3 * (n + 3 * t) ≤ newPoints
+  in-sizes : n + 3 * t ≤ newSizes
+  in-triangles : 12 * t ≤ newTriangles
+  in-ends : 8 * t ≤ cutEnds
 
-long : (n t op os ot oe : ℕ) → short n t op os ot oe ≡ false → Long n t op os ot oe
+long : (n t newPoints newSizes newTriangles cutEnds : ℕ) → short n t newPoints newSizes newTriangles cutEnds ≡ false → Long n t newPoints newSizes newTriangles cutEnds
 unfolding short
-long n t op os ot oe e =
-    let a = or-none (ltb op (3 * (n + 3 * t))) _ e in
-    let b = or-none (ltb os (n + 3 * t)) _ (a .1) in
-    let c = or-none (ltb ot (12 * t)) _ (b .1) in
+long n t newPoints newSizes newTriangles cutEnds e =
+    let a = or-none (ltb newPoints (3 * (n + 3 * t))) _ e in
+    let b = or-none (ltb newSizes (n + 3 * t)) _ (a .1) in
+    let c = or-none (ltb newTriangles (12 * t)) _ (b .1) in
     record {
-      in-points = ltb-false op (3 * (n + 3 * t)) (a .0);
-      in-sizes = ltb-false os (n + 3 * t) (b .0);
-      in-triangles = ltb-false ot (12 * t) (c .0);
-      in-ends = ltb-false oe (8 * t) (c .1);
+      in-points = ltb-false newPoints (3 * (n + 3 * t)) (a .0);
+      in-sizes = ltb-false newSizes (n + 3 * t) (b .0);
+      in-triangles = ltb-false newTriangles (12 * t) (c .0);
+      in-ends = ltb-false cutEnds (8 * t) (c .1);
     }
 
-rest-long : (n t angles : ℕ) (threshold : Float) (op os ot oe : ℕ) → checkRest n t angles threshold op os ot oe ≡ Sound → Long n t op os ot oe
+rest-long : (n t angles : ℕ) (threshold : Float) (newPoints newSizes newTriangles cutEnds : ℕ) → checkRest n t angles threshold newPoints newSizes newTriangles cutEnds ≡ Sound → Long n t newPoints newSizes newTriangles cutEnds
 unfolding checkRest
-rest-long n t angles threshold op os ot oe e =
+rest-long n t angles threshold newPoints newSizes newTriangles cutEnds e =
     let a = passed (not (eqb angles n)) (row 5) _ e in
     let b = passed (notFiniteOrBelowZero threshold) (row 12) _ (a .1) in
-    long n t op os ot oe (passed (short n t op os ot oe) (row 18) Sound (b .1) .0)
+    long n t newPoints newSizes newTriangles cutEnds (passed (short n t newPoints newSizes newTriangles cutEnds) (row 18) Sound (b .1) .0)
 
-pub roomy : (points : List Float) (triangles : List ℕ) (sizes : List Float) (angles : ℕ) (threshold : Float) (op os ot oe : ℕ)
-    → checkCall points triangles sizes angles threshold op os ot oe ≡ Sound → Roomy (length points) (length triangles) (length sizes) op os ot oe
+pub roomy : (points : List Float) (triangles : List ℕ) (sizes : List Float) (angles : ℕ) (threshold : Float) (newPoints newSizes newTriangles cutEnds : ℕ)
+    → checkCall points triangles sizes angles threshold newPoints newSizes newTriangles cutEnds ≡ Sound → Roomy (length points) (length triangles) (length sizes) newPoints newSizes newTriangles cutEnds
 unfolding checkCall
-roomy points triangles sizes angles threshold op os ot oe e =
+roomy points triangles sizes angles threshold newPoints newSizes newTriangles cutEnds e =
     let a = passed-last (wellFormed (length points) (length triangles)) _ _ e in
     let b = passed-both (checkFloor points triangles sizes) _ (a .1) in
     let f = whole-slices (length points) (length triangles) (a .0) in
-    let l = rest-long (length points / 3) (length triangles / 3) angles threshold op os ot oe (b .1) in
+    let l = rest-long (length points / 3) (length triangles / 3) angles threshold newPoints newSizes newTriangles cutEnds (b .1) in
     record {
       whole = f .points;
       few-points = f .few .0;
@@ -118,27 +118,27 @@ rest-sound c rest r e h = rw e h
 pub rest-refused : (c rest : Check) (x : Refusal) → c ≡ Refused x → c ≡ andThen c rest
 rest-refused c rest x e = rw e
 
-pub called-refused : {r : Refined} {op os : List Float} {ot oe : List ℕ} {a : Answer} (c c′ : Check) (x : Refusal) → c ≡ c′ → c ≡ Refused x → a ≡ passedUp c → Called c′ r op os ot oe a op os ot oe
-called-refused c c′ x e h g = let z : c′ ≡ Refused x = sym e ∙ h in rw z (record { answer = g ∙ ap passedUp h; points = refl; sizes = refl; triangles = refl; ends = refl })
+pub called-refused : {r : Refined} {newPoints newSizes : List Float} {newTriangles cutEnds : List ℕ} {a : Answer} (c c′ : Check) (x : Refusal) → c ≡ c′ → c ≡ Refused x → a ≡ answerOf (Refused x) r → Called c′ r newPoints newSizes newTriangles cutEnds a newPoints newSizes newTriangles cutEnds
+called-refused c c′ x e h g = let z : c′ ≡ Refused x = sym e ∙ h in rw z (record { answer = g; points = refl; sizes = refl; triangles = refl; ends = refl })
 
-pub called-done : {r : Refined} {op os op′ os′ : List Float} {ot oe ot′ oe′ : List ℕ} {a : Counts} (c c′ : Check) → c ≡ c′ → c ≡ Sound → Filled r op os ot oe a op′ os′ ot′ oe′ → Called c′ r op os ot oe (Refinement a) op′ os′ ot′ oe′
+pub called-done : {r : Refined} {newPoints newSizes newPoints′ newSizes′ : List Float} {newTriangles cutEnds newTriangles′ cutEnds′ : List ℕ} {a : Counts} (c c′ : Check) → c ≡ c′ → c ≡ Sound → Filled r newPoints newSizes newTriangles cutEnds a newPoints′ newSizes′ newTriangles′ cutEnds′ → Called c′ r newPoints newSizes newTriangles cutEnds (Refinement a) newPoints′ newSizes′ newTriangles′ cutEnds′
 called-done c c′ e h g =
     let z : c′ ≡ Sound = sym e ∙ h in
     rw z (record { answer = ap Refinement (g .counts); points = g .points; sizes = g .sizes; triangles = g .triangles; ends = g .ends })
 
 -- ---- an empty table
 
-pub zeros-held : Held 0 65536 (replicate {A = ℕ} 360448 0) 0 × (length (replicate {A = ℕ} 360448 0) ≡ 360448)
+pub zeros-held : Held 0 BUCKETS (replicate {A = ℕ} TABLE 0) 0 × (length (replicate {A = ℕ} TABLE 0) ≡ TABLE)
 unfolding last pairs
 zeros-held = (
   record {
     buckets = omega arith;
     narrow = omega arith;
-    room = omega (arith, length-replicate {A = ℕ} 360448 0);
-    table = record { heads = λ h l. getD-replicate {A = ℕ} 360448 (0 + h) 0 0 (omega arith); links = λ k l. absurd (omega arith) };
+    room = omega (arith, length-replicate {A = ℕ} TABLE 0);
+    table = record { heads = λ h l. getD-replicate {A = ℕ} TABLE (0 + h) 0 0 (omega arith); links = λ k l. absurd (omega arith) };
     numbered = λ k l. absurd (omega arith);
   },
-  length-replicate {A = ℕ} 360448 0,
+  length-replicate {A = ℕ} TABLE 0,
 )
 
 -- ---- what is written
@@ -153,25 +153,25 @@ module _ (threshold : Float) (angles points sizes : List Float) (l : List ℕ) w
   t : ℕ
   t = length l / 3
 
-  pub filled : {w w′ : List ℕ} {m k c : ℕ} {op os op′ os′ : List Float} {ot oe ot′ oe′ : List ℕ}
-      → Roomy (length points) (length l) (length sizes) (length op) (length os) (length ot) (length oe)
-      → CutTo 0 65536 (flaggedTri threshold angles) l (length l / 3) w w′ m c
-      → Stored (refined (mid (length points / 3) (sidesIn 0 65536 w′ m)) (tris l (length l / 3))) ot 0 0 ot′ k
-      → FilledFor points sizes (sidesIn 0 65536 w′ m) op os oe op′ os′ oe′
-      → Filled (refinementOf threshold angles points sizes (trisOf l)) op os ot oe (record { points = length points / 3 + m; triangles = k; flagged = c; cut = m }) op′ os′ ot′ oe′
+  pub filled : {w w′ : List ℕ} {m k c : ℕ} {newPoints newSizes newPoints′ newSizes′ : List Float} {newTriangles cutEnds newTriangles′ cutEnds′ : List ℕ}
+      → Roomy (length points) (length l) (length sizes) (length newPoints) (length newSizes) (length newTriangles) (length cutEnds)
+      → CutTo 0 BUCKETS (flaggedTri threshold angles) l (length l / 3) w w′ m c
+      → Stored (refined (mid (length points / 3) (sidesIn 0 BUCKETS w′ m)) (tris l (length l / 3))) newTriangles 0 0 newTriangles′ k
+      → FilledFor points sizes (sidesIn 0 BUCKETS w′ m) newPoints newSizes cutEnds newPoints′ newSizes′ cutEnds′
+      → Filled (refinementOf threshold angles points sizes (trisOf l)) newPoints newSizes newTriangles cutEnds (record { points = length points / 3 + m; triangles = k; flagged = c; cut = m }) newPoints′ newSizes′ newTriangles′ cutEnds′
   unfolding f n t refinementOf refine
-  filled {w} {w′} {m} {k} {c} {op} {os} {ot = ot} {oe} room cut tri put =
+  filled {w} {w′} {m} {k} {c} {newPoints} {newSizes} {newTriangles = newTriangles} {cutEnds} room cut tri put =
       let L = cuts f (trisOf l) in
-      let s : sidesIn 0 65536 w′ m ≡ cuts f (trisOf l) = cut .all-cut in
-      let len : m ≡ length (cuts f (trisOf l)) = sym (length-pairs (loOf 0 65536 w′) (hiOf 0 65536 w′) m) ∙ ap length s in
+      let s : sidesIn 0 BUCKETS w′ m ≡ cuts f (trisOf l) = cut .all-cut in
+      let len : m ≡ length (cuts f (trisOf l)) = sym (length-pairs (loOf 0 BUCKETS w′) (hiOf 0 BUCKETS w′) m) ∙ ap length s in
       let new = refined (mid n L) (trisOf l) in
       let many : length new ≤ 4 * t = subst (λ (z : ℕ). length new ≤ 4 * z) (tris-length l t) (refined-most (mid n L) (trisOf l)) in
       let p = points-length points L in
       let z = sizes-length sizes L in
       record {
         counts = counts-same (third (length (morePoints points L)) (n + m) (omega (arith, p, room .whole, len))) (rw s at (tri .counted) ∙ omega arith) (cut .counted) len;
-        points = rw s at (put .points) ∙ front op (morePoints points L) (omega (arith, p, room .whole, len, room .in-points, cut .few));
-        sizes = rw s at (put .sizes) ∙ front os (moreSizes sizes L) (omega (arith, z, room .sized, len, room .in-sizes, cut .few));
-        triangles = rw s at (tri .stands) ∙ front ot (cornersOf new) (omega (arith, corners-length new, many, room .in-triangles));
-        ends = rw s at (put .ends) ∙ front oe (endsOf L) (omega (arith, ends-length L, len, cut .few, room .in-ends));
+        points = rw s at (put .points) ∙ front newPoints (morePoints points L) (omega (arith, p, room .whole, len, room .in-points, cut .few));
+        sizes = rw s at (put .sizes) ∙ front newSizes (moreSizes sizes L) (omega (arith, z, room .sized, len, room .in-sizes, cut .few));
+        triangles = rw s at (tri .stands) ∙ front newTriangles (cornersOf new) (omega (arith, corners-length new, many, room .in-triangles));
+        ends = rw s at (put .ends) ∙ front cutEnds (endsOf L) (omega (arith, ends-length L, len, cut .few, room .in-ends));
       }

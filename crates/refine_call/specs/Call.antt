@@ -10,7 +10,7 @@ use lib.Seq.{sets}
 use lib.Ieee.{Float}
 use Rattle.floor.specs.declared.Check.{Check}
 use Rattle.floor.specs.declared.Check.the-variants.{Sound, Refused}
-use Rattle.floor.specs.Checks.{row, wellFormed, notFiniteOrBelowZero, andThen, checkFloor}
+use Rattle.floor.specs.Checks.{MOST-POINTS, MOST-TRIANGLES, row, wellFormed, notFiniteOrBelowZero, andThen, checkFloor}
 use Rattle.mesh.specs.Mesh.{Side}
 use Rattle.areas.specs.Points.{morePoints, moreSizes}
 use Rattle.refinement.specs.Floor.{Refined, refinementOf, trisOf, cornersOf, endsOf, over}
@@ -18,34 +18,37 @@ use Rattle.refine_call.specs.declared.Counts.{Counts}
 use Rattle.refine_call.specs.declared.Answer.{Answer}
 use Rattle.refine_call.specs.declared.Answer.the-variants.{Refinement, Refusal}
 
+-- the table of cut sides: its buckets, and its numbers with three sides of each of the most triangles, three numbers a side
+abbrev pub BUCKETS : ℕ
+BUCKETS = 65536
+
+abbrev pub TABLE : ℕ
+TABLE = 360448
+
 -- row 18, of n points, t triangles and the lengths of the four result slices: n' = n + 3 t points and sizes, t' = 4 t triangles, 4 t cut sides of two ends
 unfoldable pub short : ℕ → ℕ → ℕ → ℕ → ℕ → ℕ → Bool
 short n t points sizes triangles ends = ltb points (3 * (n + 3 * t)) || (ltb sizes (n + 3 * t) || (ltb triangles (12 * t) || ltb ends (8 * t)))
 
 -- what follows the rows of the floor: 5 by the count of angles, 12 and 18
 unfoldable pub checkRest : ℕ → ℕ → ℕ → Float → ℕ → ℕ → ℕ → ℕ → Check
-checkRest n t angles threshold op os ot oe =
+checkRest n t angles threshold newPoints newSizes newTriangles cutEnds =
     cond (not (eqb angles n)) (Refused (row 5))
     (cond (notFiniteOrBelowZero threshold) (Refused (row 12))
-    (cond (short n t op os ot oe) (Refused (row 18)) Sound))
+    (cond (short n t newPoints newSizes newTriangles cutEnds) (Refused (row 18)) Sound))
 
 -- rows 1 and 3 to 8, then 5, 12 and 18
 unfoldable pub checkCall : List Float → List ℕ → List Float → ℕ → Float → ℕ → ℕ → ℕ → ℕ → Check
-checkCall points triangles sizes angles threshold op os ot oe =
-    cond (wellFormed (length points) (length triangles)) (andThen (checkFloor points triangles sizes) (checkRest (length points / 3) (length triangles / 3) angles threshold op os ot oe)) (Refused (row 1))
+checkCall points triangles sizes angles threshold newPoints newSizes newTriangles cutEnds =
+    cond (wellFormed (length points) (length triangles)) (andThen (checkFloor points triangles sizes) (checkRest (length points / 3) (length triangles / 3) angles threshold newPoints newSizes newTriangles cutEnds)) (Refused (row 1))
 
 -- the counts of an accepted call: of cut sides, each once, as many as the list of them has (`Refinement` of crate refinement, `sides .cut-sides`)
 abbrev pub countsOf : Refined → Counts
 countsOf r = record { points = length (r .points) / 3; triangles = length (r .triangles); flagged = r .flagged; cut = length (r .cut) }
 
 -- a refusal found below is passed up with its number and place
-abbrev pub passedUp : Check → Answer
-passedUp Sound = Refusal 0 0
-passedUp (Refused x) = Refusal (x .number) (x .place)
-
 abbrev pub answerOf : Check → Refined → Answer
 answerOf Sound r = Refinement (countsOf r)
-answerOf (Refused x) r = passedUp (Refused x)
+answerOf (Refused x) r = Refusal (x .number) (x .place)
 
 -- refused, a slice is as it was; accepted, its front is filled and the rest stays
 abbrev pub left : {A : Type 0} → Check → List A → List A → List A
@@ -53,39 +56,39 @@ left Sound new old = over new old
 left (Refused x) new old = old
 
 -- what is found, c, and the floor that is made, r, decide the answer a and the four result slices
-pub record Called (c : Check) (r : Refined) (op os : List Float) (ot oe : List ℕ) (a : Answer) (op′ os′ : List Float) (ot′ oe′ : List ℕ) : Type 0 where
+pub record Called (c : Check) (r : Refined) (newPoints newSizes : List Float) (newTriangles cutEnds : List ℕ) (a : Answer) (newPoints′ newSizes′ : List Float) (newTriangles′ cutEnds′ : List ℕ) : Type 0 where
   pub answer : a ≡ answerOf c r
-  pub points : op′ ≡ left c (r .points) op
-  pub sizes : os′ ≡ left c (r .sizes) os
-  pub triangles : ot′ ≡ left c (cornersOf (r .triangles)) ot
-  pub ends : oe′ ≡ left c (endsOf (r .cut)) oe
+  pub points : newPoints′ ≡ left c (r .points) newPoints
+  pub sizes : newSizes′ ≡ left c (r .sizes) newSizes
+  pub triangles : newTriangles′ ≡ left c (cornersOf (r .triangles)) newTriangles
+  pub ends : cutEnds′ ≡ left c (endsOf (r .cut)) cutEnds
 
 -- the whole call: its points, triangles, sizes, angles and threshold, the four result slices, the answer, and the slices after it
 abbrev pub CalledOn : List Float → List ℕ → List Float → List Float → Float → List Float → List Float → List ℕ → List ℕ → Answer → List Float → List Float → List ℕ → List ℕ → Type 0
-CalledOn points triangles sizes angles threshold op os ot oe =
-    Called (checkCall points triangles sizes (length angles) threshold (length op) (length os) (length ot) (length oe)) (refinementOf threshold angles points sizes (trisOf triangles)) op os ot oe
+CalledOn points triangles sizes angles threshold newPoints newSizes newTriangles cutEnds =
+    Called (checkCall points triangles sizes (length angles) threshold (length newPoints) (length newSizes) (length newTriangles) (length cutEnds)) (refinementOf threshold angles points sizes (trisOf triangles)) newPoints newSizes newTriangles cutEnds
 
 -- the points, the sizes and the ends of the floor with points pts and sizes zs, refined at the cut sides l
-pub record FilledFor (pts zs : List Float) (l : List Side) (op os : List Float) (oe : List ℕ) (op′ os′ : List Float) (oe′ : List ℕ) : Type 0 where
-  pub points : op′ ≡ sets op 0 (morePoints pts l)
-  pub sizes : os′ ≡ sets os 0 (moreSizes zs l)
-  pub ends : oe′ ≡ sets oe 0 (endsOf l)
+pub record FilledFor (pts zs : List Float) (l : List Side) (newPoints newSizes : List Float) (cutEnds : List ℕ) (newPoints′ newSizes′ : List Float) (cutEnds′ : List ℕ) : Type 0 where
+  pub points : newPoints′ ≡ sets newPoints 0 (morePoints pts l)
+  pub sizes : newSizes′ ≡ sets newSizes 0 (moreSizes zs l)
+  pub ends : cutEnds′ ≡ sets cutEnds 0 (endsOf l)
 
 -- the four slices of an accepted call
-pub record Filled (r : Refined) (op os : List Float) (ot oe : List ℕ) (a : Counts) (op′ os′ : List Float) (ot′ oe′ : List ℕ) : Type 0 where
+pub record Filled (r : Refined) (newPoints newSizes : List Float) (newTriangles cutEnds : List ℕ) (a : Counts) (newPoints′ newSizes′ : List Float) (newTriangles′ cutEnds′ : List ℕ) : Type 0 where
   pub counts : a ≡ countsOf r
-  pub points : op′ ≡ over (r .points) op
-  pub sizes : os′ ≡ over (r .sizes) os
-  pub triangles : ot′ ≡ over (cornersOf (r .triangles)) ot
-  pub ends : oe′ ≡ over (endsOf (r .cut)) oe
+  pub points : newPoints′ ≡ over (r .points) newPoints
+  pub sizes : newSizes′ ≡ over (r .sizes) newSizes
+  pub triangles : newTriangles′ ≡ over (cornersOf (r .triangles)) newTriangles
+  pub ends : cutEnds′ ≡ over (endsOf (r .cut)) cutEnds
 
 -- there is room: what rows 1, 5 and 18 leave
-pub record Roomy (points corners sizes op os ot oe : ℕ) : Type 0 where
+pub record Roomy (points corners sizes newPoints newSizes newTriangles cutEnds : ℕ) : Type 0 where
   pub whole : points ≡ 3 * (points / 3)
-  pub few-points : points / 3 ≤ 16384
-  pub few-triangles : corners / 3 ≤ 32768
+  pub few-points : points / 3 ≤ MOST-POINTS
+  pub few-triangles : corners / 3 ≤ MOST-TRIANGLES
   pub sized : sizes ≡ points / 3
-  pub in-points : 3 * (points / 3 + 3 * (corners / 3)) ≤ op
-  pub in-sizes : points / 3 + 3 * (corners / 3) ≤ os
-  pub in-triangles : 12 * (corners / 3) ≤ ot
-  pub in-ends : 8 * (corners / 3) ≤ oe
+  pub in-points : 3 * (points / 3 + 3 * (corners / 3)) ≤ newPoints
+  pub in-sizes : points / 3 + 3 * (corners / 3) ≤ newSizes
+  pub in-triangles : 12 * (corners / 3) ≤ newTriangles
+  pub in-ends : 8 * (corners / 3) ≤ cutEnds

@@ -5,8 +5,9 @@ ghost use mathlib.Core.Path.{_≡_};
 ghost use Prim.Native.Nat.{_+_, _*_, _/_, _<_, _≤_};
 ghost use lib.ListN.{length};
 ghost use Rattle.edges.specs.Table.{Held, sidesIn};
+ghost use Rattle.floor.specs.Checks.{MOST-POINTS, MOST-TRIANGLES};
 ghost use Rattle.refinement.specs.Floor.{refinementOf, trisOf};
-ghost use Rattle.refine_call.specs.Call.{short, checkRest, checkCall, passedUp, CalledOn, FilledFor, Filled, Roomy};
+ghost use Rattle.refine_call.specs.Call.{BUCKETS, TABLE, short, checkRest, checkCall, CalledOn, FilledFor, Filled, Roomy};
 
 // How many points and triangles the refined floor has, how many triangles were flagged, and how many sides cut.
 pub struct Counts {
@@ -22,32 +23,36 @@ pub enum Answer {
     Refusal { number: u64, place: u64 },
 }
 
-fn is_short(n: usize, t: usize, points: usize, sizes: usize, triangles: usize, ends: usize) -> bool
-    requires { ⌜ (n ≤ 16384) × (t ≤ 32768) ⌝ }
-    ensures { λ r. ⌜ r ≡ short n t points sizes triangles ends ⌝ }
+// How long the four result slices are.
+struct ResultLengths {
+    points: usize,
+    sizes: usize,
+    triangles: usize,
+    ends: usize,
+}
+
+// The table of cut sides: its buckets, and its numbers for three sides of each of the most triangles.
+const BUCKETS: usize = 65536;
+
+const TABLE: usize = 360448;
+
+fn is_short(n: usize, t: usize, l: ResultLengths) -> bool
+    requires { ⌜ (n ≤ MOST-POINTS) × (t ≤ MOST-TRIANGLES) ⌝ }
+    ensures { λ r. ⌜ r ≡ short n t (l .points) (l .sizes) (l .triangles) (l .ends) ⌝ }
 {
-    if points < 3 * (n + 3 * t) {
+    if l.points < 3 * (n + 3 * t) {
         return true;
     }
-    if sizes < n + 3 * t {
+    if l.sizes < n + 3 * t {
         return true;
     }
-    triangles < 12 * t || ends < 8 * t
+    l.triangles < 12 * t || l.ends < 8 * t
 }
 
 // Rows 5, by the count of angles, 12 and 18.
-fn check_rest(
-    n: usize,
-    t: usize,
-    angles: usize,
-    threshold: f64,
-    op: usize,
-    os: usize,
-    ot: usize,
-    oe: usize,
-) -> floor::Check
-    requires { ⌜ (n ≤ 16384) × (t ≤ 32768) ⌝ }
-    ensures { λ r. ⌜ r ≡ checkRest n t angles threshold op os ot oe ⌝ }
+fn check_rest(n: usize, t: usize, angles: usize, threshold: f64, l: ResultLengths) -> floor::Check
+    requires { ⌜ (n ≤ MOST-POINTS) × (t ≤ MOST-TRIANGLES) ⌝ }
+    ensures { λ r. ⌜ r ≡ checkRest n t angles threshold (l .points) (l .sizes) (l .triangles) (l .ends) ⌝ }
 {
     if angles != n {
         return floor::refused(5, 0);
@@ -55,7 +60,7 @@ fn check_rest(
     if floor::not_finite_or_below_zero(threshold) {
         return floor::refused(12, 0);
     }
-    if is_short(n, t, op, os, ot, oe) {
+    if is_short(n, t, l) {
         return floor::refused(18, 0);
     }
     floor::Check::Sound
@@ -68,12 +73,10 @@ fn check_call(
     sizes: &[f64],
     angles: usize,
     threshold: f64,
-    op: usize,
-    os: usize,
-    ot: usize,
-    oe: usize,
+    l: ResultLengths,
 ) -> floor::Check
-    ensures { λ r. ⌜ r ≡ checkCall (now (points .entry)) (now (triangles .entry)) (now (sizes .entry)) angles threshold op os ot oe ⌝ }
+    ensures { λ r. ⌜ r ≡ checkCall (now (points .entry)) (now (triangles .entry)) (now (sizes .entry)) angles threshold
+        (l .points) (l .sizes) (l .triangles) (l .ends) ⌝ }
 {
     if !floor::well_formed(points.len(), triangles.len()) {
         return floor::refused(1, 0);
@@ -82,32 +85,7 @@ fn check_call(
     let floor::Check::Sound = checked else {
         return checked;
     };
-    check_rest(
-        points.len() / 3,
-        triangles.len() / 3,
-        angles,
-        threshold,
-        op,
-        os,
-        ot,
-        oe,
-    )
-}
-
-// A refusal found below, with its number and place.
-fn passed_up(checked: floor::Check) -> Answer
-    ensures { λ r. ⌜ r ≡ passedUp checked ⌝ }
-{
-    match checked {
-        floor::Check::Sound => Answer::Refusal {
-            number: 0,
-            place: 0,
-        },
-        floor::Check::Refused(r) => Answer::Refusal {
-            number: r.number,
-            place: r.place,
-        },
-    }
+    check_rest(points.len() / 3, triangles.len() / 3, angles, threshold, l)
 }
 
 // The points, the sizes and the ends of the m cut sides.
@@ -116,17 +94,19 @@ fn put_floor(
     sizes: &[f64],
     w: &[u32],
     m: usize,
-    op: &mut [f64],
-    os: &mut [f64],
-    oe: &mut [u32],
+    new_points: &mut [f64],
+    new_sizes: &mut [f64],
+    cut_ends: &mut [u32],
 )
-    requires { ⌜ ((65536 + 3 * m ≤ length (now w)) × (length (now points) + 3 * m ≤ length (now op))) × ((length (now sizes) + m ≤ length (now os)) × (2 * m ≤ length (now oe))) ⌝ }
-    ensures { λ _. ⌜ FilledFor (now (points .entry)) (now (sizes .entry)) (sidesIn 0 65536 (now (w .entry)) m)
-        (now (op .entry)) (now (os .entry)) (now (oe .entry)) (now (op .exit)) (now (os .exit)) (now (oe .exit)) ⌝ }
+    requires { ⌜ (BUCKETS + 3 * m ≤ length (now w)) × (length (now points) + 3 * m ≤ length (now «new_points»)) ⌝ }
+    requires { ⌜ (length (now sizes) + m ≤ length (now «new_sizes»)) × (2 * m ≤ length (now «cut_ends»)) ⌝ }
+    ensures { λ _. ⌜ FilledFor (now (points .entry)) (now (sizes .entry)) (sidesIn 0 BUCKETS (now (w .entry)) m)
+        (now («new_points» .entry)) (now («new_sizes» .entry)) (now («cut_ends» .entry))
+        (now («new_points» .exit)) (now («new_sizes» .exit)) (now («cut_ends» .exit)) ⌝ }
 {
-    refine_floor::put_points(points, w, 0, 65536, m, op);
-    refine_floor::put_sizes(sizes, w, 0, 65536, m, os);
-    refine_floor::put_ends(w, 0, 65536, m, oe);
+    refine_floor::put_points(points, w, 0, BUCKETS, m, new_points);
+    refine_floor::put_sizes(sizes, w, 0, BUCKETS, m, new_sizes);
+    refine_floor::put_ends(w, 0, BUCKETS, m, cut_ends);
 }
 
 // The refinement of an accepted floor, over an empty table.
@@ -137,22 +117,24 @@ fn refine_over(
     angles: &[f64],
     threshold: f64,
     w: &mut [u32],
-    op: &mut [f64],
-    os: &mut [f64],
-    ot: &mut [u32],
-    oe: &mut [u32],
+    new_points: &mut [f64],
+    new_sizes: &mut [f64],
+    new_triangles: &mut [u32],
+    cut_ends: &mut [u32],
 ) -> Counts
-    requires { ⌜ Held 0 65536 (now w) 0 × (length (now w) ≡ 360448) ⌝ }
-    requires { ⌜ Roomy (length (now points)) (length (now triangles)) (length (now sizes)) (length (now op)) (length (now os)) (length (now ot)) (length (now oe)) ⌝ }
+    requires { ⌜ Held 0 BUCKETS (now w) 0 × (length (now w) ≡ TABLE) ⌝ }
+    requires { ⌜ Roomy (length (now points)) (length (now triangles)) (length (now sizes))
+        (length (now «new_points»)) (length (now «new_sizes»)) (length (now «new_triangles»)) (length (now «cut_ends»)) ⌝ }
     ensures { λ r. ⌜ Filled (refinementOf threshold (now (angles .entry)) (now (points .entry)) (now (sizes .entry)) (trisOf (now (triangles .entry))))
-        (now (op .entry)) (now (os .entry)) (now (ot .entry)) (now (oe .entry)) r (now (op .exit)) (now (os .exit)) (now (ot .exit)) (now (oe .exit)) ⌝ }
+        (now («new_points» .entry)) (now («new_sizes» .entry)) (now («new_triangles» .entry)) (now («cut_ends» .entry)) r
+        (now («new_points» .exit)) (now («new_sizes» .exit)) (now («new_triangles» .exit)) (now («cut_ends» .exit)) ⌝ }
 {
     let n = points.len() / 3;
     let t = triangles.len() / 3;
-    let cut = refinement::cut_sides(triangles, t, angles, threshold, w, 0, 65536);
+    let cut = refinement::cut_sides(triangles, t, angles, threshold, w, 0, BUCKETS);
     let m = cut.sides;
-    let k = refine_floor::refine_triangles(triangles, t, n, w, 0, 65536, m, ot);
-    put_floor(points, sizes, w, m, op, os, oe);
+    let k = refine_floor::refine_triangles(triangles, t, n, w, 0, BUCKETS, m, new_triangles);
+    put_floor(points, sizes, w, m, new_points, new_sizes, cut_ends);
     Counts {
         points: n + m,
         triangles: k,
@@ -168,16 +150,18 @@ fn refine_sound(
     sizes: &[f64],
     angles: &[f64],
     threshold: f64,
-    op: &mut [f64],
-    os: &mut [f64],
-    ot: &mut [u32],
-    oe: &mut [u32],
+    new_points: &mut [f64],
+    new_sizes: &mut [f64],
+    new_triangles: &mut [u32],
+    cut_ends: &mut [u32],
 ) -> Counts
-    requires { ⌜ Roomy (length (now points)) (length (now triangles)) (length (now sizes)) (length (now op)) (length (now os)) (length (now ot)) (length (now oe)) ⌝ }
+    requires { ⌜ Roomy (length (now points)) (length (now triangles)) (length (now sizes))
+        (length (now «new_points»)) (length (now «new_sizes»)) (length (now «new_triangles»)) (length (now «cut_ends»)) ⌝ }
     ensures { λ r. ⌜ Filled (refinementOf threshold (now (angles .entry)) (now (points .entry)) (now (sizes .entry)) (trisOf (now (triangles .entry))))
-        (now (op .entry)) (now (os .entry)) (now (ot .entry)) (now (oe .entry)) r (now (op .exit)) (now (os .exit)) (now (ot .exit)) (now (oe .exit)) ⌝ }
+        (now («new_points» .entry)) (now («new_sizes» .entry)) (now («new_triangles» .entry)) (now («cut_ends» .entry)) r
+        (now («new_points» .exit)) (now («new_sizes» .exit)) (now («new_triangles» .exit)) (now («cut_ends» .exit)) ⌝ }
 {
-    let mut w = [0u32; 360448];
+    let mut w = [0u32; TABLE];
     refine_over(
         points,
         triangles,
@@ -185,42 +169,52 @@ fn refine_sound(
         angles,
         threshold,
         &mut w,
-        op,
-        os,
-        ot,
-        oe,
+        new_points,
+        new_sizes,
+        new_triangles,
+        cut_ends,
     )
 }
 
-// Refinement with the angles given. op, os, ot and oe are the result slices: points, sizes, corners of triangles, ends of cut sides.
+// Refinement with the angles given. The four slices at the end are its results: points, sizes, corners of triangles, ends of cut sides.
 pub fn refine(
     points: &[f64],
     triangles: &[u32],
     sizes: &[f64],
     angles: &[f64],
     threshold: f64,
-    op: &mut [f64],
-    os: &mut [f64],
-    ot: &mut [u32],
-    oe: &mut [u32],
+    new_points: &mut [f64],
+    new_sizes: &mut [f64],
+    new_triangles: &mut [u32],
+    cut_ends: &mut [u32],
 ) -> Answer
     ensures { λ r. ⌜ CalledOn (now (points .entry)) (now (triangles .entry)) (now (sizes .entry)) (now (angles .entry)) threshold
-        (now (op .entry)) (now (os .entry)) (now (ot .entry)) (now (oe .entry)) r (now (op .exit)) (now (os .exit)) (now (ot .exit)) (now (oe .exit)) ⌝ }
+        (now («new_points» .entry)) (now («new_sizes» .entry)) (now («new_triangles» .entry)) (now («cut_ends» .entry)) r
+        (now («new_points» .exit)) (now («new_sizes» .exit)) (now («new_triangles» .exit)) (now («cut_ends» .exit)) ⌝ }
 {
-    let checked = check_call(
-        points,
-        triangles,
-        sizes,
-        angles.len(),
-        threshold,
-        op.len(),
-        os.len(),
-        ot.len(),
-        oe.len(),
-    );
-    let floor::Check::Sound = checked else {
-        return passed_up(checked);
+    let lengths = ResultLengths {
+        points: new_points.len(),
+        sizes: new_sizes.len(),
+        triangles: new_triangles.len(),
+        ends: cut_ends.len(),
     };
-    let counts = refine_sound(points, triangles, sizes, angles, threshold, op, os, ot, oe);
-    Answer::Refinement(counts)
+    let checked = check_call(points, triangles, sizes, angles.len(), threshold, lengths);
+    let floor::Check::Refused(found) = checked else {
+        let counts = refine_sound(
+            points,
+            triangles,
+            sizes,
+            angles,
+            threshold,
+            new_points,
+            new_sizes,
+            new_triangles,
+            cut_ends,
+        );
+        return Answer::Refinement(counts);
+    };
+    Answer::Refusal {
+        number: found.number,
+        place: found.place,
+    }
 }

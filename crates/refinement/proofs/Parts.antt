@@ -106,16 +106,16 @@ cut-again {f = f} {l} {i} h s =
 
 -- ---- numbers that may be none
 
-pub unplus-none : (p : ℕ) → p ≡ 0 → oneLess p ≡ none
-unplus-none p e = rw e
+pub one-less-none : (p : ℕ) → p ≡ 0 → oneLess p ≡ none
+one-less-none p e = rw e
 
-pub unplus-some : (p : ℕ) → p ≢ 0 → oneLess p ≡ some (p - 1)
-unplus-some zero h = absurd (h refl)
-unplus-some (suc p) h = let e : suc p - 1 ≡ p = omega arith in rw e
+pub one-less-some : (p : ℕ) → p ≢ 0 → oneLess p ≡ some (p - 1)
+one-less-some zero h = absurd (h refl)
+one-less-some (suc p) h = let e : suc p - 1 ≡ p = omega arith in rw e
 
-unplus-plus : (o : Option ℕ) → oneLess (oneMore o) ≡ o
-unplus-plus none = refl
-unplus-plus (some k) = refl
+one-less-one-more : (o : Option ℕ) → oneLess (oneMore o) ≡ o
+one-less-one-more none = refl
+one-less-one-more (some k) = refl
 
 pub above-plus : (n : ℕ) (o : Option ℕ) (r : ℕ) → r ≡ oneMore o → r ≢ 0 → n + r ≡ oneMore (above n o)
 above-plus n none r e h = absurd (h e)
@@ -128,9 +128,9 @@ above-zero n (some k) r e h = absurd (omega arith)
 pub rows-of : (m : ℕ → ℕ → Option ℕ) {p q r count : ℕ} {rows : List ℕ} (a b c : ℕ) → p ≡ oneMore (m a b) → q ≡ oneMore (m b c) → r ≡ oneMore (m c a)
     → Rows (split a b c (oneLess p) (oneLess q) (oneLess r)) count rows → Rows (pieces m (tri a b c)) count rows
 rows-of m {p} {q} {r} {count} {rows} a b c e₁ e₂ e₃ h =
-    subst (λ (o : Option ℕ). Rows (split a b c (m a b) (m b c) o) count rows) (ap oneLess e₃ ∙ unplus-plus (m c a))
-    (subst (λ (o : Option ℕ). Rows (split a b c (m a b) o (oneLess r)) count rows) (ap oneLess e₂ ∙ unplus-plus (m b c))
-    (subst (λ (o : Option ℕ). Rows (split a b c o (oneLess q) (oneLess r)) count rows) (ap oneLess e₁ ∙ unplus-plus (m a b)) h))
+    subst (λ (o : Option ℕ). Rows (split a b c (m a b) (m b c) o) count rows) (ap oneLess e₃ ∙ one-less-one-more (m c a))
+    (subst (λ (o : Option ℕ). Rows (split a b c (m a b) o (oneLess r)) count rows) (ap oneLess e₂ ∙ one-less-one-more (m b c))
+    (subst (λ (o : Option ℕ). Rows (split a b c o (oneLess q) (oneLess r)) count rows) (ap oneLess e₁ ∙ one-less-one-more (m a b)) h))
 
 -- ---- rows of corners
 

@@ -4,24 +4,24 @@ use Rattle.gradients.specs.Gradients.{rowOf}
 use Rattle.gradients.proofs.row_of.Statement.{statement}
 use Rattle.gradients.proofs.row_of.Tie as tie
 
-no-weight-requires : tie.Need-no-weight-requires
-no-weight-requires c κs = search needs
+not-positive-requires : tie.Need-not-positive-requires
+not-positive-requires c κs = search needs
 
 returns : tie.Need-returns
 unfolding rowOf
-returns c = rw (← c .before .no-weight .ensures, c .if1 .taken)
+returns c = rw (← c .before .not-positive .ensures, c .if1 .taken)
 
 not-finite-requires : tie.Need-not-finite-requires
 not-finite-requires c κs = search needs
 
 returns-2 : tie.Need-returns-2
 unfolding rowOf
-returns-2 c = rw (← c .before .before .before .no-weight .ensures, c .before .before .if1 .left, ← c .before .not-finite .ensures, c .if2 .taken)
+returns-2 c = rw (← c .before .before .before .not-positive .ensures, c .before .before .if1 .left, ← c .before .not-finite .ensures, c .if2 .taken)
 
 returns-3 : tie.Need-returns-3
 unfolding rowOf
-returns-3 c = rw (← c .before .before .before .no-weight .ensures, c .before .before .if1 .left, ← c .before .not-finite .ensures, c .if2 .left)
+returns-3 c = rw (← c .before .before .before .not-positive .ensures, c .before .before .if1 .left, ← c .before .not-finite .ensures, c .if2 .left)
 
 pub row-of-spec : {M : Type 1} → statement M
 row-of-spec =
-    tie.close (tie.spec no-weight-requires returns not-finite-requires returns-2 returns-3)
+    tie.close (tie.spec not-positive-requires returns not-finite-requires returns-2 returns-3)

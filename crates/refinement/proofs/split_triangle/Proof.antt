@@ -2,7 +2,7 @@
 use borrow.Author.Needs.{needs}
 use mathlib.Core.Path.{refl}
 use native.Mathlib.Omega.{arith}
-use Rattle.refinement.proofs.Parts.{unplus-none, unplus-some}
+use Rattle.refinement.proofs.Parts.{one-less-none, one-less-some}
 use Rattle.refinement.specs.Floor.{cornersOf}
 use Rattle.refinement.specs.Steps.{rowsOf}
 use Rattle.refinement.proofs.split_triangle.Statement.{statement}
@@ -10,7 +10,7 @@ use Rattle.refinement.proofs.split_triangle.Tie as tie
 
 returns : tie.Need-returns
 unfolding cornersOf rowsOf
-returns c = rw (unplus-none _ (c .before .before .if1 .taken), unplus-none _ (c .before .if2 .taken), unplus-none _ (c .if3 .taken)) (record { many = refl; few = omega arith; corners = refl })
+returns c = rw (one-less-none _ (c .before .before .if1 .taken), one-less-none _ (c .before .if2 .taken), one-less-none _ (c .if3 .taken)) (record { many = refl; few = omega arith; corners = refl })
 
 sub-t11 : tie.Need-sub-t11
 sub-t11 c = search needs
@@ -20,7 +20,7 @@ sub-t12 c = search needs
 
 returns-2 : tie.Need-returns-2
 unfolding cornersOf rowsOf
-returns-2 c = rw (unplus-none _ (c .before .before .if1 .taken), unplus-none _ (c .before .if2 .taken), unplus-some _ (c .if3 .left)) (record { many = refl; few = omega arith; corners = refl })
+returns-2 c = rw (one-less-none _ (c .before .before .if1 .taken), one-less-none _ (c .before .if2 .taken), one-less-some _ (c .if3 .left)) (record { many = refl; few = omega arith; corners = refl })
 
 sub-t14 : tie.Need-sub-t14
 sub-t14 c = search needs
@@ -30,7 +30,7 @@ sub-t15 c = search needs
 
 returns-3 : tie.Need-returns-3
 unfolding cornersOf rowsOf
-returns-3 c = rw (unplus-none _ (c .before .before .if1 .taken), unplus-some _ (c .before .if2 .left), unplus-none _ (c .if4 .taken)) (record { many = refl; few = omega arith; corners = refl })
+returns-3 c = rw (one-less-none _ (c .before .before .if1 .taken), one-less-some _ (c .before .if2 .left), one-less-none _ (c .if4 .taken)) (record { many = refl; few = omega arith; corners = refl })
 
 sub-t17 : tie.Need-sub-t17
 sub-t17 c = search needs
@@ -49,7 +49,7 @@ sub-t21 c = search needs
 
 returns-4 : tie.Need-returns-4
 unfolding cornersOf rowsOf
-returns-4 c = rw (unplus-none _ (c .before .before .if1 .taken), unplus-some _ (c .before .if2 .left), unplus-some _ (c .if4 .left)) (record { many = refl; few = omega arith; corners = refl })
+returns-4 c = rw (one-less-none _ (c .before .before .if1 .taken), one-less-some _ (c .before .if2 .left), one-less-some _ (c .if4 .left)) (record { many = refl; few = omega arith; corners = refl })
 
 sub-t24 : tie.Need-sub-t24
 sub-t24 c = search needs
@@ -59,7 +59,7 @@ sub-t25 c = search needs
 
 returns-5 : tie.Need-returns-5
 unfolding cornersOf rowsOf
-returns-5 c = rw (unplus-some _ (c .before .before .if1 .left), unplus-none _ (c .before .if5 .taken), unplus-none _ (c .if6 .taken)) (record { many = refl; few = omega arith; corners = refl })
+returns-5 c = rw (one-less-some _ (c .before .before .if1 .left), one-less-none _ (c .before .if5 .taken), one-less-none _ (c .if6 .taken)) (record { many = refl; few = omega arith; corners = refl })
 
 sub-t27 : tie.Need-sub-t27
 sub-t27 c = search needs
@@ -78,7 +78,7 @@ sub-t31 c = search needs
 
 returns-6 : tie.Need-returns-6
 unfolding cornersOf rowsOf
-returns-6 c = rw (unplus-some _ (c .before .before .if1 .left), unplus-none _ (c .before .if5 .taken), unplus-some _ (c .if6 .left)) (record { many = refl; few = omega arith; corners = refl })
+returns-6 c = rw (one-less-some _ (c .before .before .if1 .left), one-less-none _ (c .before .if5 .taken), one-less-some _ (c .if6 .left)) (record { many = refl; few = omega arith; corners = refl })
 
 sub-t33 : tie.Need-sub-t33
 sub-t33 c = search needs
@@ -97,7 +97,7 @@ sub-t37 c = search needs
 
 returns-7 : tie.Need-returns-7
 unfolding cornersOf rowsOf
-returns-7 c = rw (unplus-some _ (c .before .before .if1 .left), unplus-some _ (c .before .if5 .left), unplus-none _ (c .if7 .taken)) (record { many = refl; few = omega arith; corners = refl })
+returns-7 c = rw (one-less-some _ (c .before .before .if1 .left), one-less-some _ (c .before .if5 .left), one-less-none _ (c .if7 .taken)) (record { many = refl; few = omega arith; corners = refl })
 
 sub-t39 : tie.Need-sub-t39
 sub-t39 c = search needs
@@ -128,7 +128,7 @@ sub-t47 c = search needs
 
 returns-8 : tie.Need-returns-8
 unfolding cornersOf rowsOf
-returns-8 c = rw (unplus-some _ (c .before .before .if1 .left), unplus-some _ (c .before .if5 .left), unplus-some _ (c .if7 .left)) (record { many = refl; few = omega arith; corners = refl })
+returns-8 c = rw (one-less-some _ (c .before .before .if1 .left), one-less-some _ (c .before .if5 .left), one-less-some _ (c .if7 .left)) (record { many = refl; few = omega arith; corners = refl })
 
 pub split-triangle-spec : {M : Type 1} → statement M
 split-triangle-spec =
