@@ -121,7 +121,7 @@ typedef struct godf_report {
  * Pointers are valid for the counts that go with them and aligned as C aligns their types; a null pointer goes with count 0 only. `options`
  * and `report` are never null. What is written (the four lent arrays and the report) overlaps nothing else that is passed. The
  * processor rounds to nearest, as C programs start out, and neither flushes subnormal results to zero nor takes subnormal operands for
- * zero (MXCSR's FTZ and DAZ are off; gcc's -ffast-math, and some libraries, set them). The call uses a few kilobytes of stack, no memory
+ * zero (MXCSR's FTZ and DAZ are off; gcc's -ffast-math, and some libraries, set them). The call uses less than 16 kilobytes of stack, no memory
  * but what it is lent, and keeps nothing: calls from several threads on arrays of their own do not disturb each other.
  *
  *   size_t n = 3, t = 1;
