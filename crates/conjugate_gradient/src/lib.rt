@@ -155,7 +155,8 @@ fn turn(
 ) -> Turned
     requires { ⌜ Room (length (now work)) h l ⌝ }
     requires { ⌜ Graph h (now from) (now to) ⌝ }
-    ensures { λ r. ⌜ Ended (now (work .entry)) (now (work .exit)) (h .size) l (turned (matrix (now (work .entry)) h (now (from .entry)) (now (to .entry))) limit dot (read (now (work .entry)) (h .size) l)) r ⌝ }
+    ensures { λ r. ⌜ Ended (now (work .entry)) (now (work .exit)) (h .size) l
+        (turned (matrix (now (work .entry)) h (now (from .entry)) (now (to .entry))) limit dot (read (now (work .entry)) (h .size) l)) r ⌝ }
 {
     let denominator = multiply(work, h, l, from, to);
     if float::not_positive(denominator) {
@@ -187,7 +188,8 @@ fn iterate(
 ) -> Answer
     requires { ⌜ Room (length (now work)) h l ⌝ }
     requires { ⌜ Graph h (now from) (now to) ⌝ }
-    ensures { λ r. ⌜ Solved (now (work .entry)) (now (work .exit)) (h .size) l (run (matrix (now (work .entry)) h (now (from .entry)) (now (to .entry))) limit most 0 first (read (now (work .entry)) (h .size) l)) r ⌝ }
+    ensures { λ r. ⌜ Solved (now (work .entry)) (now (work .exit)) (h .size) l
+        (run (matrix (now (work .entry)) h (now (from .entry)) (now (to .entry))) limit most 0 first (read (now (work .entry)) (h .size) l)) r ⌝ }
 {
     let mut dot = first;
     for i in 0..most {
@@ -212,7 +214,8 @@ pub fn conjugate_gradient(
 ) -> Answer
     requires { ⌜ Room (length (now work)) h l ⌝ }
     requires { ⌜ Graph h (now from) (now to) ⌝ }
-    ensures { λ r. ⌜ Solved (now (work .entry)) (now (work .exit)) (h .size) l (solved (matrix (now (work .entry)) h (now (from .entry)) (now (to .entry))) tolerance most (read (now (work .entry)) (h .size) l)) r ⌝ }
+    ensures { λ r. ⌜ Solved (now (work .entry)) (now (work .exit)) (h .size) l
+        (solved (matrix (now (work .entry)) h (now (from .entry)) (now (to .entry))) tolerance most (read (now (work .entry)) (h .size) l)) r ⌝ }
 {
     let norm = hermitian::euclidean_norm(work, l.residual, h.size);
     if float::not_positive(norm) {

@@ -53,16 +53,26 @@ pub extern "C" fn godf_refine(
     sizes: &[f64],
     angles: &[f64],
     threshold: f64,
-    op: &mut [f64],
-    os: &mut [f64],
-    ot: &mut [u32],
-    oe: &mut [u32],
+    new_points: &mut [f64],
+    new_sizes: &mut [f64],
+    new_triangles: &mut [u32],
+    cut_ends: &mut [u32],
     report: &mut [u64],
 ) -> u64
     ensures { λ r. ⌜ ToldOn (now (points .entry)) (now (triangles .entry)) (now (sizes .entry)) (now (angles .entry)) threshold
-        (now (op .entry)) (now (os .entry)) (now (ot .entry)) (now (oe .entry)) (now (report .entry))
-        r (now (op .exit)) (now (os .exit)) (now (ot .exit)) (now (oe .exit)) (now (report .exit)) ⌝ }
+        (now («new_points» .entry)) (now («new_sizes» .entry)) (now («new_triangles» .entry)) (now («cut_ends» .entry)) (now (report .entry))
+        r (now («new_points» .exit)) (now («new_sizes» .exit)) (now («new_triangles» .exit)) (now («cut_ends» .exit)) (now (report .exit)) ⌝ }
 {
-    let answer = refine_call::refine(points, triangles, sizes, angles, threshold, op, os, ot, oe);
+    let answer = refine_call::refine(
+        points,
+        triangles,
+        sizes,
+        angles,
+        threshold,
+        new_points,
+        new_sizes,
+        new_triangles,
+        cut_ends,
+    );
     tell(answer, report)
 }

@@ -174,7 +174,8 @@ fn edge_at(work: &mut [f64], y: usize, x: usize, h: Hermitian, e: usize, from: &
 fn edges(work: &mut [f64], y: usize, x: usize, h: Hermitian, from: &[u32], to: &[u32])
     requires { ⌜ EdgesRoom (length (now work)) (h .off) x y (h .size) (h .edges) ⌝ }
     requires { ⌜ Graph h (now from) (now to) ⌝ }
-    ensures { λ _. ⌜ now (work .exit) ≡ putC (now (work .entry)) y (edged (matrix (now (work .entry)) h (now (from .entry)) (now (to .entry))) (regionC (now (work .entry)) x (h .size)) (regionC (now (work .entry)) y (h .size))) ⌝ }
+    ensures { λ _. ⌜ now (work .exit) ≡ putC (now (work .entry)) y
+        (edged (matrix (now (work .entry)) h (now (from .entry)) (now (to .entry))) (regionC (now (work .entry)) x (h .size)) (regionC (now (work .entry)) y (h .size))) ⌝ }
 {
     for e in 0..from.len() {
         edge_at(work, y, x, h, e, from, to);

@@ -101,19 +101,19 @@ lines-long k ts l =
     let head = k .points ∷ k .triangles ∷ k .flagged ∷ k .cut ∷ [] in
     length-append (lineOf head) (triangleLines ts ++ sideLines l) ∙ omega (arith, line-length head, length-append (triangleLines ts) (sideLines l), triangles-long ts, sides-long l)
 
-pub lines-put : {a b c : List ℕ} (k : Counts) (ot oe out : List ℕ) → a ≡ sets out 0 (lineOf (k .points ∷ k .triangles ∷ k .flagged ∷ k .cut ∷ []))
-    → b ≡ sets a 25 (triangleLines (tris ot (k .triangles))) → c ≡ sets b (25 + 19 * k .triangles) (sideLines (sidesUpTo oe (k .cut)))
-    → (c ≡ sets out 0 (linesOf k (tris ot (k .triangles)) (sidesUpTo oe (k .cut)))) × (25 + 19 * k .triangles + 13 * k .cut ≡ length (linesOf k (tris ot (k .triangles)) (sidesUpTo oe (k .cut))))
+pub lines-put : {a b c : List ℕ} (k : Counts) (corners ends out : List ℕ) → a ≡ sets out 0 (lineOf (k .points ∷ k .triangles ∷ k .flagged ∷ k .cut ∷ []))
+    → b ≡ sets a 25 (triangleLines (tris corners (k .triangles))) → c ≡ sets b (25 + 19 * k .triangles) (sideLines (sidesUpTo ends (k .cut)))
+    → (c ≡ sets out 0 (linesOf k (tris corners (k .triangles)) (sidesUpTo ends (k .cut)))) × (25 + 19 * k .triangles + 13 * k .cut ≡ length (linesOf k (tris corners (k .triangles)) (sidesUpTo ends (k .cut))))
 unfolding linesOf
-lines-put k ot oe out e₁ e₂ e₃ =
+lines-put k corners ends out e₁ e₂ e₃ =
     let head = k .points ∷ k .triangles ∷ k .flagged ∷ k .cut ∷ [] in
-    let ts = tris ot (k .triangles) in
-    let l = sidesUpTo oe (k .cut) in
+    let ts = tris corners (k .triangles) in
+    let l = sidesUpTo ends (k .cut) in
     let n₁ = line-length head in
     let n₂ = triangles-long ts in
-    let n₃ = tris-length ot (k .triangles) in (
+    let n₃ = tris-length corners (k .triangles) in (
       e₃ ∙ rw (e₂, e₁) (ap (λ (x : List ℕ). sets x (25 + 19 * k .triangles) (sideLines l)) (sets-next out 0 25 (lineOf head) (triangleLines ts) (omega (arith, n₁)))
           ∙ sets-next out 0 (25 + 19 * k .triangles) (lineOf head ++ triangleLines ts) (sideLines l) (omega (arith, length-append (lineOf head) (triangleLines ts), n₁, n₂, n₃))
           ∙ ap (sets out 0) (append-assoc (lineOf head) (triangleLines ts) (sideLines l))),
-      sym (lines-long k ts l ∙ omega (arith, n₃, sides-length oe (k .cut))),
+      sym (lines-long k ts l ∙ omega (arith, n₃, sides-length ends (k .cut))),
     )

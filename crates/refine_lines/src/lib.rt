@@ -18,43 +18,47 @@ fn wide(x: u32) -> u64
 }
 
 // The line of triangle i.
-fn put_triangle(ot: &[u32], i: usize, out: &mut [u8], at: usize)
-    requires { ⌜ (3 * i + 3 ≤ length (now ot)) × (at + 19 ≤ length (now out)) ⌝ }
-    ensures { λ _. ⌜ now (out .exit) ≡ sets (now (out .entry)) at (lineAt (now (ot .entry)) i) ⌝ }
+fn put_triangle(corners: &[u32], i: usize, out: &mut [u8], at: usize)
+    requires { ⌜ (3 * i + 3 ≤ length (now corners)) × (at + 19 ≤ length (now out)) ⌝ }
+    ensures { λ _. ⌜ now (out .exit) ≡ sets (now (out .entry)) at (lineAt (now (corners .entry)) i) ⌝ }
 {
-    let row = [wide(ot[3 * i]), wide(ot[3 * i + 1]), wide(ot[3 * i + 2])];
+    let row = [
+        wide(corners[3 * i]),
+        wide(corners[3 * i + 1]),
+        wide(corners[3 * i + 2]),
+    ];
     columns::put_line(out, at, &row);
 }
 
 // The lines of k triangles.
-fn put_triangles(ot: &[u32], k: usize, out: &mut [u8], at: usize)
-    requires { ⌜ (3 * k ≤ length (now ot)) × (at + 19 * k ≤ length (now out)) ⌝ }
-    ensures { λ _. ⌜ now (out .exit) ≡ sets (now (out .entry)) at (triangleLines (tris (now (ot .entry)) k)) ⌝ }
+fn put_triangles(corners: &[u32], k: usize, out: &mut [u8], at: usize)
+    requires { ⌜ (3 * k ≤ length (now corners)) × (at + 19 * k ≤ length (now out)) ⌝ }
+    ensures { λ _. ⌜ now (out .exit) ≡ sets (now (out .entry)) at (triangleLines (tris (now (corners .entry)) k)) ⌝ }
 {
     let mut i = 0;
     while i < k {
-        put_triangle(ot, i, out, at + 19 * i);
+        put_triangle(corners, i, out, at + 19 * i);
         i += 1;
     }
 }
 
 // The line of side i.
-fn put_side(oe: &[u32], i: usize, out: &mut [u8], at: usize)
-    requires { ⌜ (2 * i + 2 ≤ length (now oe)) × (at + 13 ≤ length (now out)) ⌝ }
-    ensures { λ _. ⌜ now (out .exit) ≡ sets (now (out .entry)) at (sideAt (now (oe .entry)) i) ⌝ }
+fn put_side(ends: &[u32], i: usize, out: &mut [u8], at: usize)
+    requires { ⌜ (2 * i + 2 ≤ length (now ends)) × (at + 13 ≤ length (now out)) ⌝ }
+    ensures { λ _. ⌜ now (out .exit) ≡ sets (now (out .entry)) at (sideAt (now (ends .entry)) i) ⌝ }
 {
-    let row = [wide(oe[2 * i]), wide(oe[2 * i + 1])];
+    let row = [wide(ends[2 * i]), wide(ends[2 * i + 1])];
     columns::put_line(out, at, &row);
 }
 
 // The lines of m sides.
-fn put_sides(oe: &[u32], m: usize, out: &mut [u8], at: usize)
-    requires { ⌜ (2 * m ≤ length (now oe)) × (at + 13 * m ≤ length (now out)) ⌝ }
-    ensures { λ _. ⌜ now (out .exit) ≡ sets (now (out .entry)) at (sideLines (sidesUpTo (now (oe .entry)) m)) ⌝ }
+fn put_sides(ends: &[u32], m: usize, out: &mut [u8], at: usize)
+    requires { ⌜ (2 * m ≤ length (now ends)) × (at + 13 * m ≤ length (now out)) ⌝ }
+    ensures { λ _. ⌜ now (out .exit) ≡ sets (now (out .entry)) at (sideLines (sidesUpTo (now (ends .entry)) m)) ⌝ }
 {
     let mut i = 0;
     while i < m {
-        put_side(oe, i, out, at + 13 * i);
+        put_side(ends, i, out, at + 13 * i);
         i += 1;
     }
 }
@@ -74,16 +78,16 @@ fn put_counts(c: Counts, out: &mut [u8])
 }
 
 // The lines of an accepted call.
-fn put_floor(c: Counts, ot: &[u32], oe: &[u32], out: &mut [u8]) -> usize
-    requires { ⌜ (3 * c .triangles ≤ length (now ot)) × ((2 * c .cut ≤ length (now oe)) × (25 + 19 * c .triangles + 13 * c .cut ≤ length (now out))) ⌝ }
-    ensures { λ r. ⌜ Prints (linesOf c (tris (now (ot .entry)) (c .triangles)) (sidesUpTo (now (oe .entry)) (c .cut))) (now (out .entry)) (now (out .exit)) r ⌝ }
+fn put_floor(c: Counts, corners: &[u32], ends: &[u32], out: &mut [u8]) -> usize
+    requires { ⌜ (3 * c .triangles ≤ length (now corners)) × ((2 * c .cut ≤ length (now ends)) × (25 + 19 * c .triangles + 13 * c .cut ≤ length (now out))) ⌝ }
+    ensures { λ r. ⌜ Prints (linesOf c (tris (now (corners .entry)) (c .triangles)) (sidesUpTo (now (ends .entry)) (c .cut))) (now (out .entry)) (now (out .exit)) r ⌝ }
 {
     let k = c.triangles;
     let m = c.cut;
     let at = 25 + 19 * k;
     put_counts(c, out);
-    put_triangles(ot, k, out, 25);
-    put_sides(oe, m, out, at);
+    put_triangles(corners, k, out, 25);
+    put_sides(ends, m, out, at);
     at + 13 * m
 }
 
@@ -103,13 +107,14 @@ pub fn put_refused(out: &mut [u8]) -> usize
     8
 }
 
-// The lines of an answer of the refinement call, whose triangles are in ot and the ends of cut sides in oe. How many bytes.
-pub fn write_answer(answer: Answer, ot: &[u32], oe: &[u32], out: &mut [u8]) -> usize
-    requires { ⌜ Holds answer (length (now ot)) (length (now oe)) (length (now out)) ⌝ }
-    ensures { λ r. ⌜ (now (out .exit) ≡ sets (now (out .entry)) 0 (bytesFor answer (now (ot .entry)) (now (oe .entry)))) × (r ≡ length (bytesFor answer (now (ot .entry)) (now (oe .entry)))) ⌝ }
+// The lines of an answer of the refinement call, with the corners of its triangles and the ends of its cut sides. How many bytes.
+pub fn write_answer(answer: Answer, corners: &[u32], ends: &[u32], out: &mut [u8]) -> usize
+    requires { ⌜ Holds answer (length (now corners)) (length (now ends)) (length (now out)) ⌝ }
+    ensures { λ r. ⌜ (now (out .exit) ≡ sets (now (out .entry)) 0 (bytesFor answer (now (corners .entry)) (now (ends .entry))))
+        × (r ≡ length (bytesFor answer (now (corners .entry)) (now (ends .entry)))) ⌝ }
 {
     match answer {
-        Answer::Refinement(c) => put_floor(c, ot, oe, out),
+        Answer::Refinement(c) => put_floor(c, corners, ends, out),
         Answer::Refusal { .. } => put_refused(out),
     }
 }

@@ -22,18 +22,28 @@ fn answer_into(
     sizes: &[f64],
     angles: &[f64],
     threshold: f64,
-    op: &mut [f64],
-    os: &mut [f64],
-    ot: &mut [u32],
-    oe: &mut [u32],
+    new_points: &mut [f64],
+    new_sizes: &mut [f64],
+    new_triangles: &mut [u32],
+    cut_ends: &mut [u32],
     out: &mut [u8],
 ) -> usize
-    requires { ⌜ Sized (length (now triangles)) (length (now op)) (length (now os)) (length (now ot)) (length (now oe)) (length (now out)) ⌝ }
+    requires { ⌜ Sized (length (now triangles)) (length (now «new_points»)) (length (now «new_sizes»)) (length (now «new_triangles»)) (length (now «cut_ends»)) (length (now out)) ⌝ }
     ensures { λ r. ⌜ Prints (bytesFrom (now (points .entry)) (now (triangles .entry)) (now (sizes .entry)) (now (angles .entry)) threshold)
         (now (out .entry)) (now (out .exit)) r ⌝ }
 {
-    let answer = refine_call::refine(points, triangles, sizes, angles, threshold, op, os, ot, oe);
-    refine_lines::write_answer(answer, ot, oe, out)
+    let answer = refine_call::refine(
+        points,
+        triangles,
+        sizes,
+        angles,
+        threshold,
+        new_points,
+        new_sizes,
+        new_triangles,
+        cut_ends,
+    );
+    refine_lines::write_answer(answer, new_triangles, cut_ends, out)
 }
 
 // The lines of a floor of at most 256 triangles.
@@ -49,20 +59,20 @@ fn answer_floor(
     ensures { λ r. ⌜ Prints (bytesFrom (now (points .entry)) (now (triangles .entry)) (now (sizes .entry)) (now (angles .entry)) threshold)
         (now (out .entry)) (now (out .exit)) r ⌝ }
 {
-    let mut op = [0.0; 3072];
-    let mut os = [0.0; 1024];
-    let mut ot = [0u32; 3072];
-    let mut oe = [0u32; 2048];
+    let mut new_points = [0.0; 3072];
+    let mut new_sizes = [0.0; 1024];
+    let mut new_triangles = [0u32; 3072];
+    let mut cut_ends = [0u32; 2048];
     answer_into(
         points,
         triangles,
         sizes,
         angles,
         threshold,
-        &mut op,
-        &mut os,
-        &mut ot,
-        &mut oe,
+        &mut new_points,
+        &mut new_sizes,
+        &mut new_triangles,
+        &mut cut_ends,
         out,
     )
 }

@@ -126,7 +126,9 @@ pub fn direct(
     beta: f64,
 )
     requires { ⌜ DirectRoom (length (now work)) x p r inverse n ⌝ }
-    ensures { λ _. ⌜ now (work .exit) ≡ putC (putC (now (work .entry)) x (zipOf (addScaled alpha) (regionC (now (work .entry)) x n) (regionC (now (work .entry)) p n))) p (zipOf (addScaled beta) (scaled (region nan (now (work .entry)) inverse n) (regionC (now (work .entry)) r n)) (regionC (now (work .entry)) p n)) ⌝ }
+    ensures { λ _. ⌜ now (work .exit) ≡ putC
+        (putC (now (work .entry)) x (zipOf (addScaled alpha) (regionC (now (work .entry)) x n) (regionC (now (work .entry)) p n)))
+        p (zipOf (addScaled beta) (scaled (region nan (now (work .entry)) inverse n) (regionC (now (work .entry)) r n)) (regionC (now (work .entry)) p n)) ⌝ }
 {
     for i in 0..n {
         direct_turn(work, x, p, r, inverse, n, alpha, beta, i);

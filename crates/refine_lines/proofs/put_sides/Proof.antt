@@ -11,13 +11,13 @@ use Rattle.refine_lines.proofs.put_sides.Statement.{statement}
 use Rattle.refine_lines.proofs.put_sides.Tie as tie
 
 abbrev Inv-loop : tie.InvT-loop
-Inv-loop oe m out₀ at i₀ out i = (i ≤ m) × ((length out ≡ length out₀) × (out ≡ sets out₀ at (sideLines (sidesUpTo oe i))))
+Inv-loop ends m out₀ at i₀ out i = (i ≤ m) × ((length out ≡ length out₀) × (out ≡ sets out₀ at (sideLines (sidesUpTo ends i))))
 
 abbrev μ-loop : tie.MeasureT-loop
-μ-loop oe m out₀ at i₀ out i = m - i
+μ-loop ends m out₀ at i₀ out i = m - i
 
 loop-holds : tie.Need-loop-holds Inv-loop μ-loop
-loop-holds c = (omega arith, (refl, sides-none (c .before .before .args .oe .now) (c .before .before .args .out .now) (c .before .before .args .at)))
+loop-holds c = (omega arith, (refl, sides-none (c .before .before .args .ends .now) (c .before .before .args .out .now) (c .before .before .args .at)))
 
 mul-put-side : tie.Need-mul-put-side Inv-loop μ-loop
 mul-put-side c = search needs
@@ -35,7 +35,7 @@ loop-less : tie.Need-loop-less Inv-loop μ-loop
 loop-less c = search needs
 
 loop-again : tie.Need-loop-again Inv-loop μ-loop
-loop-again c = (omega arith, (ap length (c .before .before .put-side .ensures) ∙ simp length-sets (c .before .before .before .before .before .loop .inv .1 .0), sides-again (c .before .before .before .before .before .before .before .before .args .oe .now) (c .before .before .before .before .before .before .before .before .args .out .now) (c .before .before .before .before .before .before .before .before .args .at) (c .before .before .before .before .before .loop .i) (c .before .before .before .before .before .loop .inv .1 .1) (c .before .before .put-side .ensures)))
+loop-again c = (omega arith, (ap length (c .before .before .put-side .ensures) ∙ simp length-sets (c .before .before .before .before .before .loop .inv .1 .0), sides-again (c .before .before .before .before .before .before .before .before .args .ends .now) (c .before .before .before .before .before .before .before .before .args .out .now) (c .before .before .before .before .before .before .before .before .args .at) (c .before .before .before .before .before .loop .i) (c .before .before .before .before .before .loop .inv .1 .1) (c .before .before .put-side .ensures)))
 
 same-length : tie.Need-same-length Inv-loop μ-loop
 same-length c = c .before .loop .inv .1 .0

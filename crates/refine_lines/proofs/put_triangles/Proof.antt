@@ -12,13 +12,13 @@ use Rattle.refine_lines.proofs.put_triangles.Statement.{statement}
 use Rattle.refine_lines.proofs.put_triangles.Tie as tie
 
 abbrev Inv-loop : tie.InvT-loop
-Inv-loop ot k out₀ at i₀ out i = (i ≤ k) × ((length out ≡ length out₀) × (out ≡ sets out₀ at (triangleLines (tris ot i))))
+Inv-loop corners k out₀ at i₀ out i = (i ≤ k) × ((length out ≡ length out₀) × (out ≡ sets out₀ at (triangleLines (tris corners i))))
 
 abbrev μ-loop : tie.MeasureT-loop
-μ-loop ot k out₀ at i₀ out i = k - i
+μ-loop corners k out₀ at i₀ out i = k - i
 
 loop-holds : tie.Need-loop-holds Inv-loop μ-loop
-loop-holds c = (omega arith, (refl, triangles-none (c .before .before .args .ot .now) (c .before .before .args .out .now) (c .before .before .args .at)))
+loop-holds c = (omega arith, (refl, triangles-none (c .before .before .args .corners .now) (c .before .before .args .out .now) (c .before .before .args .at)))
 
 mul-put-triangle : tie.Need-mul-put-triangle Inv-loop μ-loop
 mul-put-triangle c = search needs
@@ -36,7 +36,7 @@ loop-less : tie.Need-loop-less Inv-loop μ-loop
 loop-less c = search needs
 
 loop-again : tie.Need-loop-again Inv-loop μ-loop
-loop-again c = (omega arith, (ap length (c .before .before .put-triangle .ensures) ∙ simp length-sets (c .before .before .before .before .before .loop .inv .1 .0), triangles-again (c .before .before .before .before .before .before .before .before .args .ot .now) (c .before .before .before .before .before .before .before .before .args .out .now) (c .before .before .before .before .before .before .before .before .args .at) (c .before .before .before .before .before .loop .i) (c .before .before .before .before .before .loop .inv .1 .1) (c .before .before .put-triangle .ensures)))
+loop-again c = (omega arith, (ap length (c .before .before .put-triangle .ensures) ∙ simp length-sets (c .before .before .before .before .before .loop .inv .1 .0), triangles-again (c .before .before .before .before .before .before .before .before .args .corners .now) (c .before .before .before .before .before .before .before .before .args .out .now) (c .before .before .before .before .before .before .before .before .args .at) (c .before .before .before .before .before .loop .i) (c .before .before .before .before .before .loop .inv .1 .1) (c .before .before .put-triangle .ensures)))
 
 same-length : tie.Need-same-length Inv-loop μ-loop
 same-length c = c .before .loop .inv .1 .0

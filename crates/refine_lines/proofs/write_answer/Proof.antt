@@ -11,13 +11,13 @@ enum-known-answer : tie.Need-enum-known-answer
 enum-known-answer c = search needs
 
 put-floor-requires : tie.Need-put-floor-requires
-put-floor-requires c κs = subst (λ (a : Answer). Holds a (length (c .before .before .before .before .before .before .before .args .ot .now)) (length (c .before .before .before .before .before .before .before .args .oe .now)) (length (c .before .before .before .before .before .before .before .args .out .now))) (c .before .before .answer .given .1) (c .before .before .before .before .before .before .before .pre)
+put-floor-requires c κs = subst (λ (a : Answer). Holds a (length (c .before .before .before .before .before .before .before .args .corners .now)) (length (c .before .before .before .before .before .before .before .args .ends .now)) (length (c .before .before .before .before .before .before .before .args .out .now))) (c .before .before .answer .given .1) (c .before .before .before .before .before .before .before .pre)
 
 enum-told : tie.Need-enum-told
 enum-told c = search needs
 
 put-refused-requires : tie.Need-put-refused-requires
-put-refused-requires c κs = subst (λ (a : Answer). Holds a (length (c .before .before .before .before .before .before .args .ot .now)) (length (c .before .before .before .before .before .before .args .oe .now)) (length (c .before .before .before .before .before .before .args .out .now))) (c .before .enum-told .given .1) (c .before .before .before .before .before .before .pre)
+put-refused-requires c κs = subst (λ (a : Answer). Holds a (length (c .before .before .before .before .before .before .args .corners .now)) (length (c .before .before .before .before .before .before .args .ends .now)) (length (c .before .before .before .before .before .before .args .out .now))) (c .before .enum-told .given .1) (c .before .before .before .before .before .before .pre)
 
 same-length : tie.Need-same-length
 same-length c = search needs
