@@ -2,8 +2,16 @@
  *
  *   cc program.c libgodf.a -lm          (-lm: f64's remainder is C's fmod)
  *
- * Every function is pure but for what it writes to lent places, takes any number, and never traps. All NaNs count as equal: where an answer is "NaN", its sign and
- * payload are not specified. Rounding is to nearest, ties to even, as C's default.
+ * A function writes to the places that it is lent and nowhere else, keeps nothing between calls and takes any numbers; what it cannot work
+ * with it refuses by a number. Calls from several threads on arrays of their own do not disturb each other.
+ *
+ * Pointers are valid for the counts that go with them and aligned as C aligns their types; a null pointer goes with count 0 only. An array
+ * that is written overlaps nothing else that is passed. Counts are of array elements, not of points or triangles.
+ *
+ * The processor rounds to nearest, as C programs start out, and neither flushes subnormal results to zero nor takes subnormal operands for
+ * zero: MXCSR's FTZ and DAZ are off. Games like to set them, and gcc's -ffast-math does; answers then differ. Save and restore the mode
+ * around a call: _mm_getcsr() and _mm_setcsr(0x1f80) of <xmmintrin.h>. All NaNs count as equal: where an answer is NaN, its sign and
+ * payload are not specified. The archive is for x86-64 Linux.
  */
 #ifndef GODF_H
 #define GODF_H
@@ -27,15 +35,21 @@ double godf_atan2(double y, double x);
 double godf_sqrt(double x);
 
 /* ---- refinement
- * Splits each triangle on one of whose sides the field turns by more than the threshold (radians), and its neighbours along the
- * cut sides, so that no side is cracked. The floor has points (x, y, z each), triangles (three corner numbers each), a size and
- * an angle for each point. Counts are of array elements.
+ * Cuts the sides of each triangle on one of whose sides the field turns by more than the threshold (radians), and splits every triangle
+ * that has a cut side. The floor has points (x, y, z each), triangles (three corner numbers each), a size and an angle for each point. A
+ * side with an angle, or a difference of its angles, that is not finite turns by 0.
+ *
+ * The refined floor: its first n points are those given, and point n + k is the midpoint of cut side k, in the order in which the sides are
+ * first met; a midpoint has z 0, half the sum of its ends' coordinates and sizes, and may overflow to an infinity. The pieces of a triangle
+ * with k cut sides are the next k + 1 triangles, in the order of the triangles given; a triangle with two cut sides may have pieces of the
+ * other winding. Where the corners of each triangle are three different points, no side is cracked.
  *
  * With n points and T triangles, the four result arrays must have room for 3 (n + 3 T) numbers of points, n + 3 T sizes, 12 T
  * corner numbers and 8 T ends of cut sides (two a side). Accepted, the front of each is filled and the rest stays; refused,
  * nothing is written to them. `report` gets as many of its four numbers as it has room for:
  *   0  accepted: report = counts of points, triangles, flagged triangles, cut sides
- *   otherwise the number of a refusal, report = its place, 0, 0, 0 (place 0 where there is none):
+ *   otherwise the number of a refusal, report = its place, 0, 0, 0 (place 0 where there is none). They are tested in this order, 5 for the
+ *   angles behind 8, and within a row the lowest place is told:
  *   1  points or triangles are not of whole triples, or over 16,384 points or 32,768 triangles
  *   3  no points      4  no triangles      5  as many sizes, or angles, as points are not given
  *   6  a point's x or y is not finite (place: point)    7  a size is not finite and positive (place: point)
@@ -55,7 +69,7 @@ uint64_t godf_refine(const double *points, size_t point_numbers, const uint32_t 
  *
  * In: points (x, y, z each; z is never read), triangles (three corner numbers each), a size for each point, options, guidance or none,
  * and how many outer iterations there may be. Guidance is given where `guided` is not 0: an angle for each point and a weight; otherwise
- * neither is read. Counts are of array elements.
+ * neither is read.
  *
  * Lent: with n points and T triangles the coarse array holds n angles or more; the other three hold as many numbers as these functions
  * say, or more. They take the counts of points and triangles, and the threshold; above row 1's limits they answer 0, since no length
@@ -118,11 +132,7 @@ typedef struct godf_report {
  * all of both work arrays ends as zeros. Accepted, the first n coarse angles are the first pass's field and, if a triangle was flagged,
  * the first n + cut fine angles the second's; the rest of both stays.
  *
- * Pointers are valid for the counts that go with them and aligned as C aligns their types; a null pointer goes with count 0 only. `options`
- * and `report` are never null. What is written (the four lent arrays and the report) overlaps nothing else that is passed. The
- * processor rounds to nearest, as C programs start out, and neither flushes subnormal results to zero nor takes subnormal operands for
- * zero (MXCSR's FTZ and DAZ are off; gcc's -ffast-math, and some libraries, set them). The call uses less than 16 kilobytes of stack, no memory
- * but what it is lent, and keeps nothing: calls from several threads on arrays of their own do not disturb each other.
+ * `options` and `report` are never null. The call uses less than 16 kilobytes of stack, and no memory but what it is lent.
  *
  *   size_t n = 3, t = 1;
  *   double points[] = {0, 0, 0, 1, 0, 0, 0, 1, 0}, sizes[] = {1, 1, 1};
@@ -155,7 +165,7 @@ uint32_t godf_answer(const double *coarse, size_t coarse_count, const double *fi
 
 /* ---- calls that read a field
  * A floor's points are numbers x, y, z in one array, its triangles three corner numbers each in one array; z is never read.
- * Counts are of array elements, not of points or triangles. Arrays are only read. A lent place keeps what it holds where the
+ * Arrays are only read. A lent place keeps what it holds where the
  * answer has no number for it. */
 
 /* The cross angle of a field, in [0, pi/2), interpolated at the question point (x, y) in the first triangle in list order that
