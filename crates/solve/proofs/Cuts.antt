@@ -12,7 +12,7 @@ use Rattle.cells.proofs.Changes.{part-region}
 use Rattle.refinement.specs.declared.Cut.{Cut}
 use Rattle.refinement.specs.Flag.{flaggedTri}
 use Rattle.refinement.specs.Steps.{CutTo}
-use Rattle.solve.specs.Passes.{firstIn, CutRoom, CutsBy}
+use Rattle.solve.specs.Passes.{CutRoom, CutsBy}
 
 -- the part of w from b to e, e excluded, of k numbers
 pub part-is : (w : List Float) (b e k : ℕ) → e ≡ b + k → e ≤ length w → take (e - b) (drop b w) ≡ region nan w b k

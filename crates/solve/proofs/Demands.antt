@@ -10,9 +10,9 @@ use Rattle.pass.proofs.Facts.{pass-facts}
 use Rattle.calls.specs.declared.Refusal.{Refusal}
 use Rattle.calls.specs.declared.Counts.{Counts}
 use Rattle.calls.specs.declared.Outcome.{Outcome}
-use Rattle.calls.specs.declared.Outcome.the-variants.{Solved, Refused}
-use Rattle.calls.specs.Checks.{Call, Lent, pointsIn}
-use Rattle.calls.specs.Solve.{solveOf, answerPart, Ends}
+use Rattle.calls.specs.declared.Outcome.the-variants.{Refused}
+use Rattle.calls.specs.Checks.{Call, Lent}
+use Rattle.calls.specs.Solve.{solveOf, Ends}
 use Rattle.calls.specs.Refusals.{RefusedBy, Refusals}
 use Rattle.calls.specs.Claim.{RefiningSolve}
 use Rattle.calls.proofs.Refusals.{refusals}

@@ -1,10 +1,10 @@
 -- The passes of a call: what the pass over the given floor asks for, and what both passes leave, from what each of them made. Assumes nothing.
-use Prim.Native.Nat.{ℕ, _+_, _*_, _/_, _≤_, _<_}
+use Prim.Native.Nat.{ℕ, _+_, _/_, _≤_}
 use native.Mathlib.Omega.{arith}
 use mathlib.Core.Path.{_≡_, refl, sym, ap, _∙_, subst}
 use mathlib.Core.Bool.{Bool, true, false}
 use mathlib.Core.List.{List}
-use lib.ListN.{length, getD}
+use lib.ListN.{length}
 use lib.Ieee.{Float}
 use Rattle.edges.specs.Numbering.{Below}
 use Rattle.refusal.specs.declared.Fault.{Fault}
@@ -12,16 +12,16 @@ use Rattle.refusal.specs.declared.Stage.{Stage}
 use Rattle.refusal.specs.declared.Stage.the-variants as stage
 use Rattle.options.specs.declared.Options.{Options}
 use Rattle.options.specs.Options.{guidanceOf}
-use Rattle.options.specs.Pass.{Passed, field, faulty, stageOf}
+use Rattle.options.specs.Pass.{Passed, field, faulty}
 use Rattle.pass.specs.declared.Asked.{Asked}
 use Rattle.pass.specs.Pass.{passOf}
 use Rattle.floor_pass.specs.Lay.{Made}
 use Rattle.floor_pass.specs.First.{firstBase, firstOver, FirstRoom}
 use Rattle.calls.specs.Checks.{isAdaptive, mostPoints, mostTriangles}
-use Rattle.calls.specs.Solve.{firstPass, secondPass, refines, inPass}
+use Rattle.calls.specs.Solve.{firstPass, inPass}
 use Rattle.solve.specs.declared.Found.{Found}
 use Rattle.solve.specs.declared.Found.the-variants.{Once, Refused}
-use Rattle.solve.specs.Passes.{callFor, ReadyFor, firstIn, foundSecond, foundAfter, foundFirst, foundOf, FirstStands, SecondStands, SameLengths, SecondMade, PassesMade}
+use Rattle.solve.specs.Passes.{callFor, ReadyFor, firstIn, foundAfter, foundOf, FirstStands, SecondStands, SameLengths, SecondMade, PassesMade}
 use Rattle.solve.proofs.Answers.{stage-faulty, stage-field}
 
 -- a call has room for a pass over the floor as given, whatever its threshold

@@ -1,23 +1,21 @@
 -- The second pass of a call is over the refined floor, and has the room that document 01 lends: what the calls of `second_pass` ask for, and what the
 -- one that passes over the floor found. Assumes nothing.
-use Prim.Native.Nat.{ℕ, suc, _+_, _*_, _/_, _^_, _≤_, _<_}
+use Prim.Native.Nat.{ℕ, _+_, _*_, _/_, _^_, _≤_, _<_}
 use native.Mathlib.Omega.{arith}
 use mathlib.Core.Path.{_≡_, refl, sym, ap, _∙_, subst}
-use mathlib.Core.Bool.{Bool, true, false, cond, not, _&&_}
+use mathlib.Core.Bool.{Bool, true, false, cond, _&&_}
 use mathlib.Core.List.{List}
-use borrow.Author.Tests.{eqb-true, ne-eqb}
-use lib.Dec.{eqb}
+use borrow.Author.Tests.{ne-eqb}
 use lib.ListN.{length, getD}
-use lib.Seq.{sets, length-sets}
-use lib.Ieee.{Float, nan, lt}
+use lib.Seq.{length-sets}
+use lib.Ieee.{Float, lt}
 use Rattle.float.specs.Double.{lit}
-use Rattle.cells.specs.Region.{region}
 use Rattle.mesh.specs.Mesh.{Tri, Side, All, Good, cuts, mid, refine, refined}
 use Rattle.mesh.specs.Claim.{InRange}
 use Rattle.mesh.proofs.Whole.{All-map, good-in-range}
 use Rattle.mesh.proofs.Good.{refined-good}
 use Rattle.runs.proofs.Runs.{sets-before}
-use Rattle.edges.specs.Table.{pairs, sidesIn, Held}
+use Rattle.edges.specs.Table.{pairs, sidesIn}
 use Rattle.edges.specs.Numbering.{trisFrom, Below}
 use Rattle.edges.proofs.Chain.{length-pairs}
 use Rattle.edges.proofs.Numbering.{sides-same}
@@ -32,8 +30,8 @@ use Rattle.planes.specs.declared.Cuts.{Cuts}
 use Rattle.planes.specs.Planes.{cutsIn}
 use Rattle.layout.specs.declared.Base.{Base}
 use Rattle.options.specs.declared.Options.{Options}
-use Rattle.options.specs.Options.{Guidance, guided, unguided, guidanceOf}
-use Rattle.options.specs.Pass.{Passed, field, faulty, stageOf, floorOf}
+use Rattle.options.specs.Options.{guided, unguided, guidanceOf}
+use Rattle.options.specs.Pass.{stageOf}
 use Rattle.pass.specs.declared.Asked.{Asked}
 use Rattle.pass.specs.Pass.{passOf}
 use Rattle.pass.proofs.Facts.{pass-facts}
@@ -41,13 +39,13 @@ use Rattle.refusal.specs.declared.Fault.{Fault}
 use Rattle.refusal.specs.declared.Stage.{Stage}
 use Rattle.refusal.specs.declared.Stage.the-variants as stage
 use Rattle.floor_pass.specs.Lay.{passOver, passAt, LaidRoom, Made}
-use Rattle.calls.specs.Checks.{pointsIn, trianglesIn, isAdaptive, mostPoints, mostTriangles}
-use Rattle.calls.specs.Solve.{firstFloor, secondPass, secondFloor, refinedBy, refines, inPass, extended, withoutThreshold}
+use Rattle.calls.specs.Checks.{mostPoints, mostTriangles}
+use Rattle.calls.specs.Solve.{firstFloor, secondPass, refinedBy, refines, inPass, extended, withoutThreshold}
 use Rattle.calls.proofs.Lists.{both-good}
 use Rattle.calls.proofs.Room.{points-in}
 use Rattle.solve.specs.declared.Found.{Found}
 use Rattle.solve.specs.declared.Found.the-variants.{Once, Twice, Refused}
-use Rattle.solve.specs.Passes.{callFor, again, ReadyFor, firstIn, foundSecond, foundAfter, FirstStands, SecondStands, SameLengths, CutRoom, CutsBy, SecondMade}
+use Rattle.solve.specs.Passes.{callFor, again, ReadyFor, firstIn, foundAfter, FirstStands, SecondStands, SameLengths, CutRoom, CutsBy, SecondMade}
 use Rattle.solve.proofs.Answers.{stage-faulty, stage-field, both-true, front-stays}
 use Rattle.solve.proofs.Corners.{below-in-range, stored-tris, stored-below}
 
@@ -70,12 +68,6 @@ cutsAt corners m = record { ends = 2 * (length corners / 3); sides = m }
 
 module _ (points : List Float) (corners : List ℕ) (sizes angles : List Float) (o : Options) (a : Asked) (w : List Float) (u : List ℕ)
     (ready : ReadyFor (callFor points corners sizes angles o a) w u) (stands : FirstStands (callFor points corners sizes angles o a) w) where
-  n : ℕ
-  n = length points / 3
-
-  t : ℕ
-  t = length corners / 3
-
   pub words-room : 16 * (length points / 3 + 3 * (length corners / 3)) + 32 * (4 * (length corners / 3)) ≤ length u
   unfolding mostPoints mostTriangles
   words-room = rw (stands .above) at (ready .words-room)

@@ -1,12 +1,12 @@
 -- A whole solve is what its checks, its passes and the copies of the angles come to: `Ends` of `solveOf`, from what each of them ensures. And what the calls of
 -- `solve` ask for. Assumes nothing.
-use Prim.Native.Nat.{ℕ, _+_, _*_, _/_, _≤_, _<_}
+use Prim.Native.Nat.{ℕ}
 use native.Mathlib.Omega.{arith}
 use mathlib.Core.Path.{_≡_, refl, sym, ap, _∙_}
 use mathlib.Core.Bool.{Bool, true, false, cond}
 use mathlib.Core.List.{List}
 use lib.ListN.{length, replicate}
-use lib.Ieee.{Float, nan}
+use lib.Ieee.{Float}
 use Rattle.float.specs.Double.{lit}
 use Rattle.floor.specs.declared.Refusal.{Refusal as Early}
 use Rattle.floor.specs.declared.Check.the-variants as check
@@ -17,12 +17,12 @@ use Rattle.calls.specs.declared.Counts.{Counts}
 use Rattle.calls.specs.declared.Outcome.{Outcome}
 use Rattle.calls.specs.declared.Outcome.the-variants as outcome
 use Rattle.calls.specs.Checks.{Call, Lent, lengthsOf, pointsIn, trianglesIn, isAdaptive, mostPoints, mostTriangles, checkSolve}
-use Rattle.calls.specs.Solve.{firstPass, secondPass, refinedBy, refines, early, Ended, afterSecond, afterFirst, afterChecks, solvedOnce, solveOf, Ends}
+use Rattle.calls.specs.Solve.{firstPass, secondPass, refinedBy, refines, early, Ended, afterSecond, afterFirst, solvedOnce, solveOf, Ends}
 use Rattle.calls.proofs.Ready.{sound-ready}
 use Rattle.calls.proofs.Room.{second-points, second-few}
 use Rattle.solve.specs.declared.Found.{Found}
 use Rattle.solve.specs.declared.Found.the-variants.{Once, Twice, Refused}
-use Rattle.solve.specs.Passes.{firstIn, secondIn, foundSecond, foundAfter, foundFirst, foundOf, ReadyFor, SameLengths, PassesMade, FinishRoom, SecondFits, Finished, outcomeOf, coarseLeft, fineLeft}
+use Rattle.solve.specs.Passes.{foundSecond, foundAfter, foundFirst, foundOf, ReadyFor, PassesMade, FinishRoom, SecondFits, Finished, outcomeOf, coarseLeft, fineLeft}
 use Rattle.solve.proofs.Answers.{both-true}
 use Rattle.solve.proofs.Made.{some-points-fit}
 
