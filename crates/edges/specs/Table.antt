@@ -10,6 +10,7 @@ use lib.Dec.{eqb}
 use lib.ListN.{length, getD}
 use lib.Seq.{sets}
 use Rattle.mesh.specs.Mesh.{Side, side, key, Tri, tri, sides, met, metAll, place, Numbered}
+use Rattle.edges.specs.declared.Table.{Table}
 
 -- the bucket of a side, of N buckets. Any function would do: no proof but that of `slot` looks into it
 unfoldable pub slotOf : ℕ → ℕ → ℕ → ℕ
@@ -51,6 +52,10 @@ linkOf o N w k = getD w (o + N + 3 * k + 2) 0
 -- the first m sides of a table
 abbrev pub sidesIn : ℕ → ℕ → List ℕ → ℕ → List Side
 sidesIn o N w m = pairs (loOf o N w) (hiOf o N w) m
+
+-- where a table ends in its slice
+abbrev pub endOf : Table → ℕ
+endOf t = t .base + t .buckets + 3 * t .sides
 
 -- a side's lower and its upper end
 abbrev pub lower : Side → ℕ
