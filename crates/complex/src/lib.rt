@@ -24,9 +24,10 @@ impl Complex {
     pub fn from_angle(angle: f64) -> Self
         ensures { λ r. ⌜ r ≡ fromAngle angle ⌝ }
     {
+        let both = sine::sin_cos(angle);
         Self {
-            re: sine::cos(angle),
-            im: sine::sin(angle),
+            re: both.cos,
+            im: both.sin,
         }
     }
 

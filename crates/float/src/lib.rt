@@ -71,13 +71,20 @@ pub fn recip(x: f64) -> f64
     1.0 / x
 }
 
-// f64::rem_euclid.
+// f64::rem_euclid. Where |x| is below |y| the remainder is x itself, with no call of C's fmod.
 pub fn rem_euclid(x: f64, y: f64) -> f64
     ensures { λ r. ⌜ r ≡ remEuclid x y ⌝ }
 {
+    let size = abs(y);
+    if abs(x) < size {
+        if x < 0.0 {
+            return x + size;
+        }
+        return x;
+    }
     let r = x % y;
     if r < 0.0 {
-        return r + abs(y);
+        return r + size;
     }
     r
 }

@@ -7,7 +7,7 @@ ghost use lib.Ieee.{binary64, ofInt, toBits};
 ghost use Rattle.float.specs.Double.{lit, mag, high, sign};
 ghost use Rattle.sine.specs.Kernel.{kernelSin, kernelCos, quarter};
 ghost use Rattle.sine.specs.Sine.{isClear, less, remNear, remDeep, remMedium, remPio2, sinSwitch, sinOf, cosOf};
-ghost use Rattle.sine.specs.Taken.{taken, turned};
+ghost use Rattle.sine.specs.Taken.{taken, turned, pairSwitch, sinCosOf};
 
 const S1: f64 = -1.66666666666666324348e-01;
 
@@ -275,4 +275,51 @@ pub fn cos(x: f64) -> f64
         return turn_by(1, x, t, b);
     }
     0.0 / 0.0
+}
+
+// A sine and a cosine.
+pub struct SinCos {
+    pub sin: f64,
+    pub cos: f64,
+}
+
+// Both switches, over the sine and the cosine of what the reduction leaves.
+fn pair_switch(q: u64, s: f64, c: f64) -> SinCos
+    ensures { λ r. ⌜ r ≡ pairSwitch q s c ⌝ }
+{
+    if q == 0 {
+        return SinCos { sin: s, cos: c };
+    }
+    if q == 1 {
+        return SinCos { sin: c, cos: -s };
+    }
+    if q == 2 {
+        return SinCos { sin: -s, cos: -c };
+    }
+    SinCos { sin: -c, cos: s }
+}
+
+// The sine and the cosine of one angle, by one reduction.
+pub fn sin_cos(x: f64) -> SinCos
+    ensures { λ r. ⌜ r ≡ sinCosOf x ⌝ }
+{
+    let b = float::bits(x);
+    if b % 0x8000_0000_0000_0000 / 0x1_0000_0000 <= 0x3fe9_21fb {
+        return SinCos {
+            sin: kernel_sin_alone(x),
+            cos: kernel_cos(x, 0.0),
+        };
+    }
+    let t = float::abs(x);
+    if t <= 524288.0 {
+        let p = rem_pio2(x, t, b);
+        let n = p.n;
+        let hi = p.hi;
+        let lo = p.lo;
+        return pair_switch(n, kernel_sin(hi, lo), kernel_cos(hi, lo));
+    }
+    SinCos {
+        sin: 0.0 / 0.0,
+        cos: 0.0 / 0.0,
+    }
 }
