@@ -6,8 +6,6 @@ ghost use lib.Ieee.{binary64, toBits, ofBits, toUnsigned, toSigned, ofInt};
 ghost use Rattle.float.specs.Double.{isFinite, notPositive, mag, maxOf, minOf, recipOf, remEuclid, high, field, sign, roundSize, roundAway};
 
 // std::f64::consts
-pub const FRAC_PI_4: f64 = 0.7853981633974483;
-
 pub const FRAC_PI_2: f64 = 1.5707963267948966;
 
 pub const PI: f64 = 3.141592653589793;

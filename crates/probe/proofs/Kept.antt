@@ -1,20 +1,23 @@
 -- What the probe's loops keep: a test of every angle speaks of those still to come (`every-`), and the search of the triangles still to come (`found-`).
 use mathlib.Core.Path.{_≡_, refl, sym, ap, _∙_}
-use Prim.Native.Nat.{ℕ, zero, suc, _+_, _-_, _/_, _%_, _≤_, _<_}
+use Prim.Native.Nat.{ℕ, zero, suc, _+_, _-_, _*_, _/_, _%_, _^_, _≤_, _<_}
 use native.Mathlib.Numerals.{add-one}
 use native.Mathlib.Omega.{arith}
-use mathlib.Core.Bool.{Bool, true, false, _&&_}
+use mathlib.Core.Bool.{Bool, true, false, not, _&&_, _||_}
 use mathlib.Core.List.{List, [], _∷_}
 use lib.ListN.{length, drop, getD, drop-of-length-le}
 use lib.Seq.{drop-cons}
-use lib.Ieee.{Float, nan}
+use lib.Dec.{ltb, eqb}
+use lib.Ieee.{Float, nan, inf, fin, up, down, lt, le, ofBits}
+use Rattle.float.specs.Double.{mag}
+use Rattle.float.proofs.Within.{and-both, le-or}
 use Rattle.probe.specs.declared.Visit.{Visit}
 use Rattle.probe.specs.declared.Visit.the-variants.{Passed, Vanished, Found}
 use Rattle.probe.specs.declared.Probe.{Probe}
 use Rattle.probe.specs.declared.Probe.the-variants.{NoAngle, Angle}
-use Rattle.probe.specs.Probe.{every, finite, small, visitAt, decided, foundFrom, probeOf}
+use Rattle.probe.specs.Probe.{every, finite, small, taken, visitAt, decided, foundFrom, probeOf}
 use Rattle.plane.specs.declared.Pair.{Pair}
-use borrow.Author.Tests.{eq-eqb}
+use borrow.Author.Tests.{eq-eqb, ne-eqb, le-ltb, ltb-true, ltb-false}
 
 module _ (p : Float → Bool) (xs : List Float) where
   pub every-none : every p xs ≡ every p (drop 0 xs)
@@ -52,6 +55,36 @@ module _ (v : ℕ → Visit) (n : ℕ) where
   pub found-done : (t : ℕ) → n ≤ t → foundFrom v 0 n ≡ foundFrom v t (n - t) → NoAngle ≡ foundFrom v 0 n
   unfolding foundFrom
   found-done t h e = let z : n - t ≡ 0 = omega arith in sym (e ∙ rw z)
+
+-- ---- one test for two
+below-is : (a b : ℕ) → ltb a b || (eqb a b && true) ≡ not (ltb b a)
+below-is a b = go (ltb b a) refl
+  where
+    go : (t : Bool) → ltb b a ≡ t → ltb a b || (eqb a b && true) ≡ not t
+    go true e = rw (le-ltb a b (omega (arith, ltb-true b a e)), ne-eqb a b (λ z. absurd (omega (arith, ltb-true b a e))))
+    go false e = le-or a b (ltb-false b a e)
+
+taken-is : (x : Float) → taken x ≡ finite x && small x
+unfolding le lt mag ofBits
+taken-is nan = refl
+taken-is (inf s) = refl
+taken-is (fin s m e) = below-is (m * up e * 1) (1 * 2 ^ 17 * down e)
+
+both-and : (a b c d : Bool) → (a && b) && (c && d) ≡ (a && c) && (b && d)
+both-and true true c d = refl
+both-and true false true d = refl
+both-and true false false d = refl
+both-and false b c d = refl
+
+pub every-taken : (xs : List Float) → every taken xs ≡ every finite xs && every small xs
+every-taken [] = refl
+every-taken (x ∷ xs) = rw (taken-is x, every-taken xs) (both-and (finite x) (small x) (every finite xs) (every small xs))
+
+pub each-taken : (xs : List Float) → every taken xs ≡ true → (every finite xs ≡ true) × (every small xs ≡ true)
+each-taken xs h = and-both (every finite xs) (every small xs) (sym (every-taken xs) ∙ h)
+
+pub too-large : (xs : List Float) → every taken xs ≡ false → every finite xs ≡ true → every small xs ≡ false
+too-large xs h f = sym (rw f at every-taken xs) ∙ h
 
 -- where every test passes, the answer is that of the search
 pub probe-search : (alpha pts : List Float) (tris : List ℕ) (at : Pair) → length pts % 3 ≡ 0 → length tris % 3 ≡ 0 → length alpha ≡ length pts / 3 → every finite alpha ≡ true → every small alpha ≡ true → foundFrom (visitAt alpha pts tris at) 0 (length tris / 3) ≡ probeOf alpha pts tris at

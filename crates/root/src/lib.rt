@@ -1,8 +1,12 @@
 // The IEEE square root of a double, by whole-number arithmetic: total, and equal to `rootOf` of specs/Root.antt, which is the nearest double (specs/Nearest.antt).
 ghost use mathlib.Core.Path.{_≡_};
 ghost use Prim.Native.Nat.{_+_, _*_, _/_, _%_, _^_, _≤_, _<_};
+ghost use mathlib.Core.Bool.{true};
+ghost use lib.Ieee.{lt};
+ghost use Rattle.float.specs.Double.{lit, isFinite};
 ghost use Rattle.root.specs.Root as Root;
 ghost use Rattle.root.specs.Root.{rootIn, rootAt, rootBits, rootOf, Settled};
+ghost use Rattle.root.specs.Nearest.{Nearest};
 
 // The whole part of the root of d0 * 2^44, which has 54 digits: q so far, with what is left over, r, and the digits to come, d.
 pub fn root_digits(d0: u64) -> u64
@@ -142,8 +146,10 @@ fn root_bits(b: u64) -> u64
     )
 }
 
+// f64::sqrt; of a positive finite double it is the nearest double to the root.
 pub fn sqrt(x: f64) -> f64
     ensures { λ r. ⌜ r ≡ rootOf x ⌝ }
+    ensures nearest { λ r. ⌜ (lt (lit 0) x ≡ true → isFinite x ≡ true → Nearest x r) ⌝ }
 {
     if x != x {
         return x;

@@ -17,7 +17,7 @@ cross-angle-requires c κs = search needs
 
 returns : tie.Need-returns
 unfolding meanOr
-returns c = c .cross-angle .ensures ∙ rw (← c .before .before .before .before .norm .ensures, ← c .before .before .before .is-finite .ensures, c .before .before .if1 .taken, c .before .if2 .taken)
+returns c = c .cross-angle .ensures .0 ∙ rw (← c .before .before .before .before .norm .ensures, ← c .before .before .before .is-finite .ensures, c .before .before .if1 .taken, c .before .if2 .taken)
 
 returns-2 : tie.Need-returns-2
 unfolding meanOr

@@ -11,7 +11,7 @@ sqrt-requires c κs = search needs
 
 returns : tie.Need-returns
 unfolding normOf
-returns c = c .sqrt .ensures
+returns c = c .sqrt .ensures .0
 
 pub norm-spec : {M : Type 1} → statement M
 norm-spec = tie.close (tie.spec sqrt-requires returns)
