@@ -84,7 +84,10 @@ pub each-taken : (xs : List Float) → every taken xs ≡ true → (every finite
 each-taken xs h = and-both (every finite xs) (every small xs) (sym (every-taken xs) ∙ h)
 
 pub too-large : (xs : List Float) → every taken xs ≡ false → every finite xs ≡ true → every small xs ≡ false
-too-large xs h f = sym (rw f at every-taken xs) ∙ h
+too-large xs h f = second (every finite xs) (every small xs) f (sym (every-taken xs) ∙ h)
+  where
+    second : (a b : Bool) → a ≡ true → a && b ≡ false → b ≡ false
+    second a b e g = ap (λ (t : Bool). t && b) (sym e) ∙ g
 
 -- where every test passes, the answer is that of the search
 pub probe-search : (alpha pts : List Float) (tris : List ℕ) (at : Pair) → length pts % 3 ≡ 0 → length tris % 3 ≡ 0 → length alpha ≡ length pts / 3 → every finite alpha ≡ true → every small alpha ≡ true → foundFrom (visitAt alpha pts tris at) 0 (length tris / 3) ≡ probeOf alpha pts tris at

@@ -1,5 +1,4 @@
 -- An angle that the probe answers lies in [0, FRAC_PI_2): it is a cross angle, whichever triangle it came from. Assumes nothing.
-use mathlib.Core.Path.{_≡_, sym, subst}
 use Prim.Native.Nat.{ℕ, zero, suc, _+_, _*_, _/_, _%_}
 use mathlib.Core.Bool.{Bool, true, false, cond, _&&_}
 use mathlib.Core.List.{List}
@@ -65,7 +64,7 @@ unfolding foundFrom
 found-range v h t zero = tt
 found-range v h t (suc k) = decided-range (v t) (foundFrom v (suc t) k) (h t) (found-range v h (suc t) k)
 
-probe-range : (alpha pts : List Float) (tris : List ℕ) (at : Pair) → AngleRange (probeOf alpha pts tris at)
+pub probe-range : (alpha pts : List Float) (tris : List ℕ) (at : Pair) → AngleRange (probeOf alpha pts tris at)
 unfolding probeOf
 probe-range alpha pts tris at = go (eqb (length pts % 3) 0 && eqb (length tris % 3) 0) (eqb (length alpha) (length pts / 3) && every finite alpha) (every small alpha)
   where
@@ -77,7 +76,3 @@ probe-range alpha pts tris at = go (eqb (length pts % 3) 0 && eqb (length tris %
     go true true false = tt
     go true false c = tt
     go false b c = tt
-
--- what `interp_angle` ensures, from its equation
-pub in-range : {alpha pts : List Float} {tris : List ℕ} {at : Pair} {r : Probe} → r ≡ probeOf alpha pts tris at → (r ≡ probeOf alpha pts tris at) × AngleRange r
-in-range {alpha} {pts} {tris} {at} e = (e, subst AngleRange (sym e) (probe-range alpha pts tris at))

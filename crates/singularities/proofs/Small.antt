@@ -131,5 +131,5 @@ charge-small a b c = go (isFinite a && isFinite b && isFinite c)
     go false = lit≤ tt
 
 -- what `triangle_charge` ensures, from its equation
-pub charged : {a b c : Float} {r : ℤ} → r ≡ charge a b c → (r ≡ charge a b c) × (natAbs r ≤ 2)
-charged {a} {b} {c} e = (e, subst (λ (z : ℤ). natAbs z ≤ 2) (sym e) (charge-small a b c))
+pub charged : (a b c : Float) (r : ℤ) → r ≡ charge a b c → (r ≡ charge a b c) × (natAbs r ≤ 2)
+charged a b c r e = (e, subst (λ (z : ℤ). natAbs z ≤ 2) (sym e) (charge-small a b c))

@@ -27,7 +27,7 @@ scale-requires c κs = search needs
 
 returns : tie.Need-returns
 unfolding dirichletClosed
-returns c = cc
+returns c = simp (c .scale .ensures, c .before .recip .ensures, c .before .before .add .ensures, c .before .before .before .new2 .ensures, c .before .before .before .before .mul .ensures, c .before .before .before .before .before .from-angle .ensures, c .before .before .before .before .before .before .new .ensures)
 
 pub dirichlet-closed-spec : {M : Type 1} → statement M
 dirichlet-closed-spec =
