@@ -3,6 +3,7 @@ use Prim.Native.Nat.{ℕ, _+_, _%_}
 use mathlib.Core.Bool.{cond}
 use lib.Dec.{eqb}
 use lib.Ieee.{Float, neg}
+use Rattle.sine.specs.Kernel.{kernelSin, kernelCos}
 use Rattle.sine.specs.Sine.{Remainder, quarters, sinSwitch, sinOf, cosOf}
 use Rattle.sine.specs.declared.Reduced.{Reduced}
 use Rattle.sine.specs.declared.SinCos.{SinCos}
@@ -19,6 +20,10 @@ pairSwitch q s c =
     cond (eqb q 0) (record { sin = s; cos = c })
     (cond (eqb q 1) (record { sin = c; cos = neg s })
     (cond (eqb q 2) (record { sin = neg s; cos = neg c }) (record { sin = neg c; cos = s })))
+
+-- sin's switch k quarter turns on, in both parts; and where k is 2 sin's and cos's
+abbrev pub turnedBy : ℕ → Remainder → SinCos
+turnedBy k p = cond (eqb k 2) (pairSwitch (quarters (p .n)) (kernelSin (p .y0) (p .y1) 1) (kernelCos (p .y0) (p .y1))) (record { sin = turned k p; cos = turned k p })
 
 -- sin(x) and cos(x)
 abbrev pub sinCosOf : Float → SinCos

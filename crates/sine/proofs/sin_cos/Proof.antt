@@ -23,22 +23,13 @@ returns c = simp (← c .before .before .before .bits .ensures, le-leb _ _ (c .b
 abs-requires : tie.Need-abs-requires
 abs-requires c κs = search needs
 
-rem-pio2-requires : tie.Need-rem-pio2-requires
-rem-pio2-requires c κs = search needs
-
-kernel-sin-requires : tie.Need-kernel-sin-requires
-kernel-sin-requires c κs = search needs
-
-kernel-cos-requires-2 : tie.Need-kernel-cos-requires-2
-kernel-cos-requires-2 c κs = search needs
-
-pair-switch-requires : tie.Need-pair-switch-requires
-pair-switch-requires c κs = search needs
+turn-by-requires : tie.Need-turn-by-requires
+turn-by-requires c κs = search needs
 
 returns-2 : tie.Need-returns-2
 unfolding sinOf cosOf
 returns-2 c =
-    simp (← c .before .before .before .before .before .before .before .bits .ensures, lt-leb _ _ (c .before .before .before .before .before .before .if1 .left), ← c .before .before .before .before .before .abs .ensures, c .before .before .before .before .if2 .taken, c .pair-switch .ensures, c .before .kernel-cos2 .ensures, c .before .before .kernel-sin .ensures, c .before .before .before .rem-pio2 .ensures, pair-switch (remPio2 (c .before .before .before .before .before .before .before .before .args .x)))
+    simp (← c .before .before .before .before .bits .ensures, lt-leb _ _ (c .before .before .before .if1 .left), ← c .before .before .abs .ensures, c .before .if2 .taken, c .turn-by .ensures, pair-switch (remPio2 (c .before .before .before .before .before .args .x)))
 
 returns-3 : tie.Need-returns-3
 unfolding sinOf cosOf
@@ -53,9 +44,6 @@ sin-cos-spec =
     kernel-cos-requires
     returns
     abs-requires
-    rem-pio2-requires
-    kernel-sin-requires
-    kernel-cos-requires-2
-    pair-switch-requires
+    turn-by-requires
     returns-2
     returns-3)
