@@ -1,9 +1,9 @@
 -- Document 01's thirteen proved cases hold: antt computes both sides of each. Assumes nothing.
 use mathlib.Core.Path.{_≡_, refl}
-use lib.Ieee.{Float, add, sub, mul, div, rem, neg, eq, lt, le, ne, ofBits, toBits, ofInt, toUnsigned, toSigned}
-use Rattle.float.specs.Double.{lit, mag, roundSize, roundAway}
+use lib.Ieee.{add, sub, mul, div, rem, neg, eq, lt, le, ne, ofBits, toBits, ofInt, toUnsigned, toSigned}
+use Rattle.float.specs.Double.{mag, roundSize, roundAway}
 use Rattle.arctangent.specs.Arc.{atanTail, atanNear, atanSize, atanOf, atanRatio, placed, atInfinity, atan2Of}
-use Rattle.complex.specs.Complex.{cnew, argumentOf}
+use Rattle.complex.specs.Complex.{argumentOf}
 use Rattle.complex.specs.Angle.{inRange, crossAngle, unwound, wrapToPi}
 use Rattle.geometry.specs.Edge.{alignmentWeight}
 use Rattle.mesh.specs.Mesh.{key, place, met, metAll, sidesAfter, marked, cuts, mid, refine}

@@ -10,7 +10,7 @@ use Rattle.float.specs.Double.{lit, FRAC-PI-4, PI, _⊘_}
 use Rattle.complex.specs.Complex.{cnew}
 use Rattle.complex.specs.Angle.{crossAngle, wrapToPi}
 use Rattle.geometry.specs.Edge.{alignmentWeight}
-use Rattle.mesh.specs.Mesh.{Tri, tri, side, split}
+use Rattle.mesh.specs.Mesh.{Tri, tri, split}
 use Rattle.refinement.specs.Floor.{Refined, refinementOf}
 use Rattle.refine_text.specs.Printed.{printed}
 use Rattle.refine_text.proofs.Listing.{given, expected}

@@ -6,15 +6,15 @@ use Prim.Native.Nat.{ℕ, _+_, _-_, _*_, _^_, _≤_, _<_}
 use native.Mathlib.Nat.{le-trans, le-of-eq, le-of-lt, mul-assoc, mul-pos, zero-mul, mul-le-mul-right}
 use native.Mathlib.Omega.{arith}
 use mathlib.Core.Bool.{Bool, true, false, cond, _&&_, _||_, Bool·beq}
-use borrow.Author.Tests.{ltb-true, ltb-false, lt-ltb, eq-eqb, eqb-true, eqb-false}
+use borrow.Author.Tests.{ltb-true, ltb-false, lt-ltb, eqb-true, eqb-false}
 use lib.Dec.{T, ltb, eqb, lit<}
 use lib.Arith.{lt-of-le-ne}
-use lib.IntN.{ℤ, pos, negsuc}
+use lib.IntN.{negsuc}
 use lib.Ieee.{Float, nan, inf, fin, binary64, up, down, round, sum, neg, add, sub, rem, lt, le, ofBits}
 use lib.Ieee.Fits.{down-pos}
 use Rattle.float.specs.Double.{lit, isFinite, remEuclid, FRAC-PI-2, PI, TAU, _⊕_, _⊖_, _⊘_}
 use Rattle.float.proofs.Sign.{Plain}
-use Rattle.float.proofs.Within.{Within, Exact, Low, round-within, euclid-within, within-le, below-zero, lifted, and-both, exact-tau, tau-is, pi-is}
+use Rattle.float.proofs.Within.{Within, Exact, Low, round-within, euclid-within, within-le, lifted, and-both, exact-tau, tau-is, pi-is}
 use Rattle.complex.specs.declared.Complex.{Complex}
 use Rattle.complex.specs.Complex.{argumentOf}
 use Rattle.complex.specs.Angle.{inRange, crossAngle, unwound, wrapToPi, IsCross, IsWrapped, WrapRange}

@@ -1,7 +1,7 @@
 -- A double is what rounding makes of its own value: a value of the format is written in one way. So the remainder of an x that is smaller than y in size is x. Assumes nothing.
 use mathlib.Core.Path.{_≡_, refl, sym, ap, _∙_, subst}
-use Prim.Native.Nat.{ℕ, zero, suc, _+_, _*_, _%_, _^_, _≤_, _<_}
-use native.Mathlib.Nat.{mul-one, one-mul, mul-comm, mul-assoc, mul-right-comm, mul-left-comm, mul-pos, zero-mul, pow-suc, pow-succ', mod-eq-of-lt, eq-of-mul-eq-mul-right, zero-lt-suc}
+use Prim.Native.Nat.{ℕ, zero, suc, _*_, _%_, _^_, _≤_, _<_}
+use native.Mathlib.Nat.{mul-one, one-mul, mul-comm, mul-assoc, mul-left-comm, mul-pos, zero-mul, pow-suc, pow-succ', mod-eq-of-lt, eq-of-mul-eq-mul-right, zero-lt-suc}
 use native.Mathlib.Omega.{arith}
 use mathlib.Core.Bool.{Bool, true, _&&_}
 use borrow.Author.Tests.{ltb-true, ne-eqb}

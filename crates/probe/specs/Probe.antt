@@ -1,7 +1,7 @@
 -- interp_angle over slices: angles by point, coordinates by threes, corners by threes. The tests come in document 01's order: whole triples,
 -- as many angles as points, all angles finite, none above 131,072 in size; then the triangles in list order. Definitions only.
 use Prim.Native.Nat.{ℕ, zero, suc, _+_, _*_, _/_, _%_}
-use mathlib.Core.Bool.{Bool, true, false, not, cond, _&&_}
+use mathlib.Core.Bool.{Bool, true, not, cond, _&&_}
 use mathlib.Core.List.{List, [], _∷_}
 use lib.Dec.{ltb, eqb}
 use lib.ListN.{getD, length}

@@ -1,5 +1,5 @@
 -- The weights of a point in a triangle and the interpolation of interp_angle, step by step. Definitions only.
-use mathlib.Core.Bool.{Bool, true, false, not, cond, _&&_}
+use mathlib.Core.Bool.{Bool, not, cond, _&&_}
 use mathlib.Core.List.{List}
 use lib.ListN.{getD}
 use lib.Ieee.{Float, neg, lt, le}
@@ -13,7 +13,7 @@ use Rattle.probe.specs.declared.Weights.{Weights}
 use Rattle.probe.specs.declared.Weighing.{Weighing}
 use Rattle.probe.specs.declared.Weighing.the-variants.{Inside, Outside}
 use Rattle.probe.specs.declared.Visit.{Visit}
-use Rattle.probe.specs.declared.Visit.the-variants.{Passed, Vanished, Found}
+use Rattle.probe.specs.declared.Visit.the-variants.{Vanished, Found}
 
 -- a denominator is finite and above f64::MIN_POSITIVE in size
 unfoldable pub usable : Float → Bool

@@ -4,7 +4,6 @@ use Prim.Native.Nat.{ℕ, zero, suc, _+_, _-_, _%_, _<_}
 use native.Mathlib.Omega.{arith}
 use lib.IntN.{ℤ, pos, negsuc, negℤ}
 use lib.Ieee.{Float}
-use Rattle.sine.specs.declared.SinCos.{SinCos}
 use Rattle.sine.specs.Taken.{turned, pairSwitch}
 use Rattle.sine.specs.Kernel.{kernelSin, kernelCos}
 use Rattle.sine.specs.Sine.{Remainder, quarters, sinSwitch, cosSwitch}

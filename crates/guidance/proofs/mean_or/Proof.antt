@@ -1,8 +1,7 @@
 -- `guidance::mean_or` meets its contract: each return opens the definition and rewrites it by the tests and the calls on its way.
 use borrow.Author.Needs.{needs}
-use mathlib.Core.Path.{_≡_, refl, sym, ap, _∙_}
-use lib.Ieee.{mul}
-use Rattle.guidance.specs.Guidance.{fourfold, normOf, meanOr, midAngle}
+use mathlib.Core.Path.{_∙_}
+use Rattle.guidance.specs.Guidance.{meanOr}
 use Rattle.guidance.proofs.mean_or.Statement.{statement}
 use Rattle.guidance.proofs.mean_or.Tie as tie
 
