@@ -8,9 +8,9 @@ use mathlib.Core.List.{List, [], _∷_}
 use lib.ListN.{length, drop, getD, drop-of-length-le}
 use lib.Seq.{drop-cons}
 use lib.Dec.{ltb, eqb}
-use lib.Ieee.{Float, nan, inf, fin, up, down, lt, le, ofBits}
+use lib.Ieee.{Float, nan, inf, fin, up, down, lt, le, eq, neg, ofBits}
 use Rattle.float.specs.Double.{mag}
-use Rattle.float.proofs.Within.{and-both, le-or}
+use Rattle.float.proofs.Within.{and-both, le-or, below-zero}
 use Rattle.probe.specs.declared.Visit.{Visit}
 use Rattle.probe.specs.declared.Visit.the-variants.{Passed, Vanished, Found}
 use Rattle.probe.specs.declared.Probe.{Probe}
@@ -57,18 +57,35 @@ module _ (v : ℕ → Visit) (n : ℕ) where
   found-done t h e = let z : n - t ≡ 0 = omega arith in sym (e ∙ rw z)
 
 -- ---- one test for two
-below-is : (a b : ℕ) → ltb a b || (eqb a b && true) ≡ not (ltb b a)
+pub below-is : (a b : ℕ) → ltb a b || (eqb a b && true) ≡ not (ltb b a)
 below-is a b = go (ltb b a) refl
   where
     go : (t : Bool) → ltb b a ≡ t → ltb a b || (eqb a b && true) ≡ not t
     go true e = rw (le-ltb a b (omega (arith, ltb-true b a e)), ne-eqb a b (λ z. absurd (omega (arith, ltb-true b a e))))
     go false e = le-or a b (ltb-false b a e)
 
+turned-is : (a b : ℕ) → ltb a b || (eqb b a && true) ≡ not (ltb b a)
+turned-is a b = go (ltb b a) refl
+  where
+    go : (t : Bool) → ltb b a ≡ t → ltb a b || (eqb b a && true) ≡ not t
+    go true e = rw (le-ltb a b (omega (arith, ltb-true b a e)), ne-eqb b a (λ z. absurd (omega (arith, ltb-true b a e))))
+    go false e = sides (ltb a b) refl
+      where
+        sides : (u : Bool) → ltb a b ≡ u → u || (eqb b a && true) ≡ true
+        sides true g = refl
+        sides false g = rw (eq-eqb b a (omega (arith, ltb-false a b g, ltb-false b a e)))
+
 taken-is : (x : Float) → taken x ≡ finite x && small x
-unfolding le lt mag ofBits
+unfolding le lt eq neg mag ofBits
 taken-is nan = refl
-taken-is (inf s) = refl
-taken-is (fin s m e) = below-is (m * up e * 1) (1 * 2 ^ 17 * down e)
+taken-is (inf true) = refl
+taken-is (inf false) = refl
+taken-is (fin true m e) = rw (below-zero (m * up e * 1) (1 * 2 ^ 17 * down e)) (turned-is (m * up e * 1) (1 * 2 ^ 17 * down e))
+taken-is (fin false m e) = rw (below-zero (1 * 2 ^ 17 * down e) (m * up e * 1)) (and-true (ltb (m * up e * 1) (1 * 2 ^ 17 * down e) || (eqb (m * up e * 1) (1 * 2 ^ 17 * down e) && true)) ∙ below-is (m * up e * 1) (1 * 2 ^ 17 * down e))
+  where
+    and-true : (a : Bool) → a && true ≡ a
+    and-true true = refl
+    and-true false = refl
 
 both-and : (a b c d : Bool) → (a && b) && (c && d) ≡ (a && c) && (b && d)
 both-and true true c d = refl

@@ -5,7 +5,7 @@ use mathlib.Core.Bool.{Bool, true, not, cond, _&&_}
 use mathlib.Core.List.{List, [], _∷_}
 use lib.Dec.{ltb, eqb}
 use lib.ListN.{getD, length}
-use lib.Ieee.{Float, nan, lt, le}
+use lib.Ieee.{Float, nan, lt, le, neg}
 use Rattle.float.specs.Double.{lit, mag, isFinite}
 use Rattle.complex.specs.Angle.{IsCross}
 use Rattle.plane.specs.declared.Pair.{Pair}
@@ -34,7 +34,7 @@ small x = not (lt LARGEST-ANGLE (mag x))
 
 -- both, as the code tests them
 abbrev pub taken : Float → Bool
-taken x = le (mag x) LARGEST-ANGLE
+taken x = le x LARGEST-ANGLE && le (neg LARGEST-ANGLE) x
 
 -- x and y of point v; z is not read
 abbrev pub cornerAt : List Float → ℕ → Pair

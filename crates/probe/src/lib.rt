@@ -35,11 +35,18 @@ pub enum Probe {
     Angle(f64),
 }
 
+// f64::MIN_POSITIVE.
+const MIN_POSITIVE: f64 = 2.2250738585072014e-308;
+
+// Whether a denominator is finite and above MIN_POSITIVE in size.
 fn is_usable(denominator: f64) -> bool
     ensures { λ r. ⌜ r ≡ usable denominator ⌝ }
 {
-    if float::is_finite(denominator) {
-        return !(float::abs(denominator) <= 2.2250738585072014e-308);
+    if denominator > MIN_POSITIVE {
+        return denominator < 1.0 / 0.0;
+    }
+    if denominator < -MIN_POSITIVE {
+        return denominator > -1.0 / 0.0;
     }
     false
 }
@@ -201,13 +208,23 @@ fn all_finite(alpha: &[f64]) -> bool
 // The largest angle that the probe takes: any above it is the answer "angle too large".
 const LARGEST_ANGLE: f64 = 131072.0;
 
-// Whether all are finite and none is too large, by one look at each.
+// Whether an angle is finite and not too large.
+fn is_taken(angle: f64) -> bool
+    ensures { λ r. ⌜ r ≡ taken angle ⌝ }
+{
+    if angle <= LARGEST_ANGLE {
+        return angle >= -LARGEST_ANGLE;
+    }
+    false
+}
+
+// Whether all are, by one look at each.
 fn all_taken(alpha: &[f64]) -> bool
     ensures { λ r. ⌜ r ≡ every taken (now (alpha .entry)) ⌝ }
 {
     let mut i = 0;
     while i < alpha.len() {
-        if float::abs(alpha[i]) <= LARGEST_ANGLE {
+        if is_taken(alpha[i]) {
             i += 1;
         } else {
             return false;

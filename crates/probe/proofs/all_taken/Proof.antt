@@ -17,14 +17,14 @@ abbrev μ-loop : tie.MeasureT-loop
 loop-holds : tie.Need-loop-holds Inv-loop μ-loop
 loop-holds c = every-none taken (c .before .args .alpha .now)
 
-mul-abs : tie.Need-mul-abs Inv-loop μ-loop
-mul-abs c = search needs
+mul-is-taken : tie.Need-mul-is-taken Inv-loop μ-loop
+mul-is-taken c = search needs
 
-shared-slice-read-abs : tie.Need-shared-slice-read-abs Inv-loop μ-loop
-shared-slice-read-abs c = search needs
+shared-slice-read-is-taken : tie.Need-shared-slice-read-is-taken Inv-loop μ-loop
+shared-slice-read-is-taken c = search needs
 
-abs-requires : tie.Need-abs-requires Inv-loop μ-loop
-abs-requires c κs = search needs
+is-taken-requires : tie.Need-is-taken-requires Inv-loop μ-loop
+is-taken-requires c κs = search needs
 
 add-i : tie.Need-add-i Inv-loop μ-loop
 add-i c = search needs
@@ -33,10 +33,10 @@ loop-less : tie.Need-loop-less Inv-loop μ-loop
 loop-less c = search needs
 
 loop-again : tie.Need-loop-again Inv-loop μ-loop
-loop-again c = every-more taken (c .before .before .before .before .before .before .args .alpha .now) (c .before .before .before .before .loop .i) (c .before .before .before .loop-test .taken) (c .before .before .before .before .loop .inv) (rw (← c .before .abs .ensures, c .if1 .taken))
+loop-again c = every-more taken (c .before .before .before .before .before .before .args .alpha .now) (c .before .before .before .before .loop .i) (c .before .before .before .loop-test .taken) (c .before .before .before .before .loop .inv) (rw (← c .before .is-taken .ensures, c .if1 .taken))
 
 returns : tie.Need-returns Inv-loop μ-loop
-returns c = every-fail taken (c .before .before .before .before .before .before .args .alpha .now) (c .before .before .before .before .loop .i) (c .before .before .before .loop-test .taken) (c .before .before .before .before .loop .inv) (rw (← c .before .abs .ensures, c .if1 .left))
+returns c = every-fail taken (c .before .before .before .before .before .before .args .alpha .now) (c .before .before .before .before .loop .i) (c .before .before .before .loop-test .taken) (c .before .before .before .before .loop .inv) (rw (← c .before .is-taken .ensures, c .if1 .left))
 
 returns-2 : tie.Need-returns-2 Inv-loop μ-loop
 returns-2 c = every-done taken (c .before .before .before .args .alpha .now) (c .before .loop .i) (c .loop-test .left) (c .before .loop .inv)
@@ -48,9 +48,9 @@ all-taken-spec =
     Inv-loop
     μ-loop
     loop-holds
-    mul-abs
-    shared-slice-read-abs
-    abs-requires
+    mul-is-taken
+    shared-slice-read-is-taken
+    is-taken-requires
     add-i
     loop-less
     loop-again
