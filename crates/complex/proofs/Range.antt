@@ -1,23 +1,23 @@
 -- The ranges of cross_angle and wrap_to_pi, for every value: the cross angle lies in [0, FRAC_PI_2) by the test that the function itself makes;
 -- a wrapped angle is NaN or lies in (-PI, PI], since PI, TAU and their differences from a remainder are bounded by doubles.
-use mathlib.Core.Path.{_≡_, refl, sym, subst}
+use mathlib.Core.Path.{_≡_, refl, sym, subst, _∙_}
 use mathlib.Core.Logic.{_⊎_, inl, inr, ⊎-elim}
 use Prim.Native.Nat.{ℕ, _+_, _-_, _*_, _^_, _≤_, _<_}
 use native.Mathlib.Nat.{le-trans, le-of-eq, le-of-lt, mul-assoc, mul-pos, zero-mul, mul-le-mul-right}
 use native.Mathlib.Omega.{arith}
 use mathlib.Core.Bool.{Bool, true, false, cond, _&&_, _||_, Bool·beq}
-use borrow.Author.Tests.{ltb-true, ltb-false, lt-ltb, eq-eqb, eqb-true, eqb-false}
+use borrow.Author.Tests.{ltb-true, ltb-false, lt-ltb, eqb-true, eqb-false}
 use lib.Dec.{T, ltb, eqb, lit<}
 use lib.Arith.{lt-of-le-ne}
-use lib.IntN.{ℤ, pos, negsuc}
+use lib.IntN.{negsuc}
 use lib.Ieee.{Float, nan, inf, fin, binary64, up, down, round, sum, neg, add, sub, rem, lt, le, ofBits}
 use lib.Ieee.Fits.{down-pos}
 use Rattle.float.specs.Double.{lit, isFinite, remEuclid, FRAC-PI-2, PI, TAU, _⊕_, _⊖_, _⊘_}
 use Rattle.float.proofs.Sign.{Plain}
-use Rattle.float.proofs.Within.{Within, Exact, Low, round-within, euclid-within, within-le, below-zero, lifted, and-both, exact-tau, tau-is, pi-is}
+use Rattle.float.proofs.Within.{Within, Exact, Low, round-within, euclid-within, within-le, lifted, and-both, exact-tau, tau-is, pi-is}
 use Rattle.complex.specs.declared.Complex.{Complex}
 use Rattle.complex.specs.Complex.{argumentOf}
-use Rattle.complex.specs.Angle.{inRange, crossAngle, unwound, wrapToPi, IsCross, IsWrapped}
+use Rattle.complex.specs.Angle.{inRange, crossAngle, unwound, wrapToPi, IsCross, IsWrapped, WrapRange}
 
 -- ---- cross_angle
 in-range : (a : Float) → IsCross (inRange a)
@@ -192,3 +192,10 @@ wrap-other x h = other (x ⊕ PI) h
     other nan h = unfold unwound rem lt sub le ofBits in refl
     other (inf s) h = unfold unwound rem lt sub le ofBits in refl
     other (fin s m e) h = absurd (subst T h tt)
+
+-- ---- what the two functions ensure, from their equations
+pub crossed : (z : Complex) (r : Float) → r ≡ crossAngle z → (r ≡ crossAngle z) × IsCross r
+crossed z r e = (e, subst IsCross (sym e) (cross-angle-range z))
+
+pub wrapped-from : (x r : Float) → r ≡ wrapToPi x → (r ≡ wrapToPi x) × WrapRange x r
+wrapped-from x r e = (e, (λ h. subst IsWrapped (sym e) (wrap-finite x (subst T (sym h) tt)), λ h. e ∙ wrap-other x h))

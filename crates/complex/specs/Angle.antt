@@ -1,8 +1,8 @@
 -- cross_angle and wrap_to_pi, step by step. Definitions only.
 use mathlib.Core.Path.{_≡_}
-use mathlib.Core.Bool.{true, cond, _&&_}
-use lib.Ieee.{Float, neg, lt, le}
-use Rattle.float.specs.Double.{lit, remEuclid, FRAC-PI-2, PI, TAU, _⊕_, _⊖_, _⊘_}
+use mathlib.Core.Bool.{true, false, cond, _&&_}
+use lib.Ieee.{Float, nan, neg, lt, le}
+use Rattle.float.specs.Double.{lit, isFinite, remEuclid, FRAC-PI-2, PI, TAU, _⊕_, _⊖_, _⊘_}
 use Rattle.complex.specs.declared.Complex.{Complex}
 use Rattle.complex.specs.Complex.{argumentOf}
 
@@ -21,7 +21,7 @@ unwound w = cond (le w (neg PI)) (w ⊕ TAU) w
 unfoldable pub wrapToPi : Float → Float
 wrapToPi x = unwound (remEuclid (x ⊕ PI) TAU ⊖ PI)
 
--- ---- what proofs/Range.antt shows of them
+-- ---- where they lie
 -- a lies in [0, FRAC_PI_2), -0 counted in
 pub record IsCross (a : Float) : Type 0 where
   pub from : le (lit 0) a ≡ true
@@ -31,3 +31,7 @@ pub record IsCross (a : Float) : Type 0 where
 pub record IsWrapped (w : Float) : Type 0 where
   pub above : lt (neg PI) w ≡ true
   pub to : le w PI ≡ true
+
+-- what wrap_to_pi makes of x, by whether x + PI is finite
+abbrev pub WrapRange : Float → Float → Type 0
+WrapRange x w = (isFinite (x ⊕ PI) ≡ true → IsWrapped w) × (isFinite (x ⊕ PI) ≡ false → w ≡ nan)

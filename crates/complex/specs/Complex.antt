@@ -1,5 +1,6 @@
 -- Complex arithmetic over doubles: the methods of the Rust's `Complex`, each operation rounded once, in its order. Definitions only.
-use lib.Ieee.{Float, nan, neg}
+use mathlib.Core.Bool.{Bool, _&&_}
+use lib.Ieee.{Float, nan, neg, eq}
 use Rattle.float.specs.Double.{lit, _⊕_, _⊖_, _⊗_}
 use Rattle.sine.specs.Sine.{sinOf, cosOf}
 use Rattle.arctangent.specs.Arc.{atan2Of}
@@ -33,6 +34,10 @@ cscale a k = record { re = a .re ⊗ k; im = a .im ⊗ k }
 
 unfoldable pub cconj : Complex → Complex
 cconj a = record { re = a .re; im = neg (a .im) }
+
+-- both parts are 0, of either sign
+abbrev pub isZero : Complex → Bool
+isZero a = eq (a .re) (czero .re) && eq (a .im) (czero .im)
 
 unfoldable pub argumentOf : Complex → Float
 argumentOf a = atan2Of (a .im) (a .re)

@@ -1,8 +1,8 @@
 // Complex numbers by value, as in the Rust, and the two functions that turn them to angles:
 // `cross_angle`, the angle of a cross in [0, FRAC_PI_2), and `wrap_to_pi`, an angle in (-PI, PI].
 ghost use mathlib.Core.Path.{_≡_};
-ghost use Rattle.complex.specs.Complex.{cnew, fromAngle, cadd, csub, cmul, cscale, cconj, argumentOf};
-ghost use Rattle.complex.specs.Angle.{crossAngle, wrapToPi};
+ghost use Rattle.complex.specs.Complex.{cnew, fromAngle, cadd, csub, cmul, cscale, cconj, isZero, argumentOf};
+ghost use Rattle.complex.specs.Angle.{crossAngle, wrapToPi, IsCross, WrapRange};
 
 pub struct Complex {
     pub re: f64,
@@ -24,9 +24,10 @@ impl Complex {
     pub fn from_angle(angle: f64) -> Self
         ensures { λ r. ⌜ r ≡ fromAngle angle ⌝ }
     {
+        let both = sine::sin_cos(angle);
         Self {
-            re: sine::cos(angle),
-            im: sine::sin(angle),
+            re: both.cos,
+            im: both.sin,
         }
     }
 
@@ -75,6 +76,17 @@ impl Complex {
         }
     }
 
+    // Whether both parts are 0, of either sign.
+    pub fn is_zero(self) -> bool
+        ensures { λ r. ⌜ r ≡ isZero self ⌝ }
+    {
+        let zero = Self::ZERO;
+        if self.re == zero.re {
+            return self.im == zero.im;
+        }
+        false
+    }
+
     // The angle in [-PI, PI] of the number seen from zero.
     pub fn argument(self) -> f64
         ensures { λ r. ⌜ r ≡ argumentOf self ⌝ }
@@ -86,6 +98,7 @@ impl Complex {
 // The cross angle in [0, FRAC_PI_2) of a fourth power.
 pub fn cross_angle(value: Complex) -> f64
     ensures { λ r. ⌜ r ≡ crossAngle value ⌝ }
+    ensures range { λ r. ⌜ IsCross r ⌝ }
 {
     let angle = float::rem_euclid(value.argument() / 4.0, float::FRAC_PI_2);
     if 0.0 <= angle {
@@ -97,9 +110,10 @@ pub fn cross_angle(value: Complex) -> f64
     0.0
 }
 
-// The angle moved by whole turns into (-PI, PI].
+// The angle moved by whole turns into (-PI, PI], where angle + PI is finite; NaN elsewhere.
 pub fn wrap_to_pi(angle: f64) -> f64
     ensures { λ r. ⌜ r ≡ wrapToPi angle ⌝ }
+    ensures range { λ r. ⌜ WrapRange angle r ⌝ }
 {
     let wrapped = float::rem_euclid(angle + float::PI, float::TAU) - float::PI;
     if wrapped <= -float::PI {

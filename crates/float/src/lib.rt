@@ -6,8 +6,6 @@ ghost use lib.Ieee.{binary64, toBits, ofBits, toUnsigned, toSigned, ofInt};
 ghost use Rattle.float.specs.Double.{isFinite, notPositive, mag, maxOf, minOf, recipOf, remEuclid, high, field, sign, roundSize, roundAway};
 
 // std::f64::consts
-pub const FRAC_PI_4: f64 = 0.7853981633974483;
-
 pub const FRAC_PI_2: f64 = 1.5707963267948966;
 
 pub const PI: f64 = 3.141592653589793;
@@ -71,13 +69,20 @@ pub fn recip(x: f64) -> f64
     1.0 / x
 }
 
-// f64::rem_euclid.
+// f64::rem_euclid. Where |x| is below |y| the remainder is x itself, with no call of C's fmod.
 pub fn rem_euclid(x: f64, y: f64) -> f64
     ensures { λ r. ⌜ r ≡ remEuclid x y ⌝ }
 {
+    let size = abs(y);
+    if abs(x) < size {
+        if x < 0.0 {
+            return x + size;
+        }
+        return x;
+    }
     let r = x % y;
     if r < 0.0 {
-        return r + abs(y);
+        return r + size;
     }
     r
 }

@@ -1,39 +1,20 @@
--- The codes by which C learns the case of an answer, and what a lent place then holds: the answer's number, or what it held. Definitions only.
+-- The probe and the count of singularities as C sees them: the answer's number, and what the lent places then hold. Definitions only.
 use Prim.Native.Nat.{ℕ}
 use mathlib.Core.Path.{_≡_}
 use lib.Ieee.{Float}
+use Rattle.complex.specs.Angle.{IsCross}
 use Rattle.probe.specs.declared.Probe.{Probe}
-use Rattle.probe.specs.declared.Probe.the-variants.{NotTriples, NoAngle, TooLarge, Angle}
+use Rattle.probe.specs.Probe.{number as probeNumber, angleOr}
 use Rattle.singularities.specs.declared.Singularities.{Singularities}
-use Rattle.singularities.specs.declared.Singularities.the-variants.{Counted, NotTriples as NotCounted}
+use Rattle.singularities.specs.Count.{number as countNumber, threes, fives}
 
-abbrev pub probeCode : Probe → ℕ
-probeCode (Angle a) = 0
-probeCode NotTriples = 1
-probeCode NoAngle = 2
-probeCode TooLarge = 3
+-- an angle that is told lies in [0, FRAC_PI_2)
+pub record Probed (p : Probe) (angle : Float) (code : ℕ) (angle′ : Float) : Type 0 where
+  pub number : code ≡ probeNumber p
+  pub value : angle′ ≡ angleOr p angle
+  pub range : code ≡ 0 → IsCross angle′
 
-abbrev pub probeAngle : Probe → Float → Float
-probeAngle (Angle a) held = a
-probeAngle NotTriples held = held
-probeAngle NoAngle held = held
-probeAngle TooLarge held = held
-
-abbrev pub countCode : Singularities → ℕ
-countCode (Counted c) = 0
-countCode NotCounted = 1
-
-abbrev pub threes : Singularities → ℕ → ℕ
-threes (Counted c) held = c .valence_3
-threes NotCounted held = held
-
-abbrev pub fives : Singularities → ℕ → ℕ
-fives (Counted c) held = c .valence_5
-fives NotCounted held = held
-
--- the call as C sees it: the code, and what the lent places then hold
-abbrev pub Probed : Probe → Float → ℕ → Float → Type 0
-Probed p angle code angle′ = (code ≡ probeCode p) × (angle′ ≡ probeAngle p angle)
-
-abbrev pub CountedIn : Singularities → ℕ → ℕ → ℕ → ℕ → ℕ → Type 0
-CountedIn s three five code three′ five′ = (code ≡ countCode s) × (three′ ≡ threes s three) × (five′ ≡ fives s five)
+pub record CountedIn (s : Singularities) (three five code three′ five′ : ℕ) : Type 0 where
+  pub number : code ≡ countNumber s
+  pub three-is : three′ ≡ threes s three
+  pub five-is : five′ ≡ fives s five

@@ -4,9 +4,13 @@ pub mod refine;
 pub mod solve_call;
 
 ghost use mathlib.Core.Path.{_≡_};
+ghost use mathlib.Core.Bool.{true};
+ghost use lib.Ieee.{lt};
+ghost use Rattle.float.specs.Double.{lit, isFinite};
 ghost use Rattle.sine.specs.Sine.{sinOf, cosOf};
 ghost use Rattle.arctangent.specs.Arc.{atan2Of};
 ghost use Rattle.root.specs.Root.{rootOf};
+ghost use Rattle.root.specs.Nearest.{Nearest};
 
 // The sine.
 #[no_mangle]
@@ -32,10 +36,11 @@ pub extern "C" fn godf_atan2(y: f64, x: f64) -> f64
     arctangent::atan2(y, x)
 }
 
-// The square root.
+// The square root; of a positive finite double the nearest double to it.
 #[no_mangle]
 pub extern "C" fn godf_sqrt(x: f64) -> f64
     ensures { λ r. ⌜ r ≡ rootOf x ⌝ }
+    ensures nearest { λ r. ⌜ (lt (lit 0) x ≡ true → isFinite x ≡ true → Nearest x r) ⌝ }
 {
     root::sqrt(x)
 }

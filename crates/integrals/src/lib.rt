@@ -22,7 +22,7 @@ fn mass_series(omega: f64) -> Complex
     let o8 = o4 * o4;
     let re = 1.0 / 12.0 - o2 / 360.0 + o4 / 20160.0 - o6 / 1814400.0 + o8 / 239500800.0;
     let im = omega * (1.0 / 60.0 - o2 / 2520.0 + o4 / 181440.0 - o6 / 19958400.0);
-    Complex { re, im }
+    Complex::new(re, im)
 }
 
 fn mass_closed(omega: f64) -> Complex
@@ -30,19 +30,10 @@ fn mass_closed(omega: f64) -> Complex
 {
     let a = Complex::from_angle(omega)
         .scale(6.0)
-        .sub(Complex { re: 6.0, im: 0.0 });
-    let b = a.sub(Complex {
-        re: 0.0,
-        im: 6.0 * omega,
-    });
-    let c = b.add(Complex {
-        re: 3.0 * omega * omega,
-        im: 0.0,
-    });
-    let numerator = c.add(Complex {
-        re: 0.0,
-        im: omega * omega * omega,
-    });
+        .sub(Complex::new(6.0, 0.0));
+    let b = a.sub(Complex::new(0.0, 6.0 * omega));
+    let c = b.add(Complex::new(3.0 * omega * omega, 0.0));
+    let numerator = c.add(Complex::new(0.0, omega * omega * omega));
     numerator.scale(float::recip(3.0 * omega * omega * omega * omega))
 }
 
@@ -69,7 +60,7 @@ fn dirichlet_series(omega: f64, g11: f64, g12: f64, g22: f64) -> Complex
     let im = omega
         * (edges * (-1.0 / 24.0 + o2 / 504.0 - o4 / 17280.0 + o6 / 1108800.0)
             + g12 * (-1.0 / 24.0 + 5.0 * o2 / 1008.0 - 7.0 * o4 / 51840.0 + o6 / 492800.0));
-    Complex { re, im }
+    Complex::new(re, im)
 }
 
 fn dirichlet_closed(omega: f64, g11: f64, g12: f64, g22: f64) -> Complex
@@ -84,15 +75,12 @@ fn dirichlet_closed(omega: f64, g11: f64, g12: f64, g22: f64) -> Complex
     let c = g11 - 2.0 * g12 + g22;
     let d = g11 + 2.0 * g12 + g22;
     let e = 2.0 * g11 + 3.0 * g12 + 2.0 * g22;
-    let front = Complex {
-        re: -a + 0.5 * o2 * d,
-        im: omega * e,
-    };
+    let front = Complex::new(-a + 0.5 * o2 * d, omega * e);
     let tail = front.mul(Complex::from_angle(omega));
-    let head = Complex {
-        re: a + o4 * c / 24.0,
-        im: omega * b - o3 * g12 / 6.0 - o5 * c / 60.0,
-    };
+    let head = Complex::new(
+        a + o4 * c / 24.0,
+        omega * b - o3 * g12 / 6.0 - o5 * c / 60.0,
+    );
     head.add(tail).scale(float::recip(o4))
 }
 

@@ -1,1 +1,3 @@
 mod Kept
+mod Usable
+mod Range

@@ -1,12 +1,13 @@
 -- interp_angle over slices: angles by point, coordinates by threes, corners by threes. The tests come in document 01's order: whole triples,
 -- as many angles as points, all angles finite, none above 131,072 in size; then the triangles in list order. Definitions only.
 use Prim.Native.Nat.{ℕ, zero, suc, _+_, _*_, _/_, _%_}
-use mathlib.Core.Bool.{Bool, true, false, not, cond, _&&_}
+use mathlib.Core.Bool.{Bool, true, not, cond, _&&_}
 use mathlib.Core.List.{List, [], _∷_}
 use lib.Dec.{ltb, eqb}
 use lib.ListN.{getD, length}
-use lib.Ieee.{Float, nan, lt}
+use lib.Ieee.{Float, nan, lt, le, neg}
 use Rattle.float.specs.Double.{lit, mag, isFinite}
+use Rattle.complex.specs.Angle.{IsCross}
 use Rattle.plane.specs.declared.Pair.{Pair}
 use Rattle.plane.specs.Pair.{sub2, cross2, no-pair}
 use Rattle.probe.specs.declared.Weighing.{Weighing}
@@ -30,6 +31,10 @@ LARGEST-ANGLE = lit 0x4100_0000_0000_0000
 
 abbrev pub small : Float → Bool
 small x = not (lt LARGEST-ANGLE (mag x))
+
+-- both, as the code tests them
+abbrev pub taken : Float → Bool
+taken x = le x LARGEST-ANGLE && le (neg LARGEST-ANGLE) x
 
 -- x and y of point v; z is not read
 abbrev pub cornerAt : List Float → ℕ → Pair
@@ -84,9 +89,23 @@ probeOf alpha pts tris at =
     NoAngle)
     NotTriples
 
--- the refusal's number that an answer stands for; 0 where it is no refusal. It has no place
+-- an angle that is answered lies in [0, FRAC_PI_2)
+abbrev pub AngleRange : Probe → Type 0
+AngleRange NotTriples = Unit {0}
+AngleRange NoAngle = Unit {0}
+AngleRange TooLarge = Unit {0}
+AngleRange (Angle a) = IsCross a
+
+-- the answer's number: 1 is document 01's refusal, 2 its "no angle" and 3 its "angle too large"; 0 is an angle. It has no place
 abbrev pub number : Probe → ℕ
-number NotTriples = 1
-number NoAngle = 0
-number TooLarge = 0
 number (Angle a) = 0
+number NotTriples = 1
+number NoAngle = 2
+number TooLarge = 3
+
+-- its value, or what was held where it has none
+abbrev pub angleOr : Probe → Float → Float
+angleOr (Angle a) held = a
+angleOr NotTriples held = held
+angleOr NoAngle held = held
+angleOr TooLarge held = held

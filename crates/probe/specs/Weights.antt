@@ -1,11 +1,11 @@
 -- The weights of a point in a triangle and the interpolation of interp_angle, step by step. Definitions only.
-use mathlib.Core.Bool.{Bool, true, false, not, cond, _&&_}
+use mathlib.Core.Bool.{Bool, not, cond, _&&_}
 use mathlib.Core.List.{List}
 use lib.ListN.{getD}
-use lib.Ieee.{Float, neg, lt, le, eq}
+use lib.Ieee.{Float, neg, lt, le}
 use Rattle.float.specs.Double.{lit, mag, isFinite, _⊕_, _⊗_, _⊘_}
 use Rattle.complex.specs.declared.Complex.{Complex}
-use Rattle.complex.specs.Complex.{fromAngle, cadd, cscale}
+use Rattle.complex.specs.Complex.{fromAngle, cadd, cscale, isZero}
 use Rattle.complex.specs.Angle.{crossAngle}
 use Rattle.plane.specs.declared.Pair.{Pair}
 use Rattle.plane.specs.Pair.{sub2, cross2, no-pair}
@@ -13,7 +13,7 @@ use Rattle.probe.specs.declared.Weights.{Weights}
 use Rattle.probe.specs.declared.Weighing.{Weighing}
 use Rattle.probe.specs.declared.Weighing.the-variants.{Inside, Outside}
 use Rattle.probe.specs.declared.Visit.{Visit}
-use Rattle.probe.specs.declared.Visit.the-variants.{Passed, Vanished, Found}
+use Rattle.probe.specs.declared.Visit.the-variants.{Vanished, Found}
 
 -- a denominator is finite and above f64::MIN_POSITIVE in size
 unfoldable pub usable : Float → Bool
@@ -41,4 +41,4 @@ interpolated w a b c =
     cadd (cadd (cscale (fromAngle (four ⊗ a)) (w .i)) (cscale (fromAngle (four ⊗ b)) (w .j))) (cscale (fromAngle (four ⊗ c)) (w .k))
 
 unfoldable pub answered : Complex → Visit
-answered z = cond (eq (z .re) (lit 0) && eq (z .im) (lit 0)) Vanished (Found (crossAngle z))
+answered z = cond (isZero z) Vanished (Found (crossAngle z))

@@ -3,7 +3,7 @@ ghost use mathlib.Core.Path.{_≡_};
 ghost use Prim.Native.Nat.{_+_, _*_, _<_, _≤_};
 ghost use lib.ListN.{length};
 ghost use Rattle.probe.specs.Weights.{usable, within, weight, weighed, interpolated, answered};
-ghost use Rattle.probe.specs.Probe.{every, finite, small, cornerAt, denominatorBy, visitedBy, visitOf, visitAt, foundFrom, probeOf};
+ghost use Rattle.probe.specs.Probe.{every, finite, taken, cornerAt, denominatorBy, visitedBy, visitOf, visitAt, foundFrom, probeOf, AngleRange};
 use complex::Complex;
 use plane::Pair;
 
@@ -35,11 +35,18 @@ pub enum Probe {
     Angle(f64),
 }
 
+// f64::MIN_POSITIVE.
+const MIN_POSITIVE: f64 = 2.2250738585072014e-308;
+
+// Whether a denominator is finite and above MIN_POSITIVE in size.
 fn is_usable(denominator: f64) -> bool
     ensures { λ r. ⌜ r ≡ usable denominator ⌝ }
 {
-    if float::is_finite(denominator) {
-        return !(float::abs(denominator) <= 2.2250738585072014e-308);
+    if denominator > MIN_POSITIVE {
+        return denominator < 1.0 / 0.0;
+    }
+    if denominator < -MIN_POSITIVE {
+        return denominator > -1.0 / 0.0;
     }
     false
 }
@@ -61,6 +68,7 @@ fn weight_of(p: Pair, a: Pair, b: Pair, denominator: f64) -> f64
     plane::cross2(plane::sub2(a, p), plane::sub2(b, p)) / denominator
 }
 
+// Each weight is tested before the next is computed.
 fn weights_of(p: Pair, corners: [Pair; 3], denominator: f64) -> Weighing
     ensures { λ r. ⌜ r ≡ weighed p corners denominator ⌝ }
 {
@@ -68,10 +76,10 @@ fn weights_of(p: Pair, corners: [Pair; 3], denominator: f64) -> Weighing
     let b = corners[1];
     let c = corners[2];
     let i = weight_of(p, b, c, denominator);
-    let j = weight_of(p, c, a, denominator);
-    let k = weight_of(p, a, b, denominator);
     if is_within(i) {
+        let j = weight_of(p, c, a, denominator);
         if is_within(j) {
+            let k = weight_of(p, a, b, denominator);
             if is_within(k) {
                 return Weighing::Inside(Weights { i, j, k });
             }
@@ -95,11 +103,8 @@ fn interpolate(w: Weights, a: f64, b: f64, c: f64) -> Complex
 fn answer(z: Complex) -> Visit
     ensures { λ r. ⌜ r ≡ answered z ⌝ }
 {
-    if z.re == 0.0 {
-        if z.im == 0.0 {
-            return Visit::Vanished;
-        }
-        return Visit::Found(complex::cross_angle(z));
+    if z.is_zero() {
+        return Visit::Vanished;
     }
     Visit::Found(complex::cross_angle(z))
 }
@@ -203,15 +208,27 @@ fn all_finite(alpha: &[f64]) -> bool
 // The largest angle that the probe takes: any above it is the answer "angle too large".
 const LARGEST_ANGLE: f64 = 131072.0;
 
-fn all_small(alpha: &[f64]) -> bool
-    ensures { λ r. ⌜ r ≡ every small (now (alpha .entry)) ⌝ }
+// Whether an angle is finite and not too large.
+fn is_taken(angle: f64) -> bool
+    ensures { λ r. ⌜ r ≡ taken angle ⌝ }
+{
+    if angle <= LARGEST_ANGLE {
+        return angle >= -LARGEST_ANGLE;
+    }
+    false
+}
+
+// Whether all are, by one look at each.
+fn all_taken(alpha: &[f64]) -> bool
+    ensures { λ r. ⌜ r ≡ every taken (now (alpha .entry)) ⌝ }
 {
     let mut i = 0;
     while i < alpha.len() {
-        if float::abs(alpha[i]) > LARGEST_ANGLE {
+        if is_taken(alpha[i]) {
+            i += 1;
+        } else {
             return false;
         }
-        i += 1;
     }
     true
 }
@@ -219,6 +236,7 @@ fn all_small(alpha: &[f64]) -> bool
 // The question point (x, y) is taken as given: a NaN passes every weight test, and yields 0 where a triangle gets as far.
 pub fn interp_angle(alpha: &[f64], points: &[f64], tris: &[u32], x: f64, y: f64) -> Probe
     ensures { λ r. ⌜ r ≡ probeOf (now (alpha .entry)) (now (points .entry)) (now (tris .entry)) (record { x = x; y = y }) ⌝ }
+    ensures range { λ r. ⌜ AngleRange r ⌝ }
 {
     if points.len() % 3 != 0 {
         return Probe::NotTriples;
@@ -229,10 +247,10 @@ pub fn interp_angle(alpha: &[f64], points: &[f64], tris: &[u32], x: f64, y: f64)
     if alpha.len() != points.len() / 3 {
         return Probe::NoAngle;
     }
+    if all_taken(alpha) {
+        return search(alpha, points, tris, Pair { x, y }, tris.len() / 3);
+    }
     if all_finite(alpha) {
-        if all_small(alpha) {
-            return search(alpha, points, tris, Pair { x, y }, tris.len() / 3);
-        }
         return Probe::TooLarge;
     }
     Probe::NoAngle

@@ -1,6 +1,6 @@
 -- The square root of a double, rounded to the nearest one, by whole numbers and their squares. `specs/Nearest.antt` says what nearest means, and `proofs/Theorem.antt` proves it of every positive finite double. Definitions only.
 use Prim.Native.Nat.{ℕ, zero, suc, _+_, _-_, _*_, _/_, _%_, _^_, _≤_, _<_}
-use mathlib.Core.Bool.{Bool, false, not, cond}
+use mathlib.Core.Bool.{cond}
 use lib.Dec.{ltb, leb, eqb}
 use lib.Ieee.{Float, nan, binary64, eq, lt, ne, toBits, size}
 use Rattle.float.specs.Double.{lit}
@@ -19,9 +19,14 @@ unfoldable pub rootIn : ℕ → ℕ → ℕ
 rootIn zero n = 0
 rootIn (suc k) n = grown (rootIn k (n / 4)) n
 
--- 2r - 1 and 2r + 1 are on either side of the root of m * 4 ^ 27
-unfoldable pub nearestTest : ℕ → ℕ → Bool
-nearestTest m r = cond (eqb r 0) false (cond (leb ((2 * r - 1) * (2 * r - 1)) (m * 2 ^ 54)) (not (leb ((2 * r + 1) * (2 * r + 1)) (m * 2 ^ 54))) false)
+-- q is nearest to the root of m * 4 ^ 26: 2q - 1 and 2q + 1 are on either side of the root of m * 4 ^ 27
+pub record IsNearest (m q : ℕ) : Type 0 where
+  pub under : (2 * q - 1) * (2 * q - 1) ≤ m * 2 ^ 54
+  pub over : m * 2 ^ 54 < (2 * q + 1) * (2 * q + 1)
+
+-- a q other than 0 is that number; of 0 nothing is said
+abbrev pub Settled : ℕ → ℕ → Type 0
+Settled m q = (q < 2 ^ 54) × (0 < q → IsNearest m q)
 
 -- A finite double above 0 is c * 2 ^ (x - 2150), for a c of 53 digits. Of a pattern b from 2 ^ 52 up, c is its last 52 digits with a 1 before them, and x is the exponent's field + 1075.
 -- A subnormal b is b * 2 ^ -1074, and c is b with zeros after it: `size b` is the number of b's digits.

@@ -7,7 +7,7 @@ ghost use lib.Ieee.{binary64, ofInt, toBits};
 ghost use Rattle.float.specs.Double.{lit, mag, high, sign};
 ghost use Rattle.sine.specs.Kernel.{kernelSin, kernelCos, quarter};
 ghost use Rattle.sine.specs.Sine.{isClear, less, remNear, remDeep, remMedium, remPio2, sinSwitch, sinOf, cosOf};
-ghost use Rattle.sine.specs.Taken.{taken, turned};
+ghost use Rattle.sine.specs.Taken.{taken, turnedBy, pairSwitch, sinCosOf};
 
 const S1: f64 = -1.66666666666666324348e-01;
 
@@ -235,16 +235,42 @@ fn sin_switch(q: u64, hi: f64, lo: f64) -> f64
     -kernel_cos(hi, lo)
 }
 
-// sin's switch, k quarter turns on: one function for sin and cos, so that the reduction is compiled into it.
-fn turn_by(k: u64, x: f64, t: f64, b: u64) -> f64
-    requires { ⌜ (t ≡ mag x) × (b ≡ toBits binary64 x) ⌝ ∗ ⌜ (0x3fe9_21fb < high x) × (k < 2) ⌝ }
-    ensures { λ r. ⌜ r ≡ turned k (remPio2 x) ⌝ }
+// A sine and a cosine.
+pub struct SinCos {
+    pub sin: f64,
+    pub cos: f64,
+}
+
+// Both switches, over the sine and the cosine of what the reduction leaves.
+fn pair_switch(q: u64, s: f64, c: f64) -> SinCos
+    ensures { λ r. ⌜ r ≡ pairSwitch q s c ⌝ }
+{
+    if q == 0 {
+        return SinCos { sin: s, cos: c };
+    }
+    if q == 1 {
+        return SinCos { sin: c, cos: -s };
+    }
+    if q == 2 {
+        return SinCos { sin: -s, cos: -c };
+    }
+    SinCos { sin: -c, cos: s }
+}
+
+// sin's switch, k quarter turns on, in both parts; and where k is 2 sin's and cos's. One function, so that the reduction is compiled into it.
+fn turn_by(k: u64, x: f64, t: f64, b: u64) -> SinCos
+    requires { ⌜ (t ≡ mag x) × (b ≡ toBits binary64 x) ⌝ ∗ ⌜ (0x3fe9_21fb < high x) × (k < 3) ⌝ }
+    ensures { λ r. ⌜ r ≡ turnedBy k (remPio2 x) ⌝ }
 {
     let p = rem_pio2(x, t, b);
     let n = p.n;
     let hi = p.hi;
     let lo = p.lo;
-    sin_switch((n % 4 + k) % 4, hi, lo)
+    if k == 2 {
+        return pair_switch(n, kernel_sin(hi, lo), kernel_cos(hi, lo));
+    }
+    let r = sin_switch((n % 4 + k) % 4, hi, lo);
+    SinCos { sin: r, cos: r }
 }
 
 // The sine, and NaN for infinities, NaN and |x| above 524,288.
@@ -257,7 +283,7 @@ pub fn sin(x: f64) -> f64
     }
     let t = float::abs(x);
     if t <= 524288.0 {
-        return turn_by(0, x, t, b);
+        return turn_by(0, x, t, b).sin;
     }
     0.0 / 0.0
 }
@@ -272,7 +298,28 @@ pub fn cos(x: f64) -> f64
     }
     let t = float::abs(x);
     if t <= 524288.0 {
-        return turn_by(1, x, t, b);
+        return turn_by(1, x, t, b).cos;
     }
     0.0 / 0.0
+}
+
+// The sine and the cosine of one angle, by one reduction.
+pub fn sin_cos(x: f64) -> SinCos
+    ensures { λ r. ⌜ r ≡ sinCosOf x ⌝ }
+{
+    let b = float::bits(x);
+    if b % 0x8000_0000_0000_0000 / 0x1_0000_0000 <= 0x3fe9_21fb {
+        return SinCos {
+            sin: kernel_sin_alone(x),
+            cos: kernel_cos(x, 0.0),
+        };
+    }
+    let t = float::abs(x);
+    if t <= 524288.0 {
+        return turn_by(2, x, t, b);
+    }
+    SinCos {
+        sin: 0.0 / 0.0,
+        cos: 0.0 / 0.0,
+    }
 }

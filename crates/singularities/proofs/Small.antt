@@ -129,3 +129,7 @@ charge-small a b c = go (isFinite a && isFinite b && isFinite c)
     go : (t : Bool) → natAbs (cond t (turns (winding a b c)) (pos 0)) ≤ 2
     go true = unfold winding in turns-small (along a b ⊕ along b c ⊕ along c a) (three (along a b) (along b c) (along c a) (wrap-within _) (wrap-within _) (wrap-within _))
     go false = lit≤ tt
+
+-- what `triangle_charge` ensures, from its equation
+pub charged : (a b c : Float) (r : ℤ) → r ≡ charge a b c → (r ≡ charge a b c) × (natAbs r ≤ 2)
+charged a b c r e = (e, subst (λ (z : ℤ). natAbs z ≤ 2) (sym e) (charge-small a b c))

@@ -1,6 +1,6 @@
 -- count_singularities over slices: angles by point, corners by threes. Definitions only.
 use Prim.Native.Nat.{ℕ, zero, suc, _+_, _*_, _/_, _%_}
-use mathlib.Core.Bool.{Bool, cond, _&&_}
+use mathlib.Core.Bool.{cond, _&&_}
 use mathlib.Core.List.{List}
 use lib.Dec.{ltb, eqb}
 use lib.ListN.{getD, length}
@@ -35,7 +35,16 @@ countOf alpha tris (suc t) = counted (countOf alpha tris t) (chargeAt alpha tris
 unfoldable pub singularities : List Float → List ℕ → Singularities
 singularities alpha tris = cond (eqb (length tris % 3) 0) (Counted (countOf alpha tris (length tris / 3))) NotTriples
 
--- the refusal's number that an answer stands for; 0 where it is no refusal. It has no place
+-- the answer's number: 1 is document 01's refusal, 0 is counts. It has no place
 abbrev pub number : Singularities → ℕ
 number (Counted c) = 0
 number NotTriples = 1
+
+-- its values, or what was held where it has none
+abbrev pub threes : Singularities → ℕ → ℕ
+threes (Counted c) held = c .valence_3
+threes NotTriples held = held
+
+abbrev pub fives : Singularities → ℕ → ℕ
+fives (Counted c) held = c .valence_5
+fives NotTriples held = held

@@ -2,6 +2,7 @@
 // quads meet in threes (charge above 0) or in fives (below 0).
 ghost use mathlib.Core.Path.{_≡_};
 ghost use Prim.Native.Nat.{_*_, _+_, _<_, _≤_};
+ghost use lib.IntN.{natAbs};
 ghost use lib.ListN.{length};
 ghost use Rattle.singularities.specs.Charge.{winding, charge};
 ghost use Rattle.singularities.specs.Count.{chargeOf, chargeAt, counted, countOf, singularities};
@@ -19,6 +20,7 @@ fn winding_of(a: f64, b: f64, c: f64) -> f64
 // The charge of a triangle with the angles a, b and c at its corners: one of -2 .. 2.
 pub fn triangle_charge(a: f64, b: f64, c: f64) -> i64
     ensures { λ r. ⌜ r ≡ charge a b c ⌝ }
+    ensures small { λ r. ⌜ natAbs r ≤ 2 ⌝ }
 {
     if float::is_finite(a) {
         if float::is_finite(b) {

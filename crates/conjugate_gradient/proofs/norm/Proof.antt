@@ -12,7 +12,7 @@ sqrt-requires : tie.Need-sqrt-requires
 sqrt-requires c κs = search needs
 
 returns : tie.Need-returns
-returns c = c .sqrt .ensures ∙ ap rootOf (c .before .max .ensures)
+returns c = c .sqrt .ensures .0 ∙ ap rootOf (c .before .max .ensures)
 
 pub norm-spec : {M : Type 1} → statement M
 norm-spec = tie.close (tie.spec max-requires sqrt-requires returns)

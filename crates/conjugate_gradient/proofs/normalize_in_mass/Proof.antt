@@ -32,7 +32,7 @@ same-length-2 : tie.Need-same-length-2
 same-length-2 c = search needs
 
 returns-2 : tie.Need-returns-2
-returns-2 c = normalize-done _ _ _ _ _ (c .before .before .before .before .before .before .before .before .before .before .before .before .before .before .before .before .before .pre .0) (c .before .before .before .before .before .before .before .before .before .before .before .before .apply .ensures) (c .before .before .before .before .before .before .before .before .dot-re .ensures) (c .before .before .before .before .before .before .before .not-positive .ensures) (c .before .before .before .before .before .before .if1 .left) (c .before .before .before .before .sqrt .ensures) (c .before .before .before .recip .ensures) (c .before .before .scale-by .ensures)
+returns-2 c = normalize-done _ _ _ _ _ (c .before .before .before .before .before .before .before .before .before .before .before .before .before .before .before .before .before .pre .0) (c .before .before .before .before .before .before .before .before .before .before .before .before .apply .ensures) (c .before .before .before .before .before .before .before .before .dot-re .ensures) (c .before .before .before .before .before .before .before .not-positive .ensures) (c .before .before .before .before .before .before .if1 .left) (c .before .before .before .before .sqrt .ensures .0) (c .before .before .before .recip .ensures) (c .before .before .scale-by .ensures)
 
 pub normalize-in-mass-spec : {M : Type 1} → statement M
 normalize-in-mass-spec =

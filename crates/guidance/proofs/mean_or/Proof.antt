@@ -1,8 +1,7 @@
 -- `guidance::mean_or` meets its contract: each return opens the definition and rewrites it by the tests and the calls on its way.
 use borrow.Author.Needs.{needs}
-use mathlib.Core.Path.{_≡_, refl, sym, ap, _∙_}
-use lib.Ieee.{mul}
-use Rattle.guidance.specs.Guidance.{fourfold, normOf, meanOr, midAngle}
+use mathlib.Core.Path.{_∙_}
+use Rattle.guidance.specs.Guidance.{meanOr}
 use Rattle.guidance.proofs.mean_or.Statement.{statement}
 use Rattle.guidance.proofs.mean_or.Tie as tie
 
@@ -17,7 +16,7 @@ cross-angle-requires c κs = search needs
 
 returns : tie.Need-returns
 unfolding meanOr
-returns c = c .cross-angle .ensures ∙ rw (← c .before .before .before .before .norm .ensures, ← c .before .before .before .is-finite .ensures, c .before .before .if1 .taken, c .before .if2 .taken)
+returns c = c .cross-angle .ensures .0 ∙ rw (← c .before .before .before .before .norm .ensures, ← c .before .before .before .is-finite .ensures, c .before .before .if1 .taken, c .before .if2 .taken)
 
 returns-2 : tie.Need-returns-2
 unfolding meanOr

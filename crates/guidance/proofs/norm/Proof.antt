@@ -1,8 +1,6 @@
 -- `guidance::norm` meets its contract: each return opens the definition and rewrites it by the tests and the calls on its way.
 use borrow.Author.Needs.{needs}
-use mathlib.Core.Path.{_≡_, refl, sym, ap, _∙_}
-use lib.Ieee.{mul}
-use Rattle.guidance.specs.Guidance.{fourfold, normOf, meanOr, midAngle}
+use Rattle.guidance.specs.Guidance.{normOf}
 use Rattle.guidance.proofs.norm.Statement.{statement}
 use Rattle.guidance.proofs.norm.Tie as tie
 
@@ -11,7 +9,7 @@ sqrt-requires c κs = search needs
 
 returns : tie.Need-returns
 unfolding normOf
-returns c = c .sqrt .ensures
+returns c = c .sqrt .ensures .0
 
 pub norm-spec : {M : Type 1} → statement M
 norm-spec = tie.close (tie.spec sqrt-requires returns)

@@ -4,11 +4,17 @@ use borrow.Author.Needs.{needs}
 use Rattle.integrals.proofs.dirichlet_closed.Statement.{statement}
 use Rattle.integrals.proofs.dirichlet_closed.Tie as tie
 
+new-requires : tie.Need-new-requires
+new-requires c κs = search needs
+
 from-angle-requires : tie.Need-from-angle-requires
 from-angle-requires c κs = search needs
 
 mul-requires : tie.Need-mul-requires
 mul-requires c κs = search needs
+
+new-requires-2 : tie.Need-new-requires-2
+new-requires-2 c κs = search needs
 
 add-requires : tie.Need-add-requires
 add-requires c κs = search needs
@@ -21,9 +27,17 @@ scale-requires c κs = search needs
 
 returns : tie.Need-returns
 unfolding dirichletClosed
-returns c = simp (c .scale .ensures, c .before .recip .ensures, c .before .before .add .ensures, c .before .before .before .mul .ensures, c .before .before .before .before .from-angle .ensures)
+returns c = simp (c .scale .ensures, c .before .recip .ensures, c .before .before .add .ensures, c .before .before .before .new2 .ensures, c .before .before .before .before .mul .ensures, c .before .before .before .before .before .from-angle .ensures, c .before .before .before .before .before .before .new .ensures)
 
 pub dirichlet-closed-spec : {M : Type 1} → statement M
 dirichlet-closed-spec =
     tie.close
-    (tie.spec from-angle-requires mul-requires add-requires recip-requires scale-requires returns)
+    (tie.spec
+    new-requires
+    from-angle-requires
+    mul-requires
+    new-requires-2
+    add-requires
+    recip-requires
+    scale-requires
+    returns)

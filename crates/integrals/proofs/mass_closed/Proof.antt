@@ -10,14 +10,26 @@ from-angle-requires c κs = search needs
 scale-requires : tie.Need-scale-requires
 scale-requires c κs = search needs
 
+new-requires : tie.Need-new-requires
+new-requires c κs = search needs
+
 sub-requires : tie.Need-sub-requires
 sub-requires c κs = search needs
+
+new-requires-2 : tie.Need-new-requires-2
+new-requires-2 c κs = search needs
 
 sub-requires-2 : tie.Need-sub-requires-2
 sub-requires-2 c κs = search needs
 
+new-requires-3 : tie.Need-new-requires-3
+new-requires-3 c κs = search needs
+
 add-requires : tie.Need-add-requires
 add-requires c κs = search needs
+
+new-requires-4 : tie.Need-new-requires-4
+new-requires-4 c κs = search needs
 
 add-requires-2 : tie.Need-add-requires-2
 add-requires-2 c κs = search needs
@@ -38,9 +50,13 @@ mass-closed-spec =
     (tie.spec
     from-angle-requires
     scale-requires
+    new-requires
     sub-requires
+    new-requires-2
     sub-requires-2
+    new-requires-3
     add-requires
+    new-requires-4
     add-requires-2
     recip-requires
     scale-requires-2

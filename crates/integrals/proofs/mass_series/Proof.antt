@@ -1,13 +1,15 @@
 -- `integrals::mass_series` meets its contract: each return opens the definition and rewrites it by the tests and the calls on its way.
 use Rattle.integrals.specs.Integrals.{massSeries}
-use mathlib.Core.Path.{refl}
 use borrow.Author.Needs.{needs}
 use Rattle.integrals.proofs.mass_series.Statement.{statement}
 use Rattle.integrals.proofs.mass_series.Tie as tie
 
+new-requires : tie.Need-new-requires
+new-requires c κs = search needs
+
 returns : tie.Need-returns
 unfolding massSeries
-returns c = refl
+returns c = simp (c .new .ensures)
 
 pub mass-series-spec : {M : Type 1} → statement M
-mass-series-spec = tie.close (tie.spec returns)
+mass-series-spec = tie.close (tie.spec new-requires returns)

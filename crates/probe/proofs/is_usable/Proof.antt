@@ -1,22 +1,16 @@
--- `probe::is_usable` meets its contract: each return opens the definition and rewrites it by the tests and the calls on its way.
-use Rattle.probe.specs.Weights.{usable}
-use borrow.Author.Needs.{needs}
+-- `probe::is_usable` meets its contract: `usable` by the denominator's sign; the laws are in proofs/Usable.
+use Rattle.probe.proofs.Usable.{usable-above, usable-below, usable-none}
 use Rattle.probe.proofs.is_usable.Statement.{statement}
 use Rattle.probe.proofs.is_usable.Tie as tie
 
-is-finite-requires : tie.Need-is-finite-requires
-is-finite-requires c κs = search needs
-
-abs-requires : tie.Need-abs-requires
-abs-requires c κs = search needs
-
 returns : tie.Need-returns
-unfolding usable
-returns c = simp (← c .before .before .is-finite .ensures, c .before .if1 .taken, c .abs .ensures)
+returns c = usable-above (c .before .args .denominator) (c .if1 .taken)
 
 returns-2 : tie.Need-returns-2
-unfolding usable
-returns-2 c = simp (← c .before .is-finite .ensures, c .if1 .left)
+returns-2 c = usable-below (c .before .before .args .denominator) (c .if2 .taken)
+
+returns-3 : tie.Need-returns-3
+returns-3 c = usable-none (c .before .before .args .denominator) (c .before .if1 .left) (c .if2 .left)
 
 pub is-usable-spec : {M : Type 1} → statement M
-is-usable-spec = tie.close (tie.spec is-finite-requires abs-requires returns returns-2)
+is-usable-spec = tie.close (tie.spec returns returns-2 returns-3)

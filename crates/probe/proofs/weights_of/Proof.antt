@@ -16,36 +16,36 @@ array-copy-out-c c = search needs
 weight-of-requires : tie.Need-weight-of-requires
 weight-of-requires c κs = search needs
 
-weight-of-requires-2 : tie.Need-weight-of-requires-2
-weight-of-requires-2 c κs = search needs
-
-weight-of-requires-3 : tie.Need-weight-of-requires-3
-weight-of-requires-3 c κs = search needs
-
 is-within-requires : tie.Need-is-within-requires
 is-within-requires c κs = search needs
 
+weight-of-requires-2 : tie.Need-weight-of-requires-2
+weight-of-requires-2 c κs = search needs
+
 is-within-requires-2 : tie.Need-is-within-requires-2
 is-within-requires-2 c κs = search needs
+
+weight-of-requires-3 : tie.Need-weight-of-requires-3
+weight-of-requires-3 c κs = search needs
 
 is-within-requires-3 : tie.Need-is-within-requires-3
 is-within-requires-3 c κs = search needs
 
 returns : tie.Need-returns
 unfolding weighedAt
-returns c = simp (← c .before .before .before .before .before .before .before .before .weight-of .ensures, ← c .before .before .before .before .before .before .before .weight-of2 .ensures, ← c .before .before .before .before .before .before .weight-of3 .ensures, ← c .before .before .before .before .before .is-within .ensures, ← c .before .before .before .is-within2 .ensures, ← c .before .is-within3 .ensures, c .before .before .before .before .if1 .taken, c .before .before .if2 .taken, c .if3 .taken)
+returns c = simp (← c .before .before .before .before .before .before .before .before .weight-of .ensures, ← c .before .before .before .before .before .weight-of2 .ensures, ← c .before .before .weight-of3 .ensures, ← c .before .before .before .before .before .before .before .is-within .ensures, ← c .before .before .before .before .is-within2 .ensures, ← c .before .is-within3 .ensures, c .before .before .before .before .before .before .if1 .taken, c .before .before .before .if2 .taken, c .if3 .taken)
 
 returns-2 : tie.Need-returns-2
 unfolding weighedAt
-returns-2 c = simp (← c .before .before .before .before .before .before .before .before .weight-of .ensures, ← c .before .before .before .before .before .before .before .weight-of2 .ensures, ← c .before .before .before .before .before .before .weight-of3 .ensures, ← c .before .before .before .before .before .is-within .ensures, ← c .before .before .before .is-within2 .ensures, ← c .before .is-within3 .ensures, c .before .before .before .before .if1 .taken, c .before .before .if2 .taken, c .if3 .left)
+returns-2 c = simp (← c .before .before .before .before .before .before .before .before .weight-of .ensures, ← c .before .before .before .before .before .weight-of2 .ensures, ← c .before .before .weight-of3 .ensures, ← c .before .before .before .before .before .before .before .is-within .ensures, ← c .before .before .before .before .is-within2 .ensures, ← c .before .is-within3 .ensures, c .before .before .before .before .before .before .if1 .taken, c .before .before .before .if2 .taken, c .if3 .left)
 
 returns-3 : tie.Need-returns-3
 unfolding weighedAt
-returns-3 c = simp (← c .before .before .before .before .before .before .weight-of .ensures, ← c .before .before .before .before .before .weight-of2 .ensures, ← c .before .before .before .before .weight-of3 .ensures, ← c .before .before .before .is-within .ensures, ← c .before .is-within2 .ensures, c .before .before .if1 .taken, c .if2 .left)
+returns-3 c = simp (← c .before .before .before .before .before .weight-of .ensures, ← c .before .before .weight-of2 .ensures, ← c .before .before .before .before .is-within .ensures, ← c .before .is-within2 .ensures, c .before .before .before .if1 .taken, c .if2 .left)
 
 returns-4 : tie.Need-returns-4
 unfolding weighedAt
-returns-4 c = simp (← c .before .before .before .before .weight-of .ensures, ← c .before .before .before .weight-of2 .ensures, ← c .before .before .weight-of3 .ensures, ← c .before .is-within .ensures, c .if1 .left)
+returns-4 c = simp (← c .before .before .weight-of .ensures, ← c .before .is-within .ensures, c .if1 .left)
 
 pub weights-of-spec : {M : Type 1} → statement M
 weights-of-spec =
@@ -55,10 +55,10 @@ weights-of-spec =
     array-copy-out-b
     array-copy-out-c
     weight-of-requires
-    weight-of-requires-2
-    weight-of-requires-3
     is-within-requires
+    weight-of-requires-2
     is-within-requires-2
+    weight-of-requires-3
     is-within-requires-3
     returns
     returns-2

@@ -4,6 +4,18 @@ use borrow.Author.Needs.{needs}
 use Rattle.root.proofs.root_at.Statement.{statement}
 use Rattle.root.proofs.root_at.Tie as tie
 
+mul-from-bits : tie.Need-mul-from-bits
+mul-from-bits c = search needs
+
+add-from-bits : tie.Need-add-from-bits
+add-from-bits c = search needs
+
+add-from-bits-2 : tie.Need-add-from-bits-2
+add-from-bits-2 c = search needs
+
+from-bits-requires : tie.Need-from-bits-requires
+from-bits-requires c κs = search needs
+
 aligned-requires : tie.Need-aligned-requires
 aligned-requires c κs = search needs
 
@@ -26,4 +38,14 @@ returns c = simp (c .before .aligned .ensures .0, c .root-nearest .ensures .0)
 pub root-at-spec : {M : Type 1} → statement M
 root-at-spec =
     tie.close
-    (tie.spec aligned-requires root-nearest-requires sub-result mul-result add-result returns)
+    (tie.spec
+    mul-from-bits
+    add-from-bits
+    add-from-bits-2
+    from-bits-requires
+    aligned-requires
+    root-nearest-requires
+    sub-result
+    mul-result
+    add-result
+    returns)

@@ -43,7 +43,7 @@ triangle-charge-requires c κs = search needs
 
 returns-4 : tie.Need-returns-4
 unfolding chargeOf
-returns-4 c = toZ-ofZ {w = w64} {z = c .triangle-charge .result} (record { sfits = c .triangle-charge .ok }) ∙ simp (lt-ltb _ _ (c .before .before .before .before .before .before .if1 .left), lt-ltb _ _ (c .before .before .before .before .before .if2 .left), lt-ltb _ _ (c .before .before .before .before .if3 .left), c .triangle-charge .ensures)
+returns-4 c = toZ-ofZ {w = w64} {z = c .triangle-charge .result} (record { sfits = c .triangle-charge .ok }) ∙ simp (lt-ltb _ _ (c .before .before .before .before .before .before .if1 .left), lt-ltb _ _ (c .before .before .before .before .before .if2 .left), lt-ltb _ _ (c .before .before .before .before .if3 .left), c .triangle-charge .ensures .0)
 
 pub charge-of-spec : {M : Type 1} → statement M
 charge-of-spec =

@@ -1,7 +1,9 @@
 -- `singularities::triangle_charge` meets its contract: each return opens the definition and rewrites it by the tests and the calls on its way.
 use mir.Facts.{toZ-ofZ}
 use mir.Syntax.{w64}
+use lib.IntN.{pos}
 use mathlib.Core.Path.{_∙_}
+use Rattle.singularities.proofs.Small.{charged}
 use Rattle.singularities.specs.Charge.{charge, turns}
 use borrow.Author.Needs.{needs}
 use Rattle.singularities.proofs.triangle_charge.Statement.{statement}
@@ -27,19 +29,19 @@ whole-signed-requires c κs = search needs
 
 returns : tie.Need-returns
 unfolding charge turns
-returns c = toZ-ofZ {w = w64} {z = c .whole-signed .result} (record { sfits = c .whole-signed .ok }) ∙ simp (← c .before .before .before .before .before .before .before .before .is-finite .ensures, ← c .before .before .before .before .before .before .is-finite2 .ensures, ← c .before .before .before .before .is-finite3 .ensures, c .before .before .before .before .before .before .before .if1 .taken, c .before .before .before .before .before .if2 .taken, c .before .before .before .if3 .taken, ← c .before .before .winding-of .ensures, ← c .before .round .ensures, c .whole-signed .ensures)
+returns c = charged (c .before .before .before .before .before .before .before .before .before .args .a) (c .before .before .before .before .before .before .before .before .before .args .b) (c .before .before .before .before .before .before .before .before .before .args .c) _ (toZ-ofZ {w = w64} {z = c .whole-signed .result} (record { sfits = c .whole-signed .ok }) ∙ simp (← c .before .before .before .before .before .before .before .before .is-finite .ensures, ← c .before .before .before .before .before .before .is-finite2 .ensures, ← c .before .before .before .before .is-finite3 .ensures, c .before .before .before .before .before .before .before .if1 .taken, c .before .before .before .before .before .if2 .taken, c .before .before .before .if3 .taken, ← c .before .before .winding-of .ensures, ← c .before .round .ensures, c .whole-signed .ensures))
 
 returns-2 : tie.Need-returns-2
 unfolding charge
-returns-2 c = simp (← c .before .before .before .before .before .is-finite .ensures, ← c .before .before .before .is-finite2 .ensures, ← c .before .is-finite3 .ensures, c .before .before .before .before .if1 .taken, c .before .before .if2 .taken, c .if3 .left)
+returns-2 c = charged (c .before .before .before .before .before .before .args .a) (c .before .before .before .before .before .before .args .b) (c .before .before .before .before .before .before .args .c) (pos 0) (simp (← c .before .before .before .before .before .is-finite .ensures, ← c .before .before .before .is-finite2 .ensures, ← c .before .is-finite3 .ensures, c .before .before .before .before .if1 .taken, c .before .before .if2 .taken, c .if3 .left))
 
 returns-3 : tie.Need-returns-3
 unfolding charge
-returns-3 c = simp (← c .before .before .before .is-finite .ensures, ← c .before .is-finite2 .ensures, c .before .before .if1 .taken, c .if2 .left)
+returns-3 c = charged (c .before .before .before .before .args .a) (c .before .before .before .before .args .b) (c .before .before .before .before .args .c) (pos 0) (simp (← c .before .before .before .is-finite .ensures, ← c .before .is-finite2 .ensures, c .before .before .if1 .taken, c .if2 .left))
 
 returns-4 : tie.Need-returns-4
 unfolding charge
-returns-4 c = simp (← c .before .is-finite .ensures, c .if1 .left)
+returns-4 c = charged (c .before .before .args .a) (c .before .before .args .b) (c .before .before .args .c) (pos 0) (simp (← c .before .is-finite .ensures, c .if1 .left))
 
 pub triangle-charge-spec : {M : Type 1} → statement M
 triangle-charge-spec =

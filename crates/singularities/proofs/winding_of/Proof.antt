@@ -15,7 +15,7 @@ wrap-to-pi-requires-3 c κs = search needs
 
 returns : tie.Need-returns
 unfolding winding
-returns c = simp (c .wrap-to-pi3 .ensures, c .before .wrap-to-pi2 .ensures, c .before .before .wrap-to-pi .ensures)
+returns c = simp (c .wrap-to-pi3 .ensures .0, c .before .wrap-to-pi2 .ensures .0, c .before .before .wrap-to-pi .ensures .0)
 
 pub winding-of-spec : {M : Type 1} → statement M
 winding-of-spec =

@@ -4,15 +4,12 @@ use borrow.Author.Needs.{needs}
 use Rattle.complex.proofs.Complex.from_angle.Statement.{statement}
 use Rattle.complex.proofs.Complex.from_angle.Tie as tie
 
-cos-requires : tie.Need-cos-requires
-cos-requires c κs = search needs
-
-sin-requires : tie.Need-sin-requires
-sin-requires c κs = search needs
+sin-cos-requires : tie.Need-sin-cos-requires
+sin-cos-requires c κs = search needs
 
 returns : tie.Need-returns
 unfolding fromAngle
-returns c = simp (c .before .cos .ensures, c .sin .ensures)
+returns c = simp (c .sin-cos .ensures)
 
 pub from-angle-spec : {M : Type 1} → statement M
-from-angle-spec = tie.close (tie.spec cos-requires sin-requires returns)
+from-angle-spec = tie.close (tie.spec sin-cos-requires returns)

@@ -14,10 +14,10 @@ enum-told : tie.Need-enum-told
 enum-told c = search needs
 
 returns : tie.Need-returns
-returns c = simp (← c .before .before .count-singularities .ensures, c .enum-told .given .1) (refl, refl, refl)
+returns c = simp (← c .before .before .count-singularities .ensures, c .enum-told .given .1) (record { number = refl; three-is = refl; five-is = refl })
 
 returns-2 : tie.Need-returns-2
-returns-2 c = simp (← c .before .before .before .count-singularities .ensures, c .before .answer .given .1) (refl, refl, refl)
+returns-2 c = simp (← c .before .before .before .count-singularities .ensures, c .before .answer .given .1) (record { number = refl; three-is = refl; five-is = refl })
 
 pub godf-count-singularities-spec : {M : Type 1} → statement M
 godf-count-singularities-spec =

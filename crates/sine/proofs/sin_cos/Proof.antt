@@ -1,0 +1,49 @@
+-- `sine::sin_cos` meets its contract: the arms of `sinOf` and `cosOf`, whose two switches are one. Assumes nothing.
+use borrow.Author.Tests.{le-leb, lt-leb}
+use Rattle.float.proofs.Facts.{zero-by-zero}
+use Rattle.sine.specs.Sine.{remPio2, sinOf, cosOf}
+use Rattle.sine.proofs.Quarters.{pair-switch}
+use borrow.Author.Needs.{needs}
+use Rattle.sine.proofs.sin_cos.Statement.{statement}
+use Rattle.sine.proofs.sin_cos.Tie as tie
+
+bits-requires : tie.Need-bits-requires
+bits-requires c κs = search needs
+
+kernel-sin-alone-requires : tie.Need-kernel-sin-alone-requires
+kernel-sin-alone-requires c κs = search needs
+
+kernel-cos-requires : tie.Need-kernel-cos-requires
+kernel-cos-requires c κs = search needs
+
+returns : tie.Need-returns
+unfolding sinOf cosOf
+returns c = simp (← c .before .before .before .bits .ensures, le-leb _ _ (c .before .before .if1 .taken), c .before .kernel-sin-alone .ensures, c .kernel-cos .ensures)
+
+abs-requires : tie.Need-abs-requires
+abs-requires c κs = search needs
+
+turn-by-requires : tie.Need-turn-by-requires
+turn-by-requires c κs = search needs
+
+returns-2 : tie.Need-returns-2
+unfolding sinOf cosOf
+returns-2 c =
+    simp (← c .before .before .before .before .bits .ensures, lt-leb _ _ (c .before .before .before .if1 .left), ← c .before .before .abs .ensures, c .before .if2 .taken, c .turn-by .ensures, pair-switch (remPio2 (c .before .before .before .before .before .args .x)))
+
+returns-3 : tie.Need-returns-3
+unfolding sinOf cosOf
+returns-3 c = simp (← c .before .before .before .bits .ensures, lt-leb _ _ (c .before .before .if1 .left), ← c .before .abs .ensures, c .if2 .left, zero-by-zero)
+
+pub sin-cos-spec : {M : Type 1} → statement M
+sin-cos-spec =
+    tie.close
+    (tie.spec
+    bits-requires
+    kernel-sin-alone-requires
+    kernel-cos-requires
+    returns
+    abs-requires
+    turn-by-requires
+    returns-2
+    returns-3)
