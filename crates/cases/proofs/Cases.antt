@@ -7,6 +7,7 @@ use Rattle.complex.specs.Complex.{argumentOf}
 use Rattle.complex.specs.Angle.{inRange, crossAngle, unwound, wrapToPi}
 use Rattle.geometry.specs.Edge.{alignmentWeight}
 use Rattle.mesh.specs.Mesh.{key, place, met, metAll, sidesAfter, marked, cuts, mid, refine}
+use Rattle.areas.specs.Area.{halfway}
 use Rattle.areas.specs.Points.{morePoints, midpoints}
 use Rattle.refinement.specs.Flag.{turnAlong, variation, flagged, flaggedTri}
 use Rattle.refinement.specs.Floor.{refinementOf}
@@ -16,7 +17,7 @@ use Rattle.root.specs.Root.{rootIn, rootBits, rootOf}
 use Rattle.cases.specs.Cases.{Cases, square, angles, ones, two, seven, refined}
 
 seven-points : refined 256 .points ≡ seven
-unfolding square angles ones two seven refinementOf flaggedTri flagged variation turnAlong marked cuts sidesAfter metAll met place key refine mid morePoints midpoints ofInt add sub mul div rem le lt ne mag ofBits
+unfolding square angles ones two seven refinementOf flaggedTri flagged variation turnAlong marked cuts sidesAfter metAll met place key refine mid morePoints midpoints halfway ofInt add sub mul div rem le lt ne mag ofBits
 seven-points = refl
 
 pub cases : Cases
