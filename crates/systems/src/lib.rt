@@ -28,7 +28,7 @@ pub fn soft_system(
     requires { ⌜ Graph mass (now from) (now to) ⌝ }
     ensures { λ _. ⌜ MakesSoft (now (work .entry)) (now (work .exit)) h mass l (now (from .entry)) (now (to .entry)) t ⌝ }
 {
-    cells::fill(work, l.residual, 2 * h.size, 0.0);
+    cells::fill(work, l.residual, 2 * h.size, 0.0); // no right-hand side but the soft terms'
     soft::soften(work, h, mass, l, from, to, t);
 }
 
