@@ -13,8 +13,8 @@ use Rattle.cells.proofs.Regions.{length-put, region-put, region-else}
 use Rattle.cells.proofs.Changes.{region-one}
 use Rattle.cells.proofs.Cells.{length-regionC}
 use Rattle.hermitian.specs.declared.Hermitian.{Hermitian}
-use Rattle.conjugate_gradient.specs.declared.Plan.{Plan}
-use Rattle.conjugate_gradient.specs.Work.{VectorRoom, Room}
+use Rattle.conjugate_gradient.specs.declared.Vectors.{Vectors}
+use Rattle.conjugate_gradient.specs.Work.{VectorRoom, SolverRoom}
 use Rattle.refusal.specs.declared.Stage.{Stage}
 use Rattle.refusal.specs.declared.Stage.the-variants.{Done}
 use Rattle.options.specs.Pass.{field, stageOf}
@@ -47,7 +47,7 @@ unfolding fields.stageOf
 stage-angles (angles a) = refl
 stage-angles endless = refl
 
-module _ (w : List Float) (n : ℕ) (l : Plan) (at : ℕ) (room : VectorRoom (length w) n l) (below : at + n ≤ l .x) {w₁ : List Float} {f : Found} {s : Stage} (a : solution.Answers w w₁ n l f s) where
+module _ (w : List Float) (n : ℕ) (l : Vectors) (at : ℕ) (room : VectorRoom (length w) n l) (below : at + n ≤ l .x) {w₁ : List Float} {f : Found} {s : Stage} (a : solution.Answers w w₁ n l f s) where
   stays : (j : ℕ) → j < at → getD w₁ j nan ≡ getD w j nan
   stays j k = region-one nan w w₁ j (framed-below w n l room (a .frame) j 1 (omega arith))
 
@@ -96,7 +96,7 @@ module _ (w : List Float) (n : ℕ) (l : Plan) (at : ℕ) (room : VectorRoom (le
 
 -- ---- a system's solution
 
-module _ (w : List Float) (h : Hermitian) (l : Plan) (at iterations : ℕ) (from to : List ℕ) (ok : Room (length w) h l × (at + h .size ≤ l .x)) {most : ℕ} (em : most ≡ linearMost (h .size) iterations)
+module _ (w : List Float) (h : Hermitian) (l : Vectors) (at iterations : ℕ) (from to : List ℕ) (ok : SolverRoom (length w) h l × (at + h .size ≤ l .x)) {most : ℕ} (em : most ≡ linearMost (h .size) iterations)
     {w₁ : List Float} {s : Stage} (a : solution.Solves w w₁ h l from to most s) where
   solved : solution.Solves w w₁ h l from to (linearMost (h .size) iterations) s
   solved = rw em at a
@@ -111,7 +111,7 @@ module _ (w : List Float) (h : Hermitian) (l : Plan) (at iterations : ℕ) (from
 
 -- ---- a system that was made, and its solution
 
-pub leaves-made : {w w₁ w₂ : List Float} {h : Hermitian} {l : Plan} {from to : List ℕ} {s : System} (at iterations : ℕ) {r : Stage} → at + h .size ≤ h .diagonal → at + h .size ≤ h .off
+pub leaves-made : {w w₁ w₂ : List Float} {h : Hermitian} {l : Vectors} {from to : List ℕ} {s : System} (at iterations : ℕ) {r : Stage} → at + h .size ≤ h .diagonal → at + h .size ≤ h .off
     → at + h .size ≤ l .x → Makes w w₁ h l from to s → LeavesLinear w₁ w₂ h l at iterations from to r → Leaves w w₂ at (h .size) (linear (h .size) iterations s) r
 leaves-made {w} {w₁} {w₂} {h} {l} {from} {to} {s} at iterations d o b m a =
     let c : Leaves w₁ w₂ at (h .size) (linear (h .size) iterations s) _ = rw (m .system) at a in

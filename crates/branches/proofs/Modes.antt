@@ -7,8 +7,8 @@ use native.Mathlib.Omega.{arith}
 use lib.Ieee.{Float, lt}
 use Rattle.float.specs.Double.{lit}
 use Rattle.hermitian.specs.declared.Hermitian.{Hermitian}
-use Rattle.conjugate_gradient.specs.declared.Plan.{Plan}
-use Rattle.conjugate_gradient.specs.Work.{Room}
+use Rattle.conjugate_gradient.specs.declared.Vectors.{Vectors}
+use Rattle.conjugate_gradient.specs.Work.{SolverRoom}
 use Rattle.inverse_iteration.specs.declared.Outer.{Outer}
 use Rattle.inverse_iteration.specs.Work.{PencilRoom, PlaneRoom}
 use Rattle.refusal.specs.declared.Stage.{Stage}
@@ -24,11 +24,11 @@ use Rattle.branches.proofs.Ends.{leaves-made}
 
 -- ---- room
 
-module _ {len : ℕ} (h mass : Hermitian) (l : Plan) (at : ℕ) (t : Terms) (o : Outer) (ok : BranchRoom len h mass l at t o) where
+module _ {len : ℕ} (h mass : Hermitian) (l : Vectors) (at : ℕ) (t : Terms) (o : Outer) (ok : BranchRoom len h mass l at t o) where
   below : at + h .size ≤ l .x
   below = omega (arith, ok .angles-below, ok .system-room .soft-room .h-room .diagonal-below)
 
-  pub solve-room : {len′ : ℕ} → len′ ≡ len → Room len′ h l × (at + h .size ≤ l .x)
+  pub solve-room : {len′ : ℕ} → len′ ≡ len → SolverRoom len′ h l × (at + h .size ≤ l .x)
   solve-room e = (rw e (ok .system-room .soft-room .h-room), below)
 
   pub vector-room : (PencilRoom len mass h l × PlaneRoom (h .size) l o) × (at + h .size ≤ l .x)

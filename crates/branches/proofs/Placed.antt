@@ -12,7 +12,7 @@ use Rattle.cells.proofs.Loops.{apart}
 use Rattle.cells.proofs.Regions.{length-region}
 use Rattle.cells.proofs.Changes.{part-region}
 use Rattle.hermitian.specs.declared.Hermitian.{Hermitian}
-use Rattle.conjugate_gradient.specs.declared.Plan.{Plan}
+use Rattle.conjugate_gradient.specs.declared.Vectors.{Vectors}
 use Rattle.constraints.specs.Constraints.{boundaryData}
 use Rattle.inverse_iteration.specs.Work.{Graphs}
 use Rattle.refusal.specs.declared.Stage.{Stage}
@@ -57,7 +57,7 @@ module _ (l : Layout) (m : ℕ) (o : Options) (s : Search) (w : List Float) (u :
       record { mass-graph = g; energy-graph = record { all-a = g .all-a; all-b = g .all-b; a-below = g .a-below; b-below = g .b-below; different = g .different } }
 
   module _ {h mass : Hermitian} (eh : h ≡ energyAt l m) (em : mass ≡ massAt l m) {t : Terms} (et : t ≡ termsAt l o s) where
-    pub by-requires : {v : Plan} → v ≡ vectorsAt l → (o .boundary ≡ Tangent → Bounds l w u)
+    pub by-requires : {v : Vectors} → v ≡ vectorsAt l → (o .boundary ≡ Tangent → Bounds l w u)
         → (BranchRoom (length w) h mass v (l .angles) t (outerAt l s) × TargetRoom (length w) h v (l .targets))
         × ((Graphs mass h (part u (l .from) m) (part u (l .to) m) × (length (part u (l .flags) (l .points)) ≡ h .size))
         × (o .boundary ≡ Tangent → boundaryData (part u (l .flags) (l .points)) (regionC w (l .targets) (h .size)) ≡ regionC w (l .targets) (h .size)))

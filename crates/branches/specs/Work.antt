@@ -11,7 +11,7 @@ use Rattle.cells.specs.Cell.{regionC}
 use Rattle.geometry.specs.Edge.{alignmentWeight}
 use Rattle.hermitian.specs.declared.Hermitian.{Hermitian}
 use Rattle.hermitian.specs.Work.{matrix}
-use Rattle.conjugate_gradient.specs.declared.Plan.{Plan}
+use Rattle.conjugate_gradient.specs.declared.Vectors.{Vectors}
 use Rattle.inverse_iteration.specs.declared.Outer.{Outer}
 use Rattle.inverse_iteration.specs.Inverse.{inverseOf}
 use Rattle.inverse_iteration.specs.Work.{PlaneRoom, startIn}
@@ -60,7 +60,7 @@ pub record Leaves (w w′ : List Float) (at n : ℕ) (p : Passed) (r : Stage) : 
 
 -- where the branches read and write, by the matrices and the solver's vectors: the angles and the guidance lie below the matrix at h, and the coordinates
 -- below the vectors
-pub record BranchRoom (len : ℕ) (h mass : Hermitian) (l : Plan) (at : ℕ) (t : Terms) (o : Outer) : Type 0 where
+pub record BranchRoom (len : ℕ) (h mass : Hermitian) (l : Vectors) (at : ℕ) (t : Terms) (o : Outer) : Type 0 where
   pub system-room : SystemRoom len h mass l t
   pub plane-room : PlaneRoom (h .size) l o
   pub angles-below : at + h .size ≤ h .diagonal
@@ -76,7 +76,7 @@ noneActs t = not (lt (lit 0) (t .alignment)) && not (t .guided && lt (lit 0) (t 
 
 -- ---- the branches' promises, over the matrices in the slice
 
-abbrev pub LeavesLinear : (w w′ : List Float) (h : Hermitian) (l : Plan) (at iterations : ℕ) (from to : List ℕ) → Stage → Type 0
+abbrev pub LeavesLinear : (w w′ : List Float) (h : Hermitian) (l : Vectors) (at iterations : ℕ) (from to : List ℕ) → Stage → Type 0
 LeavesLinear w w′ h l at iterations from to r = Leaves w w′ at (h .size) (linear (h .size) iterations (systemIn w h l from to)) r
 
 abbrev pub LeavesSoft : (w w′ : List Float) (h mass : Hermitian) (at : ℕ) (from to : List ℕ) (t : Terms) (o : Outer) → Stage → Type 0

@@ -3,7 +3,7 @@
 // and `from` and `to` the ends of the edges.
 use boundary::Listing;
 use boundary::Planes;
-use conjugate_gradient::Plan;
+use conjugate_gradient::Vectors;
 use hermitian::Hermitian;
 use inverse_iteration::Outer;
 use layout::Layout;
@@ -17,7 +17,7 @@ ghost use Prim.Native.Nat.{_+_, _≤_};
 ghost use lib.ListN.{length};
 ghost use Rattle.cells.specs.Cell.{regionC};
 ghost use Rattle.hermitian.specs.Work.{Graph};
-ghost use Rattle.conjugate_gradient.specs.Work.{Room};
+ghost use Rattle.conjugate_gradient.specs.Work.{SolverRoom};
 ghost use Rattle.inverse_iteration.specs.Work.{PencilRoom, PlaneRoom, Graphs};
 ghost use Rattle.constraints.specs.Constraints.{boundaryData};
 ghost use Rattle.systems.specs.Work.{TargetRoom};
@@ -37,17 +37,17 @@ pub struct Search {
     pub iterations: usize,
 }
 
-// The angles of the solution of the system of the matrix at h and the right-hand side in the plan's residual.
+// The angles of the solution of the system of the matrix at h and the right-hand side in the solver's residual.
 fn solve_system(
     w: &mut [f64],
     h: Hermitian,
-    l: Plan,
+    l: Vectors,
     angles: usize,
     iterations: usize,
     from: &[u32],
     to: &[u32],
 ) -> Stage
-    requires { ⌜ Room (length (now w)) h l × (angles + h .size ≤ l .x) ⌝ }
+    requires { ⌜ SolverRoom (length (now w)) h l × (angles + h .size ≤ l .x) ⌝ }
     requires { ⌜ Graph h (now from) (now to) ⌝ }
     ensures { λ r. ⌜ LeavesLinear (now (w .entry)) (now (w .exit)) h l angles iterations (now (from .entry)) (now (to .entry)) r ⌝ }
 {
@@ -64,7 +64,7 @@ fn soft_field(
     w: &mut [f64],
     h: Hermitian,
     mass: Hermitian,
-    l: Plan,
+    l: Vectors,
     angles: usize,
     t: Terms,
     o: Outer,
@@ -84,7 +84,7 @@ fn weak_field(
     w: &mut [f64],
     h: Hermitian,
     mass: Hermitian,
-    l: Plan,
+    l: Vectors,
     targets: usize,
     angles: usize,
     weight: f64,
@@ -107,7 +107,7 @@ fn tangent_field(
     w: &mut [f64],
     h: Hermitian,
     mass: Hermitian,
-    l: Plan,
+    l: Vectors,
     targets: usize,
     angles: usize,
     t: Terms,
@@ -130,7 +130,7 @@ fn vector_field(
     w: &mut [f64],
     h: Hermitian,
     mass: Hermitian,
-    l: Plan,
+    l: Vectors,
     angles: usize,
     o: Outer,
     from: &[u32],
@@ -165,7 +165,7 @@ fn free_field(
     w: &mut [f64],
     h: Hermitian,
     mass: Hermitian,
-    l: Plan,
+    l: Vectors,
     angles: usize,
     t: Terms,
     o: Outer,
@@ -188,7 +188,7 @@ fn field_by(
     w: &mut [f64],
     h: Hermitian,
     mass: Hermitian,
-    l: Plan,
+    l: Vectors,
     targets: usize,
     angles: usize,
     t: Terms,

@@ -38,7 +38,7 @@ module _ {ℓ} {S : Type ℓ} where
   unfolding iter
   iter-none step s = refl
 
-  -- a loop's turn
+  -- a loop's iteration
   pub iter-more : (step : ℕ → S → S) (i : ℕ) (s : S) → iter step (i + 1) s ≡ step i (iter step i s)
   unfolding iter
   iter-more step i s = rw (add-one, iter)

@@ -1,4 +1,4 @@
--- A loop that goes over a list once from the front: turn i changes element i alone, from what stood there. Assumes nothing.
+-- A loop that goes over a list once from the front: iteration i changes element i alone, from what stood there. Assumes nothing.
 use mathlib.Core.Path.{_≡_, refl, sym, ap, _∙_}
 use mathlib.Core.Logic.{⊎-elim}
 use mathlib.Core.List.{List}
@@ -37,7 +37,7 @@ module _ {ℓ} {A : Type ℓ} (f : ℕ → A → A) (d : A) where
   length-over zero v = rw over-none
   length-over (suc i) v = rw (over-suc, length-set) (length-over i v)
 
-  -- what turn j has yet to change, and what it changed
+  -- what iteration j has yet to change, and what it changed
   pub over-todo : (i : ℕ) (v : List A) (j : ℕ) → i ≤ j → getD (over i v) j d ≡ getD v j d
   over-todo zero v j l = rw over-none
   over-todo (suc i) v j l = rw (over-suc, getD-set-other (over i v) i j (f i (getD (over i v) i d)) d (λ e. omega arith)) (over-todo i v j (omega arith))
@@ -59,7 +59,7 @@ module _ {ℓ} {A : Type ℓ} (f : ℕ → A → A) (d : A) where
       let m : i < n = omega (arith, length-over n v) in
       over-done n v i m (omega arith) ∙ sym (getD-tab _ n i d m))
 
-  -- turn i of such a loop over a region
+  -- iteration i of such a loop over a region
   pub over-region : (w : List A) (b : ℕ) (v : List A) {n : ℕ} → length v ≡ n → b + n ≤ length w → (i : ℕ) → i < n
       → set (put w b (over i v)) (b + i) (f i (getD (put w b (over i v)) (b + i) d)) ≡ put w b (over (i + 1) v)
   over-region w b v {n} e h i l =

@@ -1,4 +1,4 @@
--- The turns of the loops that fill, copy and zero. Assumes nothing.
+-- The iterations of the loops that fill, copy and zero. Assumes nothing.
 use mathlib.Core.Path.{_≡_, refl, sym, ap, _∙_}
 use mathlib.Core.List.{List}
 use Prim.Native.Nat.{ℕ, _+_, _≤_, _<_}
@@ -14,7 +14,7 @@ use Rattle.cells.proofs.Over.{over, over-none, length-over, over-all, o
 -- ---- f i is stored at b + i, for each i below n
 
 module _ {ℓ} {A : Type ℓ} (d : A) (w : List A) (b n : ℕ) (f : ℕ → A) where
-  -- the region after i turns
+  -- the region after i iterations
   unfoldable pub writeTo : ℕ → List A
   writeTo i = over (λ j z. f j) d i (region d w b n)
 

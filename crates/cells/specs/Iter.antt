@@ -1,4 +1,4 @@
--- `iter step n s`: n turns of `step`, each told its number, from s. Loops are defined by it.
+-- `iter step n s`: n iterations of `step`, each told its number, from s. Loops are defined by it.
 use Prim.Native.Nat.{ℕ, zero, suc}
 
 module _ {ℓ} {S : Type ℓ} where

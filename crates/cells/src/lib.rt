@@ -56,7 +56,7 @@ pub fn fill(work: &mut [f64], base: usize, n: usize, value: f64)
     }
 }
 
-fn copy_turn(work: &mut [f64], to: usize, from: usize, i: usize)
+fn copy_at(work: &mut [f64], to: usize, from: usize, i: usize)
     requires { ⌜ (to + i < length (now work)) × (from + i < length (now work)) ⌝ }
     ensures { λ _. ⌜ now (work .exit) ≡ set (now (work .entry)) (to + i) (getD (now (work .entry)) (from + i) nan) ⌝ }
 {
@@ -70,7 +70,7 @@ pub fn copy(work: &mut [f64], to: usize, from: usize, n: usize)
     ensures { λ _. ⌜ now (work .exit) ≡ put (now (work .entry)) to (region nan (now (work .entry)) from n) ⌝ }
 {
     for i in 0..n {
-        copy_turn(work, to, from, i);
+        copy_at(work, to, from, i);
     }
 }
 

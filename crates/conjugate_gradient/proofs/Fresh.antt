@@ -13,10 +13,10 @@ use Rattle.complex.specs.declared.Complex.{Complex}
 use Rattle.hermitian.specs.Hermitian.{Matrix, normOf}
 use Rattle.conjugate_gradient.specs.declared.Answer.{Answer}
 use Rattle.conjugate_gradient.specs.declared.Answer.the-variants.{Iterate, GaveUp}
-use Rattle.conjugate_gradient.specs.Solve.{State, Outcome, firstNotPositive, preconditioned, residualDot, begun, multiplied, turned, run, started, solved}
+use Rattle.conjugate_gradient.specs.Solve.{State, Outcome, firstNotPositive, preconditioned, residualDot, begun, multiplied, iterationOf, run, started, solved}
 use Rattle.conjugate_gradient.specs.Found.{vector, answered, foundIn, fresh}
 use Rattle.conjugate_gradient.proofs.Lays.{Sized}
-use Rattle.conjugate_gradient.proofs.Turns.{begun-sized}
+use Rattle.conjugate_gradient.proofs.Iterations.{begun-sized}
 use Rattle.conjugate_gradient.proofs.Runs.{run-sized}
 
 -- one test, two outcomes that find the same in each case
@@ -25,7 +25,7 @@ either true o o′ q q′ e f = e
 either false o o′ q q′ e f = f
 
 module _ (m : Matrix) (tolerance : Float) (k : ℕ) (s : State) where
-  -- before the first turn the two differ in q alone, and a turn begins by writing it
+  -- before the first iteration the two differ in q alone, and an iteration begins by writing it
   abbrev old : State
   old = begun (m .diagonal) s
 
@@ -33,7 +33,7 @@ module _ (m : Matrix) (tolerance : Float) (k : ℕ) (s : State) where
   new = begun (m .diagonal) (fresh (s .r))
 
   runs : (k : ℕ) (limit dot : Float) → foundIn (run m limit k 0 dot old) ≡ foundIn (run m limit k 0 dot new)
-  unfolding run turned multiplied begun answered
+  unfolding run iterationOf multiplied begun answered
   runs zero limit dot = refl
   runs (suc k) limit dot = refl
 

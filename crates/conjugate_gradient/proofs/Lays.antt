@@ -14,9 +14,9 @@ use Rattle.cells.proofs.Cells.{length-flat, length-regionC, flat-regionC, regio
 use Rattle.cells.proofs.Rows.{laid-rows, laid-below, laid-at, laid-set, laid-laid, length-laid}
 use Rattle.hermitian.specs.declared.Hermitian.{Hermitian}
 use Rattle.hermitian.specs.Work.{matrix}
-use Rattle.conjugate_gradient.specs.declared.Plan.{Plan}
+use Rattle.conjugate_gradient.specs.declared.Vectors.{Vectors}
 use Rattle.conjugate_gradient.specs.Solve.{State}
-use Rattle.conjugate_gradient.specs.Work.{bases, vectors, read, lay, VectorRoom, Room}
+use Rattle.conjugate_gradient.specs.Work.{bases, vectors, read, lay, VectorRoom, SolverRoom}
 
 -- every vector has n elements
 pub record Sized (n : ℕ) (s : State) : Type 0 where
@@ -26,11 +26,11 @@ pub record Sized (n : ℕ) (s : State) : Type 0 where
   pub q-n : length (s .q) ≡ n
   pub inverse-n : length (s .inverse) ≡ n
 
-rowed : (n : ℕ) (l : Plan) (s : State) → Sized n s → Rowed (bases n l) (vectors s)
+rowed : (n : ℕ) (l : Vectors) (s : State) → Sized n s → Rowed (bases n l) (vectors s)
 rowed n l s z =
     (length-flat (s .x) (z .x-n), (length-flat (s .r) (z .r-n), (length-flat (s .p) (z .p-n), (length-flat (s .q) (z .q-n), (z .inverse-n, tt)))))
 
-pub read-sized : (w : List Float) (n : ℕ) (l : Plan) → Sized n (read w n l)
+pub read-sized : (w : List Float) (n : ℕ) (l : Vectors) → Sized n (read w n l)
 unfolding read
 read-sized w n l = record {
   x-n = length-regionC w (l .x) n;
@@ -40,16 +40,16 @@ read-sized w n l = record {
   inverse-n = length-region nan w (l .inverse) n;
 }
 
-pub lay-read : (w : List Float) (n : ℕ) (l : Plan) → w ≡ lay w n l (read w n l)
+pub lay-read : (w : List Float) (n : ℕ) (l : Vectors) → w ≡ lay w n l (read w n l)
 unfolding lay read rows
 lay-read w n l =
     sym (rw (flat-regionC w (l .x) n, flat-regionC w (l .residual) n, flat-regionC w (l .direction) n, flat-regionC w (l .applied) n) (laid-rows nan w (bases n l)))
 
-pub length-lay : (w : List Float) (n : ℕ) (l : Plan) (s : State) → length (lay w n l s) ≡ length w
+pub length-lay : (w : List Float) (n : ℕ) (l : Vectors) (s : State) → length (lay w n l s) ≡ length w
 unfolding lay
 length-lay w n l s = length-laid nan w (bases n l) (vectors s)
 
-module _ (w : List Float) (n : ℕ) (l : Plan) (ok : VectorRoom (length w) n l) (s : State) (z : Sized n s) where
+module _ (w : List Float) (n : ℕ) (l : Vectors) (ok : VectorRoom (length w) n l) (s : State) (z : Sized n s) where
   get : (j : ℕ) → j < 5 → region nan (laid w (bases n l) (vectors s)) (getD (bases n l) j (row 0 0) .base) (getD (bases n l) j (row 0 0) .size) ≡ getD (vectors s) j []
   get j h = laid-at nan w (l .x) (bases n l) (vectors s) (ok .vectors-in) (rowed n l s z) j h
 
@@ -118,7 +118,7 @@ module _ (w : List Float) (n : ℕ) (l : Plan) (ok : VectorRoom (length w) n l) 
       e₂ ∙ rw e₁ (laid-laid nan w (l .x) (length w) (bases n l) (vectors s) (vectors t) (ok .vectors-in) (rowed n l s z) (rowed n l t y))
 
 -- the matrix lies below
-pub get-matrix : (w : List Float) (h : Hermitian) (l : Plan) → Room (length w) h l → (s : State) → Sized (h .size) s → (from to : List ℕ)
+pub get-matrix : (w : List Float) (h : Hermitian) (l : Vectors) → SolverRoom (length w) h l → (s : State) → Sized (h .size) s → (from to : List ℕ)
     → matrix (lay w (h .size) l s) h from to ≡ matrix w h from to
 unfolding matrix
 get-matrix w h l ok s z from to =
@@ -130,5 +130,5 @@ get-matrix w h l ok s z from to =
     λ k. record { diagonal = d k; off = o k; edgeA = from; edgeB = to }
 
 -- a slice as long has the same room
-pub same-room : {len len′ : ℕ} → len′ ≡ len → (h : Hermitian) (l : Plan) → Room len h l → Room len′ h l
+pub same-room : {len len′ : ℕ} → len′ ≡ len → (h : Hermitian) (l : Vectors) → SolverRoom len h l → SolverRoom len′ h l
 same-room e h l ok = rw e ok

@@ -1,7 +1,7 @@
 pub mod Tests
 pub mod Lays
 pub mod Passes
-pub mod Turns
+pub mod Iterations
 pub mod Runs
 pub mod Mass
 pub mod Lengths

@@ -15,7 +15,7 @@ use Rattle.vectors.specs.Vectors.{zipOf, addScaled}
 use Rattle.vectors.proofs.Zip.{length-zipOf}
 use Rattle.residual.specs.Work.{Reduced}
 use Rattle.residual.proofs.Residuals.{length-productsOf}
-use Rattle.conjugate_gradient.specs.declared.Plan.{Plan}
+use Rattle.conjugate_gradient.specs.declared.Vectors.{Vectors}
 use Rattle.conjugate_gradient.specs.Solve.{State, preconditioned, residualDot, reduced, advanced, directed}
 use Rattle.conjugate_gradient.specs.Work.{read, lay, VectorRoom, Updated}
 use Rattle.conjugate_gradient.proofs.Lays.{Sized, read-sized, lay-read, put-x, put-r, put-p, put-q}
@@ -40,7 +40,7 @@ pub directed-sized : (n : ℕ) (beta : Float) (s : State) → Sized n s → Size
 unfolding directed preconditioned
 directed-sized n beta s z = record { x-n = z .x-n; r-n = z .r-n; p-n = rw (length-zipOf, length-scaled) (z .r-n); q-n = z .q-n; inverse-n = z .inverse-n }
 
-module _ (w : List Float) (n : ℕ) (l : Plan) (ok : VectorRoom (length w) n l) where
+module _ (w : List Float) (n : ℕ) (l : Vectors) (ok : VectorRoom (length w) n l) where
   abbrev s : State
   s = read w n l
 

@@ -1,4 +1,4 @@
--- The loop of turns, and the whole method. Assumes nothing.
+-- The loop of iterations, and the whole method. Assumes nothing.
 use mathlib.Core.Path.{_≡_, refl, sym, ap, _∙_}
 use mathlib.Core.Bool.{Bool, true, false}
 use mathlib.Core.List.{List}
@@ -16,35 +16,35 @@ use Rattle.cells.proofs.Regions.{length-region}
 use Rattle.hermitian.specs.declared.Hermitian.{Hermitian}
 use Rattle.hermitian.specs.Hermitian.{Matrix, normOf}
 use Rattle.hermitian.specs.Work.{matrix}
-use Rattle.conjugate_gradient.specs.declared.Plan.{Plan}
-use Rattle.conjugate_gradient.specs.declared.Turned.{Turned}
-use Rattle.conjugate_gradient.specs.declared.Turned.the-variants.{Going, Converged, Broken}
+use Rattle.conjugate_gradient.specs.declared.Vectors.{Vectors}
+use Rattle.conjugate_gradient.specs.declared.Progress.{Progress}
+use Rattle.conjugate_gradient.specs.declared.Progress.the-variants.{Going, Converged, Broken}
 use Rattle.conjugate_gradient.specs.declared.Reason.the-variants.{RightHandNorm, Diagonal, FirstResidual, CountSpent}
 use Rattle.conjugate_gradient.specs.declared.Answer.{Answer}
 use Rattle.conjugate_gradient.specs.declared.Answer.the-variants.{GaveUp}
-use Rattle.conjugate_gradient.specs.Solve.{State, Outcome, firstNotPositive, begun, residualDot, turned, answerOf, after, run, started, solved}
-use Rattle.conjugate_gradient.specs.Work.{read, lay, Room, Begun, Ended, Solved}
+use Rattle.conjugate_gradient.specs.Solve.{State, Outcome, firstNotPositive, begun, residualDot, iterationOf, answerOf, after, run, started, solved}
+use Rattle.conjugate_gradient.specs.Work.{read, lay, SolverRoom, Begun, Ended, Solved}
 use Rattle.conjugate_gradient.proofs.Lays.{Sized, read-sized, lay-read, get-all, get-matrix, lay-then}
-use Rattle.conjugate_gradient.proofs.Turns.{begun-sized, turned-sized}
+use Rattle.conjugate_gradient.proofs.Iterations.{begun-sized, iteration-sized}
 
 -- ---- the loop
 
-after-going : {t : Turned} (next : Float) (s : State) (count : ℕ) (f : Float → State → Outcome) → t ≡ Going next → after t s count f ≡ f next s
+after-going : {t : Progress} (next : Float) (s : State) (count : ℕ) (f : Float → State → Outcome) → t ≡ Going next → after t s count f ≡ f next s
 unfolding after
 after-going next s count f e = rw e
 
-after-ended : (t : Turned) (s : State) (count : ℕ) (f : Float → State → Outcome) → ((next : Float) → t ≡ Going next → ⊥)
+after-ended : (t : Progress) (s : State) (count : ℕ) (f : Float → State → Outcome) → ((next : Float) → t ≡ Going next → ⊥)
     → after t s count f ≡ record { answer = answerOf t count; state = s }
 unfolding after
 after-ended Converged s count f h = refl
 after-ended (Broken r) s count f h = refl
 after-ended (Going next) s count f h = absurd (h next refl)
 
-module _ (w : List Float) (h : Hermitian) (l : Plan) (from to : List ℕ) (limit first : Float) (most : ℕ) where
+module _ (w : List Float) (h : Hermitian) (l : Vectors) (from to : List ℕ) (limit first : Float) (most : ℕ) where
   abbrev pub whole : Outcome
   whole = run (matrix w h from to) limit most 0 first (read w (h .size) l)
 
-  -- after i turns the method has the same outcome from here
+  -- after i iterations the method has the same outcome from here
   pub record RunAt (w₁ : List Float) (i : ℕ) (dot : Float) : Type 0 where
     pub frame : w₁ ≡ lay w (h .size) l (read w₁ (h .size) l)
     pub same : whole ≡ run (matrix w h from to) limit (most - i) i dot (read w₁ (h .size) l)
@@ -56,31 +56,31 @@ module _ (w : List Float) (h : Hermitian) (l : Plan) (from to : List ℕ) (limit
       left most = omega arith
 
   more : (k i : ℕ) (dot : Float) (s : State) → run (matrix w h from to) limit (suc k) i dot s
-      ≡ after (turned (matrix w h from to) limit dot s .result) (turned (matrix w h from to) limit dot s .state) (suc i) (run (matrix w h from to) limit k (suc i))
+      ≡ after (iterationOf (matrix w h from to) limit dot s .result) (iterationOf (matrix w h from to) limit dot s .state) (suc i) (run (matrix w h from to) limit k (suc i))
   unfolding run
   more k i dot s = refl
 
-  module _ (ok : Room (length w) h l) (i : ℕ) (less : i < most) {w₁ w₂ : List Float} {dot : Float} (a : RunAt w₁ i dot)
-      {t : Turned} (e : Ended w₁ w₂ (h .size) l (turned (matrix w₁ h from to) limit dot (read w₁ (h .size) l)) t) where
+  module _ (ok : SolverRoom (length w) h l) (i : ℕ) (less : i < most) {w₁ w₂ : List Float} {dot : Float} (a : RunAt w₁ i dot)
+      {t : Progress} (e : Ended w₁ w₂ (h .size) l (iterationOf (matrix w₁ h from to) limit dot (read w₁ (h .size) l)) t) where
     abbrev before : State
     before = read w₁ (h .size) l
 
     abbrev then : State
-    then = turned (matrix w h from to) limit dot before .state
+    then = iterationOf (matrix w h from to) limit dot before .state
 
     same-matrix : matrix w₁ h from to ≡ matrix w h from to
     same-matrix = ap (λ v. matrix v h from to) (a .frame) ∙ get-matrix w h l ok before (read-sized w₁ (h .size) l) from to
 
     then-sized : Sized (h .size) then
-    then-sized = turned-sized (h .size) (matrix w h from to) limit dot before (read-sized w₁ (h .size) l)
+    then-sized = iteration-sized (h .size) (matrix w h from to) limit dot before (read-sized w₁ (h .size) l)
 
-    result-is : t ≡ turned (matrix w h from to) limit dot before .result
-    result-is = e .result ∙ ap (λ m. turned m limit dot before .result) same-matrix
+    result-is : t ≡ iterationOf (matrix w h from to) limit dot before .result
+    result-is = e .result ∙ ap (λ m. iterationOf m limit dot before .result) same-matrix
 
     work-is : w₂ ≡ lay w (h .size) l then
     work-is =
         lay-then w (h .size) l (ok .vector-room) before (read-sized w₁ (h .size) l) then then-sized (a .frame)
-        (e .work ∙ ap (λ m. lay w₁ (h .size) l (turned m limit dot before .state)) same-matrix)
+        (e .work ∙ ap (λ m. lay w₁ (h .size) l (iterationOf m limit dot before .state)) same-matrix)
 
     read-is : read w₂ (h .size) l ≡ then
     read-is = ap (λ v. read v (h .size) l) work-is ∙ get-all w (h .size) l (ok .vector-room) then then-sized
@@ -124,7 +124,7 @@ module _ (w : List Float) (h : Hermitian) (l : Plan) (from to : List ℕ) (limit
 
 -- ---- the whole method
 
-after-sized : (n : ℕ) (t : Turned) (s : State) (count : ℕ) (f : Float → State → Outcome) → Sized n s → ((dot : Float) (s : State) → Sized n s → Sized n (f dot s .state))
+after-sized : (n : ℕ) (t : Progress) (s : State) (count : ℕ) (f : Float → State → Outcome) → Sized n s → ((dot : Float) (s : State) → Sized n s → Sized n (f dot s .state))
     → Sized n (after t s count f .state)
 unfolding after
 after-sized n Converged s count f z g = z
@@ -135,9 +135,9 @@ pub run-sized : (n : ℕ) (m : Matrix) (limit : Float) (k i : ℕ) (dot : Float)
 unfolding run
 run-sized n m limit zero i dot s z = z
 run-sized n m limit (suc k) i dot s z =
-    after-sized n _ _ (suc i) (run m limit k (suc i)) (turned-sized n m limit dot s z) (λ d t y. run-sized n m limit k (suc i) d t y)
+    after-sized n _ _ (suc i) (run m limit k (suc i)) (iteration-sized n m limit dot s z) (λ d t y. run-sized n m limit k (suc i) d t y)
 
-module _ (w : List Float) (h : Hermitian) (l : Plan) (from to : List ℕ) (tolerance : Float) (most : ℕ)
+module _ (w : List Float) (h : Hermitian) (l : Vectors) (from to : List ℕ) (tolerance : Float) (most : ℕ)
     {nm : Float} (en : nm ≡ normOf (regionC w (l .residual) (h .size))) {b : Bool} (eb : b ≡ notPositive nm) where
   abbrev pub answer : Outcome
   answer = solved (matrix w h from to) tolerance most (read w (h .size) l)
@@ -165,7 +165,7 @@ module _ (w : List Float) (h : Hermitian) (l : Plan) (from to : List ℕ) (toler
         let q : ltb (firstNotPositive d) (length d) ≡ true = lt-ltb (firstNotPositive d) (length d) (rw (← ev, length-diagonal) less) in
         rw (fit, q) (record { work = lay-read w (h .size) l; result = ap (λ i. GaveUp (Diagonal i)) ev })
 
-    module _ (ok : Room (length w) h l) (g : h .size ≤ v) {w₁ : List Float} {f : Float} (s : Begun w w₁ h l f) {c : Bool} (ec : c ≡ notPositive f) where
+    module _ (ok : SolverRoom (length w) h l) (g : h .size ≤ v) {w₁ : List Float} {f : Float} (s : Begun w w₁ h l f) {c : Bool} (ec : c ≡ notPositive f) where
       abbrev vectors : State
       vectors = begun (region nan w (h .diagonal) (h .size)) (read w (h .size) l)
 

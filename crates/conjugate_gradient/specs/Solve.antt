@@ -18,8 +18,8 @@ use Rattle.conjugate_gradient.specs.declared.Answer.{Answer}
 use Rattle.conjugate_gradient.specs.declared.Answer.the-variants.{Iterate, GaveUp}
 use Rattle.conjugate_gradient.specs.declared.Normalized.{Normalized}
 use Rattle.conjugate_gradient.specs.declared.Normalized.the-variants as normalized
-use Rattle.conjugate_gradient.specs.declared.Turned.{Turned}
-use Rattle.conjugate_gradient.specs.declared.Turned.the-variants.{Going, Converged, Broken}
+use Rattle.conjugate_gradient.specs.declared.Progress.{Progress}
+use Rattle.conjugate_gradient.specs.declared.Progress.the-variants.{Going, Converged, Broken}
 
 -- the first index whose value is not positive, or the length where there is none
 unfoldable pub firstNotPositive : List Float → ℕ
@@ -42,7 +42,7 @@ preconditioned s = scaled (s .inverse) (s .r)
 unfoldable pub residualDot : State → Float
 residualDot s = dotOf (preconditioned s) (s .r) .re
 
--- before the first turn. The residual is the right-hand side, which stands there already
+-- before the first iteration. The residual is the right-hand side, which stands there already
 unfoldable pub begun : List Float → State → State
 begun diagonal s = record {
   x = replicate (length (s .r)) czero;
@@ -52,7 +52,7 @@ begun diagonal s = record {
   inverse = recipsOf diagonal;
 }
 
--- ---- a turn
+-- ---- an iteration
 
 -- q = the matrix times p
 unfoldable pub multiplied : Matrix → State → State
@@ -79,29 +79,29 @@ advanced alpha s = record { x = zipOf (addScaled alpha) (s .x) (s .p); r = s .r;
 unfoldable pub directed : Float → State → State
 directed beta s = record { x = s .x; r = s .r; p = zipOf (addScaled beta) (preconditioned s) (s .p); q = s .q; inverse = s .inverse }
 
--- a turn ends with the next residual dot, or convergence, or a reason; and with the vectors
-pub record Turn : Type 0 where
-  pub result : Turned
+-- an iteration ends with the next residual dot, or convergence, or a reason; and with the vectors
+pub record Iteration : Type 0 where
+  pub result : Progress
   pub state : State
 
-abbrev pub turn : Turned → State → Turn
-turn t s = record { result = t; state = s }
+abbrev pub iteration : Progress → State → Iteration
+iteration t s = record { result = t; state = s }
 
 -- after the step by alpha, s being the vectors after it
-unfoldable pub judged : Float → Float → State → Turn
+unfoldable pub judged : Float → Float → State → Iteration
 judged limit dot s =
-    cond (le (normOf (s .r)) limit) (turn Converged s)
-    (cond (notPositive (residualDot s)) (turn (Broken LostDefiniteness) s)
-    (turn (Going (residualDot s)) (directed (residualDot s ⊘ dot) s)))
+    cond (le (normOf (s .r)) limit) (iteration Converged s)
+    (cond (notPositive (residualDot s)) (iteration (Broken LostDefiniteness) s)
+    (iteration (Going (residualDot s)) (directed (residualDot s ⊘ dot) s)))
 
 -- after the product, s having it
-unfoldable pub stepped : Float → Float → State → Turn
+unfoldable pub stepped : Float → Float → State → Iteration
 stepped limit dot s =
-    cond (notPositive (denominator s)) (turn (Broken Denominator) s)
+    cond (notPositive (denominator s)) (iteration (Broken Denominator) s)
     (judged limit dot (advanced (dot ⊘ denominator s) (reduced (dot ⊘ denominator s) s)))
 
-unfoldable pub turned : Matrix → Float → Float → State → Turn
-turned m limit dot s = stepped limit dot (multiplied m s)
+unfoldable pub iterationOf : Matrix → Float → Float → State → Iteration
+iterationOf m limit dot s = stepped limit dot (multiplied m s)
 
 -- ---- the method
 
@@ -112,24 +112,24 @@ pub record Outcome : Type 0 where
 abbrev pub outcome : Answer → State → Outcome
 outcome a s = record { answer = a; state = s }
 
--- what the method answers where it ends with a turn, the count-th
-unfoldable pub answerOf : Turned → ℕ → Answer
+-- what the method answers where it ends with an iteration, the count-th
+unfoldable pub answerOf : Progress → ℕ → Answer
 answerOf Converged count = Iterate count
 answerOf (Broken r) count = GaveUp r
 answerOf (Going dot) count = GaveUp CountSpent
 
--- it goes on by f where the turn says so
-unfoldable pub after : Turned → State → ℕ → (Float → State → Outcome) → Outcome
+-- it goes on by f where the iteration says so
+unfoldable pub after : Progress → State → ℕ → (Float → State → Outcome) → Outcome
 after Converged s count f = outcome (answerOf Converged count) s
 after (Broken r) s count f = outcome (answerOf (Broken r) count) s
 after (Going dot) s count f = f dot s
 
--- at most k turns more, after i turns
+-- at most k iterations more, after i iterations
 unfoldable pub run : Matrix → Float → ℕ → ℕ → Float → State → Outcome
 run m limit zero i dot s = outcome (GaveUp CountSpent) s
-run m limit (suc k) i dot s = after (turned m limit dot s .result) (turned m limit dot s .state) (suc i) (run m limit k (suc i))
+run m limit (suc k) i dot s = after (iterationOf m limit dot s .result) (iterationOf m limit dot s .state) (suc i) (run m limit k (suc i))
 
--- the first residual dot is tested, and then at most k turns are made
+-- the first residual dot is tested, and then at most k iterations are made
 unfoldable pub started : Matrix → Float → ℕ → State → Outcome
 started m limit k s = cond (notPositive (residualDot s)) (outcome (GaveUp FirstResidual) s) (run m limit k 0 (residualDot s) s)
 

@@ -11,8 +11,8 @@ ghost use Rattle.float.specs.Double.{lit, maxOf};
 ghost use Rattle.root.specs.Root.{rootOf};
 ghost use Rattle.cells.specs.Region.{region};
 ghost use Rattle.hermitian.specs.Work.{matrix, Graph, ApplyRoom};
-ghost use Rattle.conjugate_gradient.specs.Solve.{firstNotPositive, reduced, advanced, directed, judged, turned, answerOf, run, solved};
-ghost use Rattle.conjugate_gradient.specs.Work.{read, lay, VectorRoom, Room, Begun, Multiplied, Updated, Ended, Solved, InMass};
+ghost use Rattle.conjugate_gradient.specs.Solve.{firstNotPositive, reduced, advanced, directed, judged, iterationOf, answerOf, run, solved};
+ghost use Rattle.conjugate_gradient.specs.Work.{read, lay, VectorRoom, SolverRoom, Begun, Multiplied, Updated, Ended, Solved, InMass};
 
 // Why the solver gave up: number 24's reasons 3 to 9, in their order.
 pub enum Reason {
@@ -38,7 +38,7 @@ pub enum Normalized {
 }
 
 // Where each vector begins. On entry the residual's region holds the right-hand side.
-pub struct Plan {
+pub struct Vectors {
     pub x: usize,
     pub residual: usize,
     pub direction: usize,
@@ -46,8 +46,8 @@ pub struct Plan {
     pub inverse: usize,
 }
 
-// How a turn ends: with the next residual dot, with convergence, or by a breakdown.
-enum Turned {
+// How an iteration ends: with the next residual dot, with convergence, or by a breakdown.
+enum Progress {
     Going(f64),
     Converged,
     Broken(Reason),
@@ -66,8 +66,8 @@ fn first_not_positive(work: &[f64], d: usize, n: usize) -> usize
     n
 }
 
-fn begin(work: &mut [f64], h: Hermitian, l: Plan) -> f64
-    requires { ⌜ Room (length (now work)) h l ⌝ }
+fn begin(work: &mut [f64], h: Hermitian, l: Vectors) -> f64
+    requires { ⌜ SolverRoom (length (now work)) h l ⌝ }
     ensures { λ r. ⌜ Begun (now (work .entry)) (now (work .exit)) h l r ⌝ }
 {
     vectors::invert(work, l.inverse, h.diagonal, h.size);
@@ -77,8 +77,8 @@ fn begin(work: &mut [f64], h: Hermitian, l: Plan) -> f64
 }
 
 // applied = the matrix times the direction, and the direction's product with it.
-fn multiply(work: &mut [f64], h: Hermitian, l: Plan, from: &[u32], to: &[u32]) -> f64
-    requires { ⌜ Room (length (now work)) h l ⌝ }
+fn multiply(work: &mut [f64], h: Hermitian, l: Vectors, from: &[u32], to: &[u32]) -> f64
+    requires { ⌜ SolverRoom (length (now work)) h l ⌝ }
     requires { ⌜ Graph h (now from) (now to) ⌝ }
     ensures { λ r. ⌜ Multiplied (now (work .entry)) (now (work .exit)) h l (now (from .entry)) (now (to .entry)) r ⌝ }
 {
@@ -87,7 +87,7 @@ fn multiply(work: &mut [f64], h: Hermitian, l: Plan, from: &[u32], to: &[u32]) -
 }
 
 // residual = residual - applied * alpha, with both sums. Their terms are left where the matrix times the direction stood.
-fn update(work: &mut [f64], n: usize, l: Plan, alpha: f64) -> Sums
+fn update(work: &mut [f64], n: usize, l: Vectors, alpha: f64) -> Sums
     requires { ⌜ VectorRoom (length (now work)) n l ⌝ }
     ensures { λ r. ⌜ Updated (now (work .entry)) (now (work .exit)) n l alpha r ⌝ }
 {
@@ -95,7 +95,7 @@ fn update(work: &mut [f64], n: usize, l: Plan, alpha: f64) -> Sums
 }
 
 // x = x + direction * alpha.
-fn advance(work: &mut [f64], n: usize, l: Plan, alpha: f64)
+fn advance(work: &mut [f64], n: usize, l: Vectors, alpha: f64)
     requires { ⌜ VectorRoom (length (now work)) n l ⌝ }
     ensures { λ _. ⌜ now (work .exit) ≡ lay (now (work .entry)) n l (advanced alpha (read (now (work .entry)) n l)) ⌝ }
 {
@@ -103,7 +103,7 @@ fn advance(work: &mut [f64], n: usize, l: Plan, alpha: f64)
 }
 
 // x = x + direction * alpha and direction = preconditioned residual + direction * beta, in one pass.
-fn direct(work: &mut [f64], n: usize, l: Plan, alpha: f64, beta: f64)
+fn direct(work: &mut [f64], n: usize, l: Vectors, alpha: f64, beta: f64)
     requires { ⌜ VectorRoom (length (now work)) n l ⌝ }
     ensures { λ _. ⌜ now (work .exit) ≡ lay (now (work .entry)) n l (directed beta (advanced alpha (read (now (work .entry)) n l))) ⌝ }
 {
@@ -126,75 +126,75 @@ fn norm(square: f64) -> f64
     root::sqrt(float::max(square, 0.0))
 }
 
-// A turn after its product, by the step alpha. `dot` is the residual dot before it.
-fn step(work: &mut [f64], n: usize, l: Plan, alpha: f64, dot: f64, limit: f64) -> Turned
+// An iteration after its product, by the step alpha. `dot` is the residual dot before it.
+fn step(work: &mut [f64], n: usize, l: Vectors, alpha: f64, dot: f64, limit: f64) -> Progress
     requires { ⌜ VectorRoom (length (now work)) n l ⌝ }
     ensures { λ r. ⌜ Ended (now (work .entry)) (now (work .exit)) n l (judged limit dot (advanced alpha (reduced alpha (read (now (work .entry)) n l)))) r ⌝ }
 {
     let sums = update(work, n, l, alpha);
     if norm(sums.square) <= limit {
         advance(work, n, l, alpha);
-        return Turned::Converged;
+        return Progress::Converged;
     }
     if float::not_positive(sums.next) {
         advance(work, n, l, alpha);
-        return Turned::Broken(Reason::LostDefiniteness);
+        return Progress::Broken(Reason::LostDefiniteness);
     }
     direct(work, n, l, alpha, sums.next / dot);
-    Turned::Going(sums.next)
+    Progress::Going(sums.next)
 }
 
-fn turn(
+fn iterate_once(
     work: &mut [f64],
     h: Hermitian,
-    l: Plan,
+    l: Vectors,
     from: &[u32],
     to: &[u32],
     limit: f64,
     dot: f64,
-) -> Turned
-    requires { ⌜ Room (length (now work)) h l ⌝ }
+) -> Progress
+    requires { ⌜ SolverRoom (length (now work)) h l ⌝ }
     requires { ⌜ Graph h (now from) (now to) ⌝ }
     ensures { λ r. ⌜ Ended (now (work .entry)) (now (work .exit)) (h .size) l
-        (turned (matrix (now (work .entry)) h (now (from .entry)) (now (to .entry))) limit dot (read (now (work .entry)) (h .size) l)) r ⌝ }
+        (iterationOf (matrix (now (work .entry)) h (now (from .entry)) (now (to .entry))) limit dot (read (now (work .entry)) (h .size) l)) r ⌝ }
 {
     let denominator = multiply(work, h, l, from, to);
     if float::not_positive(denominator) {
-        return Turned::Broken(Reason::Denominator);
+        return Progress::Broken(Reason::Denominator);
     }
     step(work, h.size, l, dot / denominator, dot, limit)
 }
 
-// The answer where the method ends with this turn, the count-th.
-fn answer_of(t: Turned, count: usize) -> Answer
+// The answer where the method ends with this iteration, the count-th.
+fn answer_of(t: Progress, count: usize) -> Answer
     ensures { λ r. ⌜ r ≡ answerOf t count ⌝ }
 {
     match t {
-        Turned::Converged => Answer::Iterate(count),
-        Turned::Broken(reason) => Answer::GaveUp(reason),
-        Turned::Going(_) => Answer::GaveUp(Reason::CountSpent),
+        Progress::Converged => Answer::Iterate(count),
+        Progress::Broken(reason) => Answer::GaveUp(reason),
+        Progress::Going(_) => Answer::GaveUp(Reason::CountSpent),
     }
 }
 
 fn iterate(
     work: &mut [f64],
     h: Hermitian,
-    l: Plan,
+    l: Vectors,
     from: &[u32],
     to: &[u32],
     limit: f64,
     first: f64,
     most: usize,
 ) -> Answer
-    requires { ⌜ Room (length (now work)) h l ⌝ }
+    requires { ⌜ SolverRoom (length (now work)) h l ⌝ }
     requires { ⌜ Graph h (now from) (now to) ⌝ }
     ensures { λ r. ⌜ Solved (now (work .entry)) (now (work .exit)) (h .size) l
         (run (matrix (now (work .entry)) h (now (from .entry)) (now (to .entry))) limit most 0 first (read (now (work .entry)) (h .size) l)) r ⌝ }
 {
     let mut dot = first;
     for i in 0..most {
-        let t = turn(work, h, l, from, to, limit, dot);
-        let Turned::Going(next) = t else {
+        let t = iterate_once(work, h, l, from, to, limit, dot);
+        let Progress::Going(next) = t else {
             return answer_of(t, i + 1);
         };
         dot = next;
@@ -206,13 +206,13 @@ fn iterate(
 pub fn conjugate_gradient(
     work: &mut [f64],
     h: Hermitian,
-    l: Plan,
+    l: Vectors,
     from: &[u32],
     to: &[u32],
     tolerance: f64,
     most: usize,
 ) -> Answer
-    requires { ⌜ Room (length (now work)) h l ⌝ }
+    requires { ⌜ SolverRoom (length (now work)) h l ⌝ }
     requires { ⌜ Graph h (now from) (now to) ⌝ }
     ensures { λ r. ⌜ Solved (now (work .entry)) (now (work .exit)) (h .size) l
         (solved (matrix (now (work .entry)) h (now (from .entry)) (now (to .entry))) tolerance most (read (now (work .entry)) (h .size) l)) r ⌝ }

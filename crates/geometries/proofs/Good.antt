@@ -34,8 +34,8 @@ good-given X Y n (tri i j k) t b h =
 pub good-kept : (X Y : ℕ → Float) (n : ℕ) (s : Tri) (t : ℕ) → Cornered n s → isDegenerate (geometryOn X Y s t) ≡ false → Good n (cornersOf (geometryOn X Y s t))
 good-kept X Y n (tri i j k) t b h =
     let g : Good n (tri i j k) = good-given X Y n (tri i j k) t b h in
-    let turned : Good n (tri i k j) = (g .0, g .2, g .1, λ e. g .5 (sym e), λ e. g .4 (sym e), λ e. g .3 (sym e)) in
-    ⊎-elim (λ e. subst (Good n) (sym e) g) (λ e. subst (Good n) (sym e) turned) (kept-corners X Y i j k t h)
+    let swapped : Good n (tri i k j) = (g .0, g .2, g .1, λ e. g .5 (sym e), λ e. g .4 (sym e), λ e. g .3 (sym e)) in
+    ⊎-elim (λ e. subst (Good n) (sym e) g) (λ e. subst (Good n) (sym e) swapped) (kept-corners X Y i j k t h)
 
 -- ---- lists of triangles
 
@@ -87,10 +87,10 @@ module _ (X Y : ℕ → Float) (n t : ℕ) (ts : ℕ → Tri) (cornered : (i : �
   good-at i h = good-given X Y n (ts i) i (cornered i (omega (arith, first-most X Y ts t))) (sound-before X Y ts t i h)
 
   -- counter-clockwise
-  pub good-turned : (i : ℕ) → i < firstDegenerate X Y ts t → Good n (cornersOf (geometryOn X Y (ts i) i))
-  good-turned i h = good-kept X Y n (ts i) i (cornered i (omega (arith, first-most X Y ts t))) (sound-before X Y ts t i h)
+  pub good-swapped : (i : ℕ) → i < firstDegenerate X Y ts t → Good n (cornersOf (geometryOn X Y (ts i) i))
+  good-swapped i h = good-kept X Y n (ts i) i (cornered i (omega (arith, first-most X Y ts t))) (sound-before X Y ts t i h)
 
   -- as kept, in a slice in which the kept numbers stand from v on
   pub good-wound : (v r : ℕ) (u : List ℕ) → r ≡ firstDegenerate X Y ts t → ((j : ℕ) → j < 3 * r → getD u (v + j) 0 ≡ getD (woundUpTo X Y ts r) j 0) → All (Good n) (trisFrom v u r)
   good-wound v r u e h =
-      all-from (Good n) v u r (λ i g. subst (Good n) (sym (kept-tri X Y ts r (λ i g. sound-before X Y ts t i (omega arith)) v u h i g)) (good-turned i (omega arith)))
+      all-from (Good n) v u r (λ i g. subst (Good n) (sym (kept-tri X Y ts r (λ i g. sound-before X Y ts t i (omega arith)) v u h i g)) (good-swapped i (omega arith)))

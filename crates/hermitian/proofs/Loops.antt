@@ -1,4 +1,4 @@
--- The turns of the loops that sum and that scale, over lists. Assumes nothing.
+-- The iterations of the loops that sum and that scale, over lists. Assumes nothing.
 use mathlib.Core.Path.{_≡_, refl, sym, ap, _∙_}
 use mathlib.Core.List.{List}
 use Prim.Native.Nat.{ℕ, _+_, _*_, _≤_, _<_}
@@ -93,7 +93,7 @@ module _ (w : List Float) (y x d n : ℕ) where
   unfolding scaleTo
   scale-none = rw (over-none, putC-regionC)
 
-  -- w₁ is the work slice before a turn and w₂ after it
+  -- w₁ is the work slice before an iteration and w₂ after it
   pub scale-again : ScaleRoom (length w) d x y n → (i : ℕ) → i < n → {w₁ w₂ : List Float}
       → w₁ ≡ putC w y (scaleTo i) → w₂ ≡ setC w₁ y n i (cscale (getC w₁ x n i) (getD w₁ (d + i) nan)) → w₂ ≡ putC w y (scaleTo (i + 1))
   unfolding scaleTo scaleAt

@@ -1,4 +1,4 @@
--- The turns of the loop over the edges, and the product of a matrix and a vector, over lists. Assumes nothing.
+-- The iterations of the loop over the edges, and the product of a matrix and a vector, over lists. Assumes nothing.
 use mathlib.Core.Path.{_≡_, refl, sym, ap, _∙_}
 use mathlib.Core.List.{List}
 use Prim.Native.Nat.{ℕ, _+_, _*_, _≤_, _<_}
@@ -33,7 +33,7 @@ pub length-applied : (m : Matrix) (x : List Complex) → length (applied m x) �
 unfolding applied
 length-applied m x = rw (length-edged, length-scaled)
 
--- ---- an edge's turn
+-- ---- an edge's iteration
 
 -- where y's region is v
 putC-edge : (w : List Float) (y x off m n : ℕ) (v : List Complex) → length v ≡ n → y + 2 * n ≤ length w → Apart y (2 * n) off (2 * m) → Apart y (2 * n) x (2 * n)

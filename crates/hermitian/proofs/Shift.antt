@@ -1,4 +1,4 @@
--- The turns of the loops of `shifted` and `trace`, and what they make of a matrix. Assumes nothing.
+-- The iterations of the loops of `shifted` and `trace`, and what they make of a matrix. Assumes nothing.
 use mathlib.Core.Path.{_≡_, refl, sym, ap, _∙_}
 use mathlib.Core.List.{List}
 use Prim.Native.Nat.{ℕ, _+_, _*_, _≤_, _<_}

@@ -1,4 +1,4 @@
--- How a work slice holds a matrix, what the functions require of it, and the turns of their loops on the flat list.
+-- How a work slice holds a matrix, what the functions require of it, and the iterations of their loops on the flat list.
 use mathlib.Core.Path.{_≡_}
 use mathlib.Core.List.{List}
 use Prim.Native.Nat.{ℕ, _+_, _*_, _≤_, _<_}
@@ -72,7 +72,7 @@ pub record ShiftRoom (len : ℕ) (h mass : Hermitian) : Type 0 where
   pub diagonal-off : Apart (h .diagonal) (h .size) (h .off) (2 * h .edges)
   pub diagonal-mass : Apart (h .diagonal) (h .size) (mass .off) (2 * h .edges)
 
--- where one edge's turn reads and writes
+-- where one edge's iteration reads and writes
 pub record EdgeIn (len y x off n m e a b : ℕ) : Type 0 where
   pub e-in : e < m
   pub a-in : a < n
@@ -83,7 +83,7 @@ pub record EdgeIn (len y x off n m e a b : ℕ) : Type 0 where
   pub ya-in : y + n + a < len
   pub yb-in : y + n + b < len
 
--- ---- turns
+-- ---- iterations
 
 -- the real part of conj u * v
 unfoldable pub reTerm : Complex → Complex → Float

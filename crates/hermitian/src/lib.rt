@@ -25,7 +25,7 @@ pub struct Hermitian {
     pub off: usize,
 }
 
-fn dot_turn(work: &[f64], a: usize, b: usize, n: usize, i: usize, sum: Complex) -> Complex
+fn dot_at(work: &[f64], a: usize, b: usize, n: usize, i: usize, sum: Complex) -> Complex
     requires { ⌜ (i < n) × (a + n + i < length (now work)) × (b + n + i < length (now work)) ⌝ }
     ensures { λ r. ⌜ r ≡ cadd sum (cmul (cconj (getC (now (work .entry)) a n i)) (getC (now (work .entry)) b n i)) ⌝ }
 {
@@ -39,12 +39,12 @@ pub fn dot(work: &[f64], a: usize, b: usize, n: usize) -> Complex
 {
     let mut sum = Complex::new(0.0, 0.0);
     for i in 0..n {
-        sum = dot_turn(work, a, b, n, i, sum);
+        sum = dot_at(work, a, b, n, i, sum);
     }
     sum
 }
 
-fn dot_re_turn(work: &[f64], a: usize, b: usize, n: usize, i: usize, sum: f64) -> f64
+fn dot_re_at(work: &[f64], a: usize, b: usize, n: usize, i: usize, sum: f64) -> f64
     requires { ⌜ (i < n) × (a + n + i < length (now work)) × (b + n + i < length (now work)) ⌝ }
     ensures { λ r. ⌜ r ≡ sum ⊕ reTerm (getC (now (work .entry)) a n i) (getC (now (work .entry)) b n i) ⌝ }
 {
@@ -60,7 +60,7 @@ pub fn dot_re(work: &[f64], a: usize, b: usize, n: usize) -> f64
 {
     let mut sum = 0.0;
     for i in 0..n {
-        sum = dot_re_turn(work, a, b, n, i, sum);
+        sum = dot_re_at(work, a, b, n, i, sum);
     }
     sum
 }
@@ -72,7 +72,7 @@ pub fn euclidean_norm(work: &[f64], a: usize, n: usize) -> f64
     root::sqrt(float::max(dot_re(work, a, a, n), 0.0))
 }
 
-fn scale_turn(work: &mut [f64], y: usize, x: usize, diagonal: usize, n: usize, i: usize)
+fn scale_at(work: &mut [f64], y: usize, x: usize, diagonal: usize, n: usize, i: usize)
     requires { ⌜ (i < n) × (y + n + i < length (now work)) × (x + n + i < length (now work)) × (diagonal + i < length (now work)) ⌝ }
     ensures { λ _. ⌜ now (work .exit) ≡ setC (now (work .entry)) y n i (cscale (getC (now (work .entry)) x n i) (getD (now (work .entry)) (diagonal + i) nan)) ⌝ }
 {
@@ -87,7 +87,7 @@ pub fn scale(work: &mut [f64], y: usize, x: usize, diagonal: usize, n: usize)
     ensures { λ _. ⌜ now (work .exit) ≡ putC (now (work .entry)) y (scaled (region nan (now (work .entry)) diagonal n) (regionC (now (work .entry)) x n)) ⌝ }
 {
     for i in 0..n {
-        scale_turn(work, y, x, diagonal, n, i);
+        scale_at(work, y, x, diagonal, n, i);
     }
 }
 
@@ -127,7 +127,7 @@ fn edge_ends(
 }
 
 // Edge e of m, whose ends are a and b. Both sums are made before either is stored: a and b differ.
-fn edge_turn(
+fn edge_one(
     work: &mut [f64],
     y: usize,
     x: usize,
@@ -157,7 +157,7 @@ fn edge_at(work: &mut [f64], y: usize, x: usize, h: Hermitian, e: usize, from: &
     requires { ⌜ EdgeIn (length (now work)) y x (h .off) (h .size) (h .edges) e (getD (now from) e 0) (getD (now to) e 0) ⌝ }
     ensures { λ _. ⌜ now (work .exit) ≡ edgeC (now (work .entry)) y x (h .off) (h .size) (h .edges) e (getD (now (from .entry)) e 0) (getD (now (to .entry)) e 0) ⌝ }
 {
-    edge_turn(
+    edge_one(
         work,
         y,
         x,
@@ -170,7 +170,7 @@ fn edge_at(work: &mut [f64], y: usize, x: usize, h: Hermitian, e: usize, from: &
     );
 }
 
-// Every edge in turn: y[a] = y[a] + off * x[b], then y[b] = y[b] + conj(off) * x[a].
+// Every edge in order: y[a] = y[a] + off * x[b], then y[b] = y[b] + conj(off) * x[a].
 fn edges(work: &mut [f64], y: usize, x: usize, h: Hermitian, from: &[u32], to: &[u32])
     requires { ⌜ EdgesRoom (length (now work)) (h .off) x y (h .size) (h .edges) ⌝ }
     requires { ⌜ Graph h (now from) (now to) ⌝ }
@@ -192,7 +192,7 @@ pub fn apply(work: &mut [f64], y: usize, x: usize, h: Hermitian, from: &[u32], t
     edges(work, y, x, h, from, to);
 }
 
-fn shift_real_turn(work: &mut [f64], y: usize, x: usize, shift: f64, i: usize)
+fn shift_real_at(work: &mut [f64], y: usize, x: usize, shift: f64, i: usize)
     requires { ⌜ (y + i < length (now work)) × (x + i < length (now work)) ⌝ }
     ensures { λ _. ⌜ now (work .exit) ≡ set (now (work .entry)) (y + i) (getD (now (work .entry)) (y + i) nan ⊕ shift ⊗ getD (now (work .entry)) (x + i) nan) ⌝ }
 {
@@ -205,11 +205,11 @@ fn shift_diagonal(work: &mut [f64], y: usize, x: usize, n: usize, shift: f64)
     ensures { λ _. ⌜ now (work .exit) ≡ put (now (work .entry)) y (shiftedDiagonal shift (region nan (now (work .entry)) x n) (region nan (now (work .entry)) y n)) ⌝ }
 {
     for i in 0..n {
-        shift_real_turn(work, y, x, shift, i);
+        shift_real_at(work, y, x, shift, i);
     }
 }
 
-fn shift_turn(work: &mut [f64], y: usize, x: usize, n: usize, shift: f64, i: usize)
+fn shift_at(work: &mut [f64], y: usize, x: usize, n: usize, shift: f64, i: usize)
     requires { ⌜ (i < n) × (y + n + i < length (now work)) × (x + n + i < length (now work)) ⌝ }
     ensures { λ _. ⌜ now (work .exit) ≡ setC (now (work .entry)) y n i (cadd (getC (now (work .entry)) y n i) (cscale (getC (now (work .entry)) x n i) shift)) ⌝ }
 {
@@ -222,7 +222,7 @@ fn shift_off(work: &mut [f64], y: usize, x: usize, n: usize, shift: f64)
     ensures { λ _. ⌜ now (work .exit) ≡ putC (now (work .entry)) y (shiftedOff shift (regionC (now (work .entry)) x n) (regionC (now (work .entry)) y n)) ⌝ }
 {
     for i in 0..n {
-        shift_turn(work, y, x, n, shift, i);
+        shift_at(work, y, x, n, shift, i);
     }
 }
 
@@ -235,7 +235,7 @@ pub fn shifted(work: &mut [f64], h: Hermitian, shift: f64, mass: Hermitian)
     shift_off(work, h.off, mass.off, h.edges, shift);
 }
 
-fn trace_turn(work: &[f64], diagonal: usize, i: usize, sum: f64) -> f64
+fn trace_at(work: &[f64], diagonal: usize, i: usize, sum: f64) -> f64
     requires { ⌜ diagonal + i < length (now work) ⌝ }
     ensures { λ r. ⌜ r ≡ sum ⊕ getD (now (work .entry)) (diagonal + i) nan ⌝ }
 {
@@ -249,7 +249,7 @@ pub fn trace(work: &[f64], diagonal: usize, n: usize) -> f64
 {
     let mut sum = -0.0;
     for i in 0..n {
-        sum = trace_turn(work, diagonal, i, sum);
+        sum = trace_at(work, diagonal, i, sum);
     }
     sum
 }

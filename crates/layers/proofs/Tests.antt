@@ -14,14 +14,14 @@ use lib.Ieee.{Float}
 use Rattle.cells.proofs.Loops.{apart}
 use Rattle.hermitian.specs.declared.Hermitian.{Hermitian}
 use Rattle.hermitian.specs.Work.{matrix, Graph, ApplyRoom}
-use Rattle.conjugate_gradient.specs.declared.Plan.{Plan}
+use Rattle.conjugate_gradient.specs.declared.Vectors.{Vectors}
 use Rattle.conjugate_gradient.specs.declared.Answer.{Answer}
 use Rattle.conjugate_gradient.specs.declared.Normalized.{Normalized}
 use Rattle.conjugate_gradient.specs.Solve.{Outcome, solved}
-use Rattle.conjugate_gradient.specs.Work.{read, lay, Room, Solved, InMass}
+use Rattle.conjugate_gradient.specs.Work.{read, lay, SolverRoom, Solved, InMass}
 use Rattle.layers.specs.declared.Checked.{Checked}
 use Rattle.layers.specs.declared.Checked.the-variants as checked
-use Rattle.layers.specs.Checked.{allTo, edgeGood, edgeAt, good, matrixFor, planFor, outcome, solvedWork, solvedAnswer, SolveChecked, SolveTold, normalWork, normalAnswer, NormalChecked}
+use Rattle.layers.specs.Checked.{allTo, edgeGood, edgeAt, good, matrixFor, vectorsFor, outcome, solvedWork, solvedAnswer, SolveChecked, SolveTold, normalWork, normalAnswer, NormalChecked}
 
 and-false : (a : Bool) → a && false ≡ false
 and-false true = refl
@@ -110,8 +110,8 @@ module _ (n : ℕ) (from to : List ℕ) where
   abbrev h : Hermitian
   h = matrixFor n (length from)
 
-  abbrev l : Plan
-  l = planFor n (length from)
+  abbrev l : Vectors
+  l = vectorsFor n (length from)
 
   module _ (len : ℕ) (g : good len n from to ≡ true) where
     parts : (leb (10 * n + 2 * length from) len ≡ true) × (eqb (length to) (length from) ≡ true) × (allTo (edgeAt n from to) (length from) ≡ true)
@@ -127,12 +127,12 @@ module _ (n : ℕ) (from to : List ℕ) where
     paired : length to ≡ length from
     paired = borrow.Author.Tests.eqb-true (length to) (length from) (parts .1)
 
-    pub room : Room len h l
-    unfolding matrixFor planFor
+    pub room : SolverRoom len h l
+    unfolding matrixFor vectorsFor
     room = omega (arith, fits)
 
     pub apply-room : ApplyRoom len h (l .x) (l .direction)
-    unfolding matrixFor planFor
+    unfolding matrixFor vectorsFor
     apply-room = omega (arith, apart, fits)
 
     edge : (k : ℕ) → k < length from → (getD from k 0 < n) × (getD to k 0 < n) × (eqb (getD from k 0) (getD to k 0) ≡ false)
@@ -162,7 +162,7 @@ module _ (w : List Float) (n : ℕ) (from to : List ℕ) (tolerance : Float) (mo
   unfolding solvedWork solvedAnswer
   solve-refused t = record { work = rw (sym e ∙ t); result = rw (sym e ∙ t) }
 
-  pub solve-solved : b ≡ true → {h : Hermitian} {l : Plan} {w₁ : List Float} {a : Answer} → h ≡ matrixFor n (length from) → l ≡ planFor n (length from)
+  pub solve-solved : b ≡ true → {h : Hermitian} {l : Vectors} {w₁ : List Float} {a : Answer} → h ≡ matrixFor n (length from) → l ≡ vectorsFor n (length from)
       → Solved w w₁ (h .size) l (solved (matrix w h from to) tolerance most (read w (h .size) l)) a
       → SolveChecked w w₁ n from to tolerance most (checked.Solved a)
   unfolding solvedWork solvedAnswer outcome matrixFor
@@ -172,7 +172,7 @@ module _ (w : List Float) (n : ℕ) (from to : List ℕ) (tolerance : Float) (mo
   unfolding solvedWork
   told-refused t = record { work = rw (sym e ∙ t); result = sym t ∙ e }
 
-  pub told-solved : b ≡ true → {h : Hermitian} {l : Plan} {w₁ : List Float} {a : Answer} → h ≡ matrixFor n (length from) → l ≡ planFor n (length from)
+  pub told-solved : b ≡ true → {h : Hermitian} {l : Vectors} {w₁ : List Float} {a : Answer} → h ≡ matrixFor n (length from) → l ≡ vectorsFor n (length from)
       → Solved w w₁ (h .size) l (solved (matrix w h from to) tolerance most (read w (h .size) l)) a
       → SolveTold w w₁ n from to tolerance most true
   unfolding solvedWork outcome matrixFor
@@ -182,7 +182,7 @@ module _ (w : List Float) (n : ℕ) (from to : List ℕ) (tolerance : Float) (mo
   unfolding normalWork normalAnswer
   normalize-refused t = record { work = rw (sym e ∙ t); result = rw (sym e ∙ t) }
 
-  pub normalize-normal : b ≡ true → {h : Hermitian} {l : Plan} {w₁ : List Float} {a : Normalized} → h ≡ matrixFor n (length from) → l ≡ planFor n (length from)
+  pub normalize-normal : b ≡ true → {h : Hermitian} {l : Vectors} {w₁ : List Float} {a : Normalized} → h ≡ matrixFor n (length from) → l ≡ vectorsFor n (length from)
       → InMass w w₁ (l .x) (l .direction) (h .size) (matrix w h from to) a
       → NormalChecked w w₁ n from to (checked.Normal a)
   unfolding normalWork normalAnswer matrixFor
@@ -193,8 +193,8 @@ module _ (len n : ℕ) (from to : List ℕ) {b : Bool} (e : b ≡ good len n fro
   pub small : 10 * n + 2 * length from ≤ len
   small = fits n from to len (sym e ∙ t)
 
-  pub solve-needs : {h : Hermitian} {l : Plan} → h ≡ matrixFor n (length from) → l ≡ planFor n (length from) → Room len h l × Graph h from to
+  pub solve-needs : {h : Hermitian} {l : Vectors} → h ≡ matrixFor n (length from) → l ≡ vectorsFor n (length from) → SolverRoom len h l × Graph h from to
   solve-needs eh el = (rw (eh, el) (room n from to len (sym e ∙ t)), rw eh (graph n from to len (sym e ∙ t)))
 
-  pub normalize-needs : {h : Hermitian} {l : Plan} → h ≡ matrixFor n (length from) → l ≡ planFor n (length from) → ApplyRoom len h (l .x) (l .direction) × Graph h from to
+  pub normalize-needs : {h : Hermitian} {l : Vectors} → h ≡ matrixFor n (length from) → l ≡ vectorsFor n (length from) → ApplyRoom len h (l .x) (l .direction) × Graph h from to
   normalize-needs eh el = (rw (eh, el) (apply-room n from to len (sym e ∙ t)), rw eh (graph n from to len (sym e ∙ t)))

@@ -10,7 +10,7 @@ use Rattle.cells.specs.Cell.{regionC, putC}
 use Rattle.hermitian.specs.declared.Hermitian.{Hermitian}
 use Rattle.hermitian.specs.Hermitian.{Matrix, applied}
 use Rattle.hermitian.specs.Work.{matrix}
-use Rattle.conjugate_gradient.specs.declared.Plan.{Plan}
+use Rattle.conjugate_gradient.specs.declared.Vectors.{Vectors}
 use Rattle.conjugate_gradient.specs.Solve.{Outcome, solved, massOf, normalizedAnswer, normalizedVector}
 use Rattle.conjugate_gradient.specs.Work.{read, lay}
 use Rattle.layers.specs.declared.Checked.{Checked}
@@ -36,8 +36,8 @@ good len n from to = leb (10 * n + 2 * length from) len && (eqb (length to) (len
 unfoldable pub matrixFor : ℕ → ℕ → Hermitian
 matrixFor n m = record { size = n; edges = m; diagonal = 0; off = n }
 
-unfoldable pub planFor : ℕ → ℕ → Plan
-planFor n m = record {
+unfoldable pub vectorsFor : ℕ → ℕ → Vectors
+vectorsFor n m = record {
   x = n + 2 * m;
   residual = n + 2 * m + 2 * n;
   direction = n + 2 * m + 2 * n + 2 * n;
@@ -47,10 +47,10 @@ planFor n m = record {
 
 unfoldable pub outcome : List Float → ℕ → List ℕ → List ℕ → Float → ℕ → Outcome
 outcome w n from to tolerance most =
-    solved (matrix w (matrixFor n (length from)) from to) tolerance most (read w n (planFor n (length from)))
+    solved (matrix w (matrixFor n (length from)) from to) tolerance most (read w n (vectorsFor n (length from)))
 
 unfoldable pub solvedWork : Bool → List Float → ℕ → List ℕ → List ℕ → Float → ℕ → List Float
-solvedWork true w n from to tolerance most = lay w n (planFor n (length from)) (outcome w n from to tolerance most .state)
+solvedWork true w n from to tolerance most = lay w n (vectorsFor n (length from)) (outcome w n from to tolerance most .state)
 solvedWork false w n from to tolerance most = w
 
 unfoldable pub solvedAnswer : Bool → List Float → ℕ → List ℕ → List ℕ → Float → ℕ → Checked
@@ -69,13 +69,13 @@ pub record SolveTold (w w′ : List Float) (n : ℕ) (from to : List ℕ) (toler
 -- normalize_in_mass of the vector at x, with the direction's region for the product
 unfoldable pub normalWork : Bool → List Float → ℕ → List ℕ → List ℕ → List Float
 normalWork true w n from to =
-    let l = planFor n (length from) in
+    let l = vectorsFor n (length from) in
     let m = matrix w (matrixFor n (length from)) from to in
     putC (putC w (l .direction) (applied m (regionC w (l .x) n))) (l .x) (normalizedVector (massOf m (regionC w (l .x) n)) (regionC w (l .x) n))
 normalWork false w n from to = w
 
 unfoldable pub normalAnswer : Bool → List Float → ℕ → List ℕ → List ℕ → Checked
-normalAnswer true w n from to = Normal (normalizedAnswer (massOf (matrix w (matrixFor n (length from)) from to) (regionC w (planFor n (length from) .x) n)))
+normalAnswer true w n from to = Normal (normalizedAnswer (massOf (matrix w (matrixFor n (length from)) from to) (regionC w (vectorsFor n (length from) .x) n)))
 normalAnswer false w n from to = Refused
 
 pub record NormalChecked (w w′ : List Float) (n : ℕ) (from to : List ℕ) (r : Checked) : Type 0 where

@@ -2,12 +2,12 @@
 // beside the Rust. No part of the product.
 use conjugate_gradient::Answer;
 use conjugate_gradient::Normalized;
-use conjugate_gradient::Plan;
+use conjugate_gradient::Vectors;
 use hermitian::Hermitian;
 ghost use mathlib.Core.Path.{_≡_};
 ghost use Prim.Native.Nat.{_+_, _*_, _^_, _<_};
 ghost use lib.ListN.{length};
-ghost use Rattle.layers.specs.Checked.{allTo, edgeGood, edgeAt, good, matrixFor, planFor, SolveChecked, SolveTold, NormalChecked};
+ghost use Rattle.layers.specs.Checked.{allTo, edgeGood, edgeAt, good, matrixFor, vectorsFor, SolveChecked, SolveTold, NormalChecked};
 
 pub enum Checked {
     // The slices have not the form that is asked for, and nothing was written.
@@ -72,15 +72,15 @@ fn matrix_for(n: usize, m: usize) -> Hermitian
     }
 }
 
-fn plan_for(n: usize, m: usize) -> Plan
+fn vectors_for(n: usize, m: usize) -> Vectors
     requires { ⌜ 10 * n + 2 * m < 2 ^ 64 ⌝ }
-    ensures { λ r. ⌜ r ≡ planFor n m ⌝ }
+    ensures { λ r. ⌜ r ≡ vectorsFor n m ⌝ }
 {
     let x = n + 2 * m;
     let residual = x + 2 * n;
     let direction = residual + 2 * n;
     let applied = direction + 2 * n;
-    Plan {
+    Vectors {
         x,
         residual,
         direction,
@@ -104,7 +104,7 @@ pub fn solve(
         return Checked::Refused;
     }
     let h = matrix_for(n, from.len());
-    let l = plan_for(n, from.len());
+    let l = vectors_for(n, from.len());
     Checked::Solved(conjugate_gradient::conjugate_gradient(work, h, l, from, to, tolerance, most))
 }
 
@@ -124,7 +124,7 @@ pub extern "C" fn layers_conjugate_gradient(
         return false;
     }
     let h = matrix_for(n, from.len());
-    let l = plan_for(n, from.len());
+    let l = vectors_for(n, from.len());
     conjugate_gradient::conjugate_gradient(work, h, l, from, to, tolerance, most);
     true
 }
@@ -137,6 +137,6 @@ pub fn normalize(work: &mut [f64], n: usize, from: &[u32], to: &[u32]) -> Checke
         return Checked::Refused;
     }
     let h = matrix_for(n, from.len());
-    let l = plan_for(n, from.len());
+    let l = vectors_for(n, from.len());
     Checked::Normal(conjugate_gradient::normalize_in_mass(work, l.x, l.direction, h, from, to))
 }

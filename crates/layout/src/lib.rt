@@ -1,6 +1,6 @@
 // Where everything that a pass reads and writes stands in its two work slices: a struct of bases, by value. Every region has room for the most edges that
 // the triangles can have, three each, so that nothing depends on how many there are. specs/Layout.antt says where each is, and how much room all take.
-use conjugate_gradient::Plan;
+use conjugate_gradient::Vectors;
 use hermitian::Hermitian;
 ghost use mathlib.Core.Path.{_≡_};
 ghost use Rattle.layout.specs.Layout.{Small, layoutOf};
@@ -121,10 +121,10 @@ pub fn energy_at(l: Layout, edges: usize) -> Hermitian
 }
 
 // The vectors of the linear solver.
-pub fn vectors_at(l: Layout) -> Plan
+pub fn vectors_at(l: Layout) -> Vectors
     ensures { λ r. ⌜ r ≡ vectorsAt l ⌝ }
 {
-    Plan {
+    Vectors {
         x: l.iterate,
         residual: l.residual,
         direction: l.direction,

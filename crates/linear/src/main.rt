@@ -6,7 +6,9 @@ use conjugate_gradient::Reason;
 use layers::Checked;
 use replay::rows;
 use replay::rows::Tally;
-ghost use Prim.Native.Nat.{_<_, _≤_};
+ghost use mathlib.Core.Path.{_≡_};
+ghost use Prim.Native.Nat.{_+_, _<_, _≤_};
+ghost use lib.ListN.{length};
 
 // The words of a recorded system, and where its parts begin.
 const WIDTH: usize = 240;
@@ -55,16 +57,6 @@ fn told_checked(c: Checked) -> Verdict {
     }
 }
 
-fn double(text: &[u8], k: usize) -> f64 {
-    float::from_bits(replay::word(text, k))
-}
-
-fn put(work: &mut [f64], at: usize, value: f64) {
-    if at < work.len() {
-        work[at] = value;
-    }
-}
-
 fn put_end(ends: &mut [u32], at: usize, value: u64) {
     if at < ends.len() {
         if value < 0x1_0000_0000 {
@@ -73,13 +65,11 @@ fn put_end(ends: &mut [u32], at: usize, value: u64) {
     }
 }
 
-// n doubles from a word on, into a slice.
-fn load(work: &mut [f64], to: usize, text: &[u8], at: usize, n: usize)
-    requires { ⌜ (to < 4096) × (at < 0x1000_0000_0000_0000) × (n < 4096) ⌝ }
+// n doubles from word k on, into a slice from a place on.
+fn load(work: &mut [f64], to: usize, row: &[u8], k: usize, n: usize)
+    requires { ⌜ (to ≤ length (now work)) × (k + length (now work) < 4096) ⌝ }
 {
-    for i in 0..n {
-        put(work, to + i, double(text, at + i));
-    }
+    rows::doubles(row, k, n, &mut work[to..]);
 }
 
 // One end of an edge: the upper or the lower half of its word.
@@ -90,60 +80,58 @@ fn end_of(word: u64, upper: bool) -> u64 {
     word % 0x1_0000_0000
 }
 
-// One end of each of m edges.
-fn load_ends(ends: &mut [u32], text: &[u8], at: usize, m: usize, upper: bool)
-    requires { ⌜ (at < 0x1000_0000_0000_0000) × (m < 4096) ⌝ }
+// One end of each of m edges, from word k on.
+fn load_ends(ends: &mut [u32], row: &[u8], k: usize, m: usize, upper: bool)
+    requires { ⌜ (k < 4096) × (m < 4096) ⌝ }
 {
     for e in 0..m {
-        put_end(ends, e, end_of(replay::word(text, at + e), upper));
+        put_end(ends, e, end_of(replay::word(row, k + e), upper));
     }
 }
 
-fn same_at(work: &[f64], at: usize, word: u64) -> bool {
-    if at < work.len() {
-        return replay::same_double(float::bits(work[at]), word);
-    }
-    false
-}
-
-// Whether n doubles of a slice are those from a word on.
-fn same(work: &[f64], from: usize, text: &[u8], at: usize, n: usize) -> bool
-    requires { ⌜ (from < 4096) × (at < 0x1000_0000_0000_0000) × (n < 4096) ⌝ }
+// Whether n doubles of a slice, from a place on, are the first n of another.
+fn same_part(work: &[f64], from: usize, want: &[f64], n: usize) -> bool
+    requires { ⌜ (from + n ≤ length (now work)) × (n ≤ length (now want)) ⌝ }
 {
-    for i in 0..n {
-        if !same_at(work, from + i, replay::word(text, at + i)) {
-            return false;
-        }
-    }
-    true
+    let end = from + n;
+    rows::same_doubles(&work[from..end], &want[0..n])
+}
+
+// Whether n doubles of a slice, from a place on, are those from word k on.
+fn same(work: &[f64], from: usize, row: &[u8], k: usize, n: usize) -> bool
+    requires { ⌜ (from + n ≤ length (now work)) × ((n ≤ 16) × (k < 4096)) ⌝ }
+{
+    let mut want = [0.0; 16];
+    rows::doubles(row, k, n, &mut want);
+    same_part(work, from, &want, n)
 }
 
 // The diagonal, the entries off it, and a vector at `base`.
-fn load_all(work: &mut [f64], text: &[u8], at: usize, n: usize, m: usize, base: usize)
-    requires { ⌜ (at < 0x0fff_ffff_ffff_f000) × (n ≤ 16) × (m ≤ 40) × (base < 4000) ⌝ }
+fn load_all(work: &mut [f64], row: &[u8], n: usize, m: usize, base: usize)
+    requires { ⌜ (length (now work) ≡ 240) × ((n ≤ 16) × ((m ≤ 40) × (base ≤ 128))) ⌝ }
 {
-    load(work, 0, text, at + 8, n);
-    load(work, n, text, at + 64, m);
-    load(work, n + m, text, at + 104, m);
-    load(work, base, text, at + 144, n);
-    load(work, base + n, text, at + 160, n);
+    load(work, 0, row, 8, n);
+    load(work, n, row, 64, m);
+    load(work, n + m, row, 104, m);
+    load(work, base, row, 144, n);
+    load(work, base + n, row, 160, n);
 }
 
-fn judged(work: &[f64], text: &[u8], at: usize, n: usize, x: usize, c: Checked) -> bool
-    requires { ⌜ (at < 0x0fff_ffff_ffff_f000) × (n ≤ 16) × (x < 4000) ⌝ }
+fn judged(work: &[f64], row: &[u8], n: usize, x: usize, c: Checked) -> bool
+    requires { ⌜ (length (now work) ≡ 240) × ((n ≤ 16) × (x ≤ 96)) ⌝ }
 {
     let t = told_checked(c);
-    if t.reason != replay::word(text, at + 5) {
+    if t.reason != replay::word(row, 5) {
         return false;
     }
-    if t.value != replay::word(text, at + 6) {
+    if t.value != replay::word(row, 6) {
         return false;
     }
     if t.reason != 0 {
         return true;
     }
-    if same(work, x, text, at + 176, n) {
-        return same(work, x + n, text, at + 192, n);
+    if same(work, x, row, 176, n) {
+        return same(work, x + n, row, 192, n);
     }
     false
 }
@@ -177,91 +165,64 @@ fn solve(
     layers::solve(work, n, &from[..m], &to[..m], tolerance, most)
 }
 
-fn normalized(
-    work: &mut [f64],
-    from: &[u32],
-    to: &[u32],
-    text: &[u8],
-    at: usize,
-    n: usize,
-    m: usize,
-) -> bool
-    requires { ⌜ (at < 0x0fff_ffff_ffff_f000) × (n ≤ 16) × (m ≤ 40) ⌝ }
+fn normalized(work: &mut [f64], from: &[u32], to: &[u32], row: &[u8], n: usize, m: usize) -> bool
+    requires { ⌜ (length (now work) ≡ 240) × ((n ≤ 16) × (m ≤ 40)) ⌝ }
 {
     let x = n + 2 * m;
-    load_all(work, text, at, n, m, x);
+    load_all(work, row, n, m, x);
     let c = normalize(work, n, from, to, m);
-    judged(work, text, at, n, x, c)
+    judged(work, row, n, x, c)
 }
 
-fn solved(
-    work: &mut [f64],
-    from: &[u32],
-    to: &[u32],
-    text: &[u8],
-    at: usize,
-    n: usize,
-    m: usize,
-) -> bool
-    requires { ⌜ (at < 0x0fff_ffff_ffff_f000) × (n ≤ 16) × (m ≤ 40) ⌝ }
+fn solved(work: &mut [f64], from: &[u32], to: &[u32], row: &[u8], n: usize, m: usize) -> bool
+    requires { ⌜ (length (now work) ≡ 240) × ((n ≤ 16) × (m ≤ 40)) ⌝ }
 {
     let x = n + 2 * m;
-    load_all(work, text, at, n, m, x + 2 * n);
-    let most = rows::count(text, at + 4, 6000);
-    let c = solve(work, n, from, to, m, double(text, at + 3), most);
-    judged(work, text, at, n, x, c)
+    load_all(work, row, n, m, x + 2 * n);
+    let most = rows::count(row, 4, 6000);
+    let c = solve(work, n, from, to, m, rows::double(row, 3), most);
+    judged(work, row, n, x, c)
 }
 
-fn replayed(work: &mut [f64], from: &mut [u32], to: &mut [u32], text: &[u8], at: usize) -> bool
-    requires { ⌜ at < 0x0fff_ffff_ffff_f000 ⌝ }
+fn replayed(work: &mut [f64], from: &mut [u32], to: &mut [u32], row: &[u8]) -> bool
+    requires { ⌜ length (now work) ≡ 240 ⌝ }
 {
-    let n = rows::count(text, at, 16);
-    let m = rows::count(text, at + 1, 40);
-    load_ends(from, text, at + 24, m, true);
-    load_ends(to, text, at + 24, m, false);
-    if replay::word(text, at + 2) == 1 {
-        return normalized(work, from, to, text, at, n, m);
+    let n = rows::count(row, 0, 16);
+    let m = rows::count(row, 1, 40);
+    load_ends(from, row, 24, m, true);
+    load_ends(to, row, 24, m, false);
+    if replay::word(row, 2) == 1 {
+        return normalized(work, from, to, row, n, m);
     }
-    solved(work, from, to, text, at, n, m)
+    solved(work, from, to, row, n, m)
 }
 
-// Whether the system that starts at a word of the text has the recorded answer and iterate.
-fn holds(text: &[u8], at: usize) -> bool
-    requires { ⌜ at < 0x0fff_ffff_ffff_f000 ⌝ }
-{
+// Whether the system of a row has the recorded answer and iterate.
+fn holds(row: &[u8]) -> bool {
     let mut work = [0.0f64; 240];
     let mut from = [0u32; 40];
     let mut to = [0u32; 40];
-    replayed(&mut work, &mut from, &mut to, text, at)
+    replayed(&mut work, &mut from, &mut to, row)
 }
 
-// The rows of a text, which is a chunk or the last part of the file.
-fn rows_of(text: &[u8], start: Tally) -> Tally {
-    let words = text.len() / replay::WORD;
-    let mut seen = rows::paused(start);
-    let mut at: usize = 0;
-    while at < words {
-        seen = rows::judged(seen, holds(text, at));
-        at += WIDTH;
-    }
-    seen
-}
-
-// One chunk of the file.
+// The next system.
 fn some(fd: i32, seen: Tally) -> Tally {
-    let mut buf = replay::chunk();
-    let n = io::read_full(fd, &mut buf);
-    rows_of(&buf[..n], seen)
+    let mut row = [0u8; 4352];
+    let n = rows::next(fd, WIDTH, &mut row);
+    if n == 0 {
+        return rows::paused(seen);
+    }
+    rows::judged(seen, holds(&row[..n]))
 }
 
-// The whole file. The turns only fall so that the loop is known to end.
+// The whole list. The iterations only fall so that the loop is known to end.
 fn main() {
     let fd = replay::open(b"systems");
     let mut seen = rows::unseen();
-    let mut turns = u64::MAX;
-    while turns > 0 && seen.more {
+    let mut iterations = u64::MAX;
+    while iterations > 0 && seen.more {
         seen = some(fd, seen);
-        turns -= 1;
+        iterations -= 1;
     }
     replay::report(b"systems", seen.recorded, seen.differ);
     libc::close(fd);

@@ -4,11 +4,11 @@ mod floors;
 
 use replay::rows;
 use replay::rows::Tally;
-ghost use Prim.Native.Nat.{_<_, _≤_};
+ghost use Prim.Native.Nat.{_≤_};
 
 // The words of a row of each list.
 fn width(list: u64) -> usize
-    ensures { λ r. ⌜ (0 < r) × (r ≤ 256) ⌝ }
+    ensures { λ r. ⌜ r ≤ 256 ⌝ }
 {
     match list {
         0 => 256,
@@ -17,52 +17,38 @@ fn width(list: u64) -> usize
 }
 
 // The angles of two ends; the angle at the midpoint.
-fn guidance_row(text: &[u8], at: usize) -> bool
-    requires { ⌜ at < 0x1000_0000_0000_0000 ⌝ }
-{
-    let low = rows::double(text, at, 0);
-    let high = rows::double(text, at, 1);
-    rows::same(guidance::mid_angle(low, high), rows::double(text, at, 2))
+fn guidance_row(row: &[u8]) -> bool {
+    let low = rows::double(row, 0);
+    let high = rows::double(row, 1);
+    rows::same(guidance::mid_angle(low, high), rows::double(row, 2))
 }
 
-// Whether the row that starts at a word of the text holds for the program too.
-fn holds(text: &[u8], at: usize, list: u64) -> bool
-    requires { ⌜ at < 0x1000_0000_0000_0000 ⌝ }
-{
+// Whether a row holds for the program too.
+fn holds(row: &[u8], list: u64) -> bool {
     match list {
-        0 => floors::refinement(text, at),
-        _ => guidance_row(text, at),
+        0 => floors::refinement(row),
+        _ => guidance_row(row),
     }
 }
 
-// The rows of a text, which is a chunk or the last part of the file.
-fn rows_of(text: &[u8], list: u64, start: Tally) -> Tally {
-    let words = text.len() / replay::WORD;
-    let step = width(list);
-    let mut seen = rows::paused(start);
-    let mut at: usize = 0;
-    while at < words {
-        seen = rows::judged(seen, holds(text, at, list));
-        at += step;
-    }
-    seen
-}
-
-// One chunk of the file.
+// The next row of a list.
 fn some(fd: i32, list: u64, seen: Tally) -> Tally {
-    let mut buf = replay::chunk();
-    let n = io::read_full(fd, &mut buf);
-    rows_of(&buf[..n], list, seen)
+    let mut row = [0u8; 4352];
+    let n = rows::next(fd, width(list), &mut row);
+    if n == 0 {
+        return rows::paused(seen);
+    }
+    rows::judged(seen, holds(&row[..n], list))
 }
 
-// The whole file. The turns only fall so that the loop is known to end.
+// The whole list. The iterations only fall so that the loop is known to end.
 fn all_of(name: &[u8], list: u64) {
     let fd = replay::open(name);
     let mut seen = rows::unseen();
-    let mut turns = u64::MAX;
-    while turns > 0 && seen.more {
+    let mut iterations = u64::MAX;
+    while iterations > 0 && seen.more {
         seen = some(fd, list, seen);
-        turns -= 1;
+        iterations -= 1;
     }
     replay::report(name, seen.recorded, seen.differ);
     libc::close(fd);

@@ -1,2 +1,3 @@
 mod Spell
 pub mod Fill
+mod Same

@@ -1,4 +1,4 @@
--- A word's digits: what the loop of `word` keeps from turn to turn, and that a text spells 0 past its end. Assumes nothing.
+-- A word's digits: what the loop of `word` keeps from digit to digit, and that a text spells 0 past its end. Assumes nothing.
 use mathlib.Core.Path.{_≡_, refl, ap, _∙_}
 use mathlib.Core.List.{List}
 use Prim.Native.Nat.{ℕ, zero, suc, _+_, _*_, _^_, _≤_, _<_}
@@ -13,11 +13,11 @@ use Rattle.replay.specs.Words.{digitOf, spelled}
 pub record Spelled (text : List ℕ) (at value i : ℕ) : Type 0 where
   pub spells : value ≡ spelled text at i
   pub short : value < 2 ^ (4 * i)
-  pub turns : i ≤ 16
+  pub within : i ≤ 16
 
 pub none : (text : List ℕ) (at : ℕ) → Spelled text at 0 0
 unfolding spelled
-none text at = record { spells = refl; short = omega arith; turns = omega arith }
+none text at = record { spells = refl; short = omega arith; within = omega arith }
 
 -- one digit more fits, since there were at most 15
 pub fits : (value i : ℕ) → value < 2 ^ (4 * i) → i < 16 → value < 2 ^ 60
@@ -37,11 +37,11 @@ unfolding spelled
 more text at value i d h k e l = record {
   spells = rw (add-one, e, h .spells) refl;
   short = omega (arith, wider i, h .short);
-  turns = omega arith;
+  within = omega arith;
 }
 
 pub whole : {text : List ℕ} {at value i : ℕ} → Spelled text at value i → 16 ≤ i → value ≡ spelled text at 16
-whole {text} {at} h k = h .spells ∙ ap (spelled text at) (omega (arith, h .turns))
+whole {text} {at} h k = h .spells ∙ ap (spelled text at) (omega (arith, h .within))
 
 pub past : (text : List ℕ) (at n : ℕ) → length text ≤ at → spelled text at n ≡ 0
 unfolding spelled digitOf

@@ -27,6 +27,13 @@ atMost most n = cond (ltb n most) n most
 abbrev pub sameAs : Float → Float → Bool
 sameAs x y = sameDouble (toBits binary64 x) (toBits binary64 y)
 
+-- two lists are as long, and each element of the one is the same as that of the other
+unfoldable pub sameAll : {A : Type 0} → (A → A → Bool) → List A → List A → Bool
+sameAll f [] [] = true
+sameAll f [] (y ∷ b) = false
+sameAll f (x ∷ a) [] = false
+sameAll f (x ∷ a) (y ∷ b) = cond (f x y) (sameAll f a b) false
+
 -- one more, as a counter of 64 bits has it
 abbrev pub next : ℕ → ℕ
 next n = (n + 1) % 2 ^ 64

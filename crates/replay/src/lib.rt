@@ -1,29 +1,15 @@
 // Recorded answers, for programs that replay them: a text of words, each 16 lowercase hex digits
-// and one byte that parts it from the next (a blank or a line feed), read in pieces of whole words.
+// and one byte that parts it from the next (a blank or a line feed).
 //
-// A program opens its file by `open`, fills a `chunk` by `io::read_full` again and again, takes the
-// words out by `word`, compares by `same_double`, and prints its counts by `report`. Module `rows` has
-// what rows of doubles and corners need, and the tally of a list.
+// A program opens its list by `open`, reads it row by row, takes the words out by `word`, compares by
+// `same_double`, and prints its counts by `report`. Module `rows` has what rows of doubles and corners
+// need, and the tally of a list.
 pub mod rows;
 
 ghost use mathlib.Core.Path.{_≡_};
 ghost use Prim.Native.Nat.{_<_};
-ghost use lib.ListN.{length, getD};
+ghost use lib.ListN.{getD};
 ghost use Rattle.replay.specs.Words.{digitOf, wordAt, sameDouble, nanPattern};
-
-// The bytes of a word, the one that parts it from the next among them.
-pub const WORD: usize = 17;
-
-// The words of a chunk: a multiple of 2, 3, 4, 5, 6, 8, 10, 12, 15 and 16, so that rows of that many words do not
-// straddle two chunks.
-pub const CHUNK: usize = 3840;
-
-// Room for CHUNK words.
-pub fn chunk() -> [u8; 65280]
-    ensures { λ r. ⌜ 65280 ≡ length r ⌝ }
-{
-    [0; 65280]
-}
 
 fn digit(b: u8) -> u64
     ensures { λ r. ⌜ (r ≡ digitOf b) × (r < 16) ⌝ }

@@ -1,18 +1,29 @@
-// Rows of a list, each a fixed number of words: doubles, corners and counts out of a row, and what a program has seen of a list so far.
+// Rows of a list, each of so many words: the next row of a file; doubles, corners and counts out of a row; slices compared; and what a program has
+// seen of a list so far.
 ghost use mathlib.Core.Path.{_≡_};
 ghost use mathlib.Core.Bool.{true, false};
-ghost use Prim.Native.Nat.{_+_, _<_, _≤_};
+ghost use Prim.Native.Nat.{_+_, _*_, _≤_};
+ghost use lib.Dec.{eqb};
 ghost use lib.ListN.{length};
 ghost use lib.Seq.{sets};
+ghost use Rattle.io.specs.Counts.{Counts};
 ghost use Rattle.replay.specs.Words.{wordAt};
-ghost use Rattle.replay.specs.Rows.{upTo, doubleAt, cornerAt, atMost, sameAs, judgedBy};
+ghost use Rattle.replay.specs.Rows.{upTo, doubleAt, cornerAt, atMost, sameAs, sameAll, judgedBy};
 
-// The double that is word k of the row at `at`.
-pub fn double(text: &[u8], at: usize, k: usize) -> f64
-    requires { ⌜ (at < 0x1000_0000_0000_0000) × (k < 0x1000_0000) ⌝ }
-    ensures { λ r. ⌜ r ≡ doubleAt (now (text .entry)) (at + k) ⌝ }
+// The next row of so many words, at the front of a slice. How many bytes were read: 0 where the list has ended.
+pub fn next(fd: i32, words: usize, row: &mut [u8]) -> usize
+    requires { ⌜ 17 * words ≤ length (now row) ⌝ }
+    ensures { λ r. ⌜ Counts r (now (row .exit)) × (r ≤ 17 * words) ⌝ }
 {
-    float::from_bits(crate::word(text, at + k))
+    let end = 17 * words;
+    io::read_full(fd, &mut row[0..end])
+}
+
+// The double that is word k of a row.
+pub fn double(row: &[u8], k: usize) -> f64
+    ensures { λ r. ⌜ r ≡ doubleAt (now (row .entry)) k ⌝ }
+{
+    float::from_bits(crate::word(row, k))
 }
 
 // Whether an answer is the one recorded. All NaNs count as equal.
@@ -22,45 +33,87 @@ pub fn same(answer: f64, recorded: f64) -> bool
     crate::same_double(float::bits(answer), float::bits(recorded))
 }
 
-// A slice of doubles out of the row's words k, k + 1, ..
-pub fn doubles(text: &[u8], at: usize, k: usize, out: &mut [f64])
-    requires { ⌜ (at < 0x1000_0000_0000_0000) × (k + length (now out) ≤ 0x1000_0000) ⌝ }
-    ensures { λ _. ⌜ now (out .exit) ≡ sets (now (out .entry)) 0 (upTo (λ i. doubleAt (now (text .entry)) (at + (k + i))) (length (now (out .entry)))) ⌝ }
+// n, and at most `most`.
+pub fn at_most(n: usize, most: usize) -> usize
+    ensures { λ r. ⌜ (r ≡ atMost most n) × (r ≤ most) ⌝ }
 {
+    if n < most {
+        return n;
+    }
+    most
+}
+
+// n doubles from word k on, or as many as there is room for, at the front of a slice.
+pub fn doubles(row: &[u8], k: usize, n: usize, out: &mut [f64])
+    requires { ⌜ k + length (now out) ≤ 0x1000_0000 ⌝ }
+    ensures { λ _. ⌜ now (out .exit) ≡ sets (now (out .entry)) 0 (upTo (λ i. doubleAt (now (row .entry)) (k + i)) (atMost (length (now (out .entry))) n)) ⌝ }
+{
+    let m = at_most(n, out.len());
     let mut i = 0;
-    while i < out.len() {
-        out[i] = double(text, at, k + i);
+    while i < m {
+        out[i] = double(row, k + i);
         i += 1;
     }
 }
 
-fn corner(text: &[u8], k: usize) -> u32
-    ensures { λ r. ⌜ r ≡ cornerAt (now (text .entry)) k ⌝ }
+fn corner(row: &[u8], k: usize) -> u32
+    ensures { λ r. ⌜ r ≡ cornerAt (now (row .entry)) k ⌝ }
 {
-    (crate::word(text, k) % 0x1_0000_0000) as u32
+    (crate::word(row, k) % 0x1_0000_0000) as u32
 }
 
-// A slice of corners likewise.
-pub fn corners(text: &[u8], at: usize, k: usize, out: &mut [u32])
-    requires { ⌜ (at < 0x1000_0000_0000_0000) × (k + length (now out) ≤ 0x1000_0000) ⌝ }
-    ensures { λ _. ⌜ now (out .exit) ≡ sets (now (out .entry)) 0 (upTo (λ i. cornerAt (now (text .entry)) (at + (k + i))) (length (now (out .entry)))) ⌝ }
+// Corners likewise.
+pub fn corners(row: &[u8], k: usize, n: usize, out: &mut [u32])
+    requires { ⌜ k + length (now out) ≤ 0x1000_0000 ⌝ }
+    ensures { λ _. ⌜ now (out .exit) ≡ sets (now (out .entry)) 0 (upTo (λ i. cornerAt (now (row .entry)) (k + i)) (atMost (length (now (out .entry))) n)) ⌝ }
 {
+    let m = at_most(n, out.len());
     let mut i = 0;
-    while i < out.len() {
-        out[i] = corner(text, at + (k + i));
+    while i < m {
+        out[i] = corner(row, k + i);
         i += 1;
     }
 }
 
 // The count that word k gives, at most `most`.
-pub fn count(text: &[u8], k: usize, most: usize) -> usize
-    ensures { λ r. ⌜ (r ≡ atMost most (wordAt (now (text .entry)) k)) × (r ≤ most) ⌝ }
+pub fn count(row: &[u8], k: usize, most: usize) -> usize
+    ensures { λ r. ⌜ (r ≡ atMost most (wordAt (now (row .entry)) k)) × (r ≤ most) ⌝ }
 {
-    let n = crate::word(text, k);
-    if n < most as u64 {
-        return n as usize;
+    at_most(crate::word(row, k) as usize, most)
+}
+
+// Whether two slices hold the same doubles. All NaNs count as equal.
+pub fn same_doubles(a: &[f64], b: &[f64]) -> bool
+    ensures { λ r. ⌜ r ≡ sameAll sameAs (now (a .entry)) (now (b .entry)) ⌝ }
+{
+    if a.len() != b.len() {
+        return false;
     }
-    most
+    let mut i = 0;
+    while i < a.len() {
+        if !same(a[i], b[i]) {
+            return false;
+        }
+        i += 1;
+    }
+    true
+}
+
+// Whether two slices hold the same numbers.
+pub fn same_numbers(a: &[u32], b: &[u32]) -> bool
+    ensures { λ r. ⌜ r ≡ sameAll eqb (now (a .entry)) (now (b .entry)) ⌝ }
+{
+    if a.len() != b.len() {
+        return false;
+    }
+    let mut i = 0;
+    while i < a.len() {
+        if a[i] != b[i] {
+            return false;
+        }
+        i += 1;
+    }
+    true
 }
 
 // What has been seen of a list, and whether it may hold more.

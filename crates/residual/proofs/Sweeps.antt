@@ -1,4 +1,4 @@
--- The loops of `reduce` as they stand: so many turns from the entry's slice, and from the sums given. Assumes nothing.
+-- The loops of `reduce` as they stand: so many iterations from the entry's slice, and from the sums given. Assumes nothing.
 use mathlib.Core.Path.{_≡_, sym, ap, _∙_}
 use mathlib.Core.List.{List}
 use Prim.Native.Nat.{ℕ, _+_, _*_, _≤_}
@@ -12,11 +12,11 @@ use Rattle.residual.specs.declared.Term.{Term}
 use Rattle.residual.specs.Work.{termAt, putTerm, termStep, putPair, pairStep, noSums, addC, addStep, Lag, lag, lagStep}
 
 -- two places
-pub pair-turn-all : (w : List Float) (r q inverse n : ℕ) (alpha : Float) (i : ℕ) {w₁ w₂ : List Float} {t u : Term} → t ≡ termAt w r q inverse n alpha i → u ≡ termAt w r q inverse n alpha (i + 1)
+pub pair-at-all : (w : List Float) (r q inverse n : ℕ) (alpha : Float) (i : ℕ) {w₁ w₂ : List Float} {t u : Term} → t ≡ termAt w r q inverse n alpha i → u ≡ termAt w r q inverse n alpha (i + 1)
     → w₁ ≡ setC (setC w r n i (t .residual)) r n (i + 1) (u .residual) → w₂ ≡ setC (setC w₁ q n i (t .products)) q n (i + 1) (u .products)
     → w₂ ≡ pairStep r q inverse n alpha i w
 unfolding pairStep putPair
-pair-turn-all w r q inverse n alpha i et eu e₁ e₂ = e₂ ∙ rw (e₁, et, eu)
+pair-at-all w r q inverse n alpha i et eu e₁ e₂ = e₂ ∙ rw (e₁, et, eu)
 
 -- the end of each loop
 ended : {S : Type 0} (step : ℕ → S → S) (s : S) {t : S} {k c : ℕ} → k ≤ c → c ≤ k → t ≡ iter step k s → t ≡ iter step c s
@@ -70,7 +70,7 @@ module _ (w : List Float) (r q inverse n : ℕ) (alpha : Float) where
   unfolding lagTo
   lag-done g h e = ended (lagStep r q inverse n alpha) (lag w noSums) g h e
 
-  pub lag-turn-all : (k : ℕ) (s : Sums) {w₁ : List Float} {t u : Sums} → w₁ ≡ pairStep r q inverse n alpha (2 * k + 2) w → t ≡ addC w₁ q n (2 * k) s → u ≡ addC w₁ q n (2 * k + 1) t
+  pub lag-at-all : (k : ℕ) (s : Sums) {w₁ : List Float} {t u : Sums} → w₁ ≡ pairStep r q inverse n alpha (2 * k + 2) w → t ≡ addC w₁ q n (2 * k) s → u ≡ addC w₁ q n (2 * k + 1) t
       → lag w₁ u ≡ lagStep r q inverse n alpha k (lag w s)
   unfolding lagStep
-  lag-turn-all k s e₁ et eu = rw (eu, et, e₁)
+  lag-at-all k s e₁ et eu = rw (eu, et, e₁)

@@ -1,4 +1,4 @@
--- What `reduce` requires of the work slice and leaves there, and the turns of its loops on the flat list.
+-- What `reduce` requires of the work slice and leaves there, and the iterations of its loops on the flat list.
 use mathlib.Core.Path.{_≡_}
 use mathlib.Core.List.{List}
 use Prim.Native.Nat.{ℕ, _+_, _*_, _≤_, _<_}
@@ -23,7 +23,7 @@ pub record ReduceRoom (len r q inverse n : ℕ) : Type 0 where
   pub r-inverse : Apart r (2 * n) inverse n
   pub q-inverse : Apart q (2 * n) inverse n
 
--- where a turn of `reduce` reads and writes
+-- where an iteration of `reduce` reads and writes
 pub record TermIn (len r q inverse n i : ℕ) : Type 0 where
   pub i-in : i < n
   pub ri-in : r + n + i < len

@@ -1,5 +1,5 @@
 // The residual's step in conjugate gradients, with its product with itself and with the preconditioned residual: one pass over memory.
-// Two neighbouring places are reduced a turn, and the sums take the terms of the pair before, so that the compiler packs both.
+// Two neighbouring places are reduced at each iteration, and the sums take the terms of the pair before, so that the compiler packs both.
 use cells::load;
 use cells::load_real;
 use cells::store;
@@ -55,7 +55,7 @@ fn term_at(work: &[f64], r: usize, q: usize, inverse: usize, n: usize, alpha: f6
     }
 }
 
-fn term_turn(work: &mut [f64], r: usize, q: usize, inverse: usize, n: usize, alpha: f64, i: usize)
+fn term_one(work: &mut [f64], r: usize, q: usize, inverse: usize, n: usize, alpha: f64, i: usize)
     requires { ⌜ TermIn (length (now work)) r q inverse n i ⌝ }
     ensures { λ _. ⌜ now (work .exit) ≡ putTerm (now (work .entry)) r q n i (termAt (now (work .entry)) r q inverse n alpha i) ⌝ }
 {
@@ -79,7 +79,7 @@ fn terms(
     ensures { λ _. ⌜ now (work .exit) ≡ iter (termStep r q inverse n alpha first) count (now (work .entry)) ⌝ }
 {
     for k in 0..count {
-        term_turn(work, r, q, inverse, n, alpha, first + k);
+        term_one(work, r, q, inverse, n, alpha, first + k);
     }
 }
 
@@ -101,7 +101,7 @@ fn store_both(work: &mut [f64], base: usize, n: usize, i: usize, a: Complex, b: 
 }
 
 // Places i and i + 1, which are neighbours in memory: the loads of both come before the stores of either.
-fn pair_turn(work: &mut [f64], r: usize, q: usize, inverse: usize, n: usize, alpha: f64, i: usize)
+fn pair_at(work: &mut [f64], r: usize, q: usize, inverse: usize, n: usize, alpha: f64, i: usize)
     requires { ⌜ TermIn (length (now work)) r q inverse n (i + 1) ⌝ }
     ensures { λ _. ⌜ now (work .exit) ≡ pairStep r q inverse n alpha i (now (work .entry)) ⌝ }
 {
@@ -136,7 +136,7 @@ fn add_cells(work: &[f64], q: usize, n: usize, first: usize, count: usize, s: Su
 }
 
 // Pair k + 1 is reduced, and the products of pair k are added.
-fn lag_turn(
+fn lag_at(
     work: &mut [f64],
     r: usize,
     q: usize,
@@ -150,7 +150,7 @@ fn lag_turn(
     ensures { λ t. ⌜ lag (now (work .exit)) t ≡ lagStep r q inverse n alpha k (lag (now (work .entry)) s) ⌝ }
 {
     let i = 2 * k;
-    pair_turn(work, r, q, inverse, n, alpha, i + 2);
+    pair_at(work, r, q, inverse, n, alpha, i + 2);
     let t = add_cell(work, q, n, i, s);
     add_cell(work, q, n, i + 1, t)
 }
@@ -173,7 +173,7 @@ fn lagged(
         next: 0.0,
     };
     for k in 0..count {
-        s = lag_turn(work, r, q, inverse, n, alpha, k, s);
+        s = lag_at(work, r, q, inverse, n, alpha, k, s);
     }
     s
 }
@@ -197,7 +197,7 @@ pub fn reduce(work: &mut [f64], r: usize, q: usize, inverse: usize, n: usize, al
         return add_cells(work, q, n, 0, n, no_sums());
     }
     let count = n / 2 - 1;
-    pair_turn(work, r, q, inverse, n, alpha, 0);
+    pair_at(work, r, q, inverse, n, alpha, 0);
     let s = lagged(work, r, q, inverse, n, alpha, count);
     let first = 2 * count;
     terms(work, r, q, inverse, n, alpha, first + 2, n - (first + 2));

@@ -5,11 +5,11 @@ mod numbers;
 
 use replay::rows;
 use replay::rows::Tally;
-ghost use Prim.Native.Nat.{_<_, _≤_};
+ghost use Prim.Native.Nat.{_≤_};
 
 // The words of a row of each list.
 fn width(list: u64) -> usize
-    ensures { λ r. ⌜ (0 < r) × (r ≤ 64) ⌝ }
+    ensures { λ r. ⌜ r ≤ 256 ⌝ }
 {
     match list {
         0 | 3 => 3,
@@ -22,52 +22,40 @@ fn width(list: u64) -> usize
     }
 }
 
-// Whether the row that starts at a word of the text holds for the program too.
-fn holds(text: &[u8], at: usize, list: u64) -> bool
-    requires { ⌜ at < 0x1000_0000_0000_0000 ⌝ }
-{
+// Whether a row holds for the program too.
+fn holds(row: &[u8], list: u64) -> bool {
     match list {
-        0 => numbers::mass(text, at),
-        1 => numbers::dirichlet(text, at),
-        2 => numbers::diagonal(text, at),
-        3 => numbers::cross(text, at),
-        4 => numbers::wrap(text, at),
-        5 => numbers::weight(text, at),
-        6 => numbers::triangle(text, at),
-        7 => numbers::transport(text, at),
-        8 => floors::probe(text, at),
-        _ => floors::singular(text, at),
+        0 => numbers::mass(row),
+        1 => numbers::dirichlet(row),
+        2 => numbers::diagonal(row),
+        3 => numbers::cross(row),
+        4 => numbers::wrap(row),
+        5 => numbers::weight(row),
+        6 => numbers::triangle(row),
+        7 => numbers::transport(row),
+        8 => floors::probe(row),
+        _ => floors::singular(row),
     }
 }
 
-// The rows of a text, which is a chunk or the last part of the file.
-fn rows_of(text: &[u8], list: u64, start: Tally) -> Tally {
-    let words = text.len() / replay::WORD;
-    let step = width(list);
-    let mut seen = rows::paused(start);
-    let mut at: usize = 0;
-    while at < words {
-        seen = rows::judged(seen, holds(text, at, list));
-        at += step;
-    }
-    seen
-}
-
-// One chunk of the file.
+// The next row of a list.
 fn some(fd: i32, list: u64, seen: Tally) -> Tally {
-    let mut buf = replay::chunk();
-    let n = io::read_full(fd, &mut buf);
-    rows_of(&buf[..n], list, seen)
+    let mut row = [0u8; 4352];
+    let n = rows::next(fd, width(list), &mut row);
+    if n == 0 {
+        return rows::paused(seen);
+    }
+    rows::judged(seen, holds(&row[..n], list))
 }
 
-// The whole file. The turns only fall so that the loop is known to end.
+// The whole list. The iterations only fall so that the loop is known to end.
 fn all_of(name: &[u8], list: u64) {
     let fd = replay::open(name);
     let mut seen = rows::unseen();
-    let mut turns = u64::MAX;
-    while turns > 0 && seen.more {
+    let mut iterations = u64::MAX;
+    while iterations > 0 && seen.more {
         seen = some(fd, list, seen);
-        turns -= 1;
+        iterations -= 1;
     }
     replay::report(name, seen.recorded, seen.differ);
     libc::close(fd);

@@ -4,38 +4,42 @@ mod row;
 
 use replay::rows;
 use replay::rows::Tally;
+ghost use mathlib.Core.Path.{_≡_};
+ghost use Prim.Native.Nat.{_≤_};
+ghost use lib.ListN.{length};
 
-// The rows of a text, which is a chunk or the last part of the file: each says how long it is, and none begins where that is 0.
-fn rows_of(text: &[u8], start: Tally) -> Tally {
-    let words = text.len() / replay::WORD;
-    let mut seen = rows::paused(start);
-    let mut at: usize = 0;
-    while at < words {
-        let step = rows::count(text, at, replay::CHUNK);
-        if step == 0 {
-            return seen;
-        }
-        seen = rows::judged(seen, row::holds(text, at));
-        at += step;
+// The row of so many words whose first is at the front of a slice. A word 0 where a row would begin stands between two rows.
+fn row_of(fd: i32, words: usize, row: &mut [u8], seen: Tally) -> Tally
+    requires { ⌜ (words ≤ 256) × (length (now row) ≡ 4352) ⌝ }
+{
+    if words == 0 {
+        return seen;
     }
-    seen
+    let end = 17 * words;
+    let n = io::read_full(fd, &mut row[17..end]);
+    let read = 17 + n;
+    rows::judged(seen, row::holds(&row[0..read]))
 }
 
-// One chunk of the file.
+// The next row of a list, which says how long it is.
 fn some(fd: i32, seen: Tally) -> Tally {
-    let mut buf = replay::chunk();
-    let n = io::read_full(fd, &mut buf);
-    rows_of(&buf[..n], seen)
+    let mut row = [0u8; 4352];
+    let n = rows::next(fd, 1, &mut row);
+    if n == 0 {
+        return rows::paused(seen);
+    }
+    let words = rows::count(&row, 0, 256);
+    row_of(fd, words, &mut row, seen)
 }
 
-// The whole file. The turns only fall so that the loop is known to end.
+// The whole list. The iterations only fall so that the loop is known to end.
 fn all_of(name: &[u8]) {
     let fd = replay::open(name);
     let mut seen = rows::unseen();
-    let mut turns = u64::MAX;
-    while turns > 0 && seen.more {
+    let mut iterations = u64::MAX;
+    while iterations > 0 && seen.more {
         seen = some(fd, seen);
-        turns -= 1;
+        iterations -= 1;
     }
     replay::report(name, seen.recorded, seen.differ);
     libc::close(fd);

@@ -20,7 +20,7 @@ use Rattle.hermitian.specs.declared.Hermitian.{Hermitian}
 use Rattle.hermitian.specs.Hermitian.{applied}
 use Rattle.hermitian.specs.Work.{matrix}
 use Rattle.hermitian.proofs.Product.{length-applied}
-use Rattle.conjugate_gradient.specs.declared.Plan.{Plan}
+use Rattle.conjugate_gradient.specs.declared.Vectors.{Vectors}
 use Rattle.conjugate_gradient.specs.Work.{VectorRoom}
 use Rattle.constraints.specs.declared.Tangents.{Tangents}
 use Rattle.constraints.specs.declared.Penalty.{Penalty}
@@ -36,14 +36,14 @@ use Rattle.systems.specs.Work.{SystemRoom, TargetRoom, blankedTerms, Mak
 use Rattle.systems.proofs.Inside.{blanked-more, blanked-one, inside-same}
 
 -- a slice as long has the same room
-pub same-system : {len len′ : ℕ} → len′ ≡ len → (h mass : Hermitian) (l : Plan) (t : Terms) → SystemRoom len h mass l t → SystemRoom len′ h mass l t
+pub same-system : {len len′ : ℕ} → len′ ≡ len → (h mass : Hermitian) (l : Vectors) (t : Terms) → SystemRoom len h mass l t → SystemRoom len′ h mass l t
 same-system e h mass l t ok = rw e ok
 
-pub same-targets : {len len′ : ℕ} → len′ ≡ len → (h : Hermitian) (l : Plan) (targets : ℕ) → TargetRoom len h l targets → TargetRoom len′ h l targets
+pub same-targets : {len len′ : ℕ} → len′ ≡ len → (h : Hermitian) (l : Vectors) (targets : ℕ) → TargetRoom len h l targets → TargetRoom len′ h l targets
 same-targets e h l targets ok = rw e ok
 
 -- where the boundary's rows and the penalty are written
-pub rows-room : {len len′ : ℕ} → len′ ≡ len → (h : Hermitian) (l : Plan) (targets : ℕ) → TargetRoom len h l targets → MatrixRoom len′ h
+pub rows-room : {len len′ : ℕ} → len′ ≡ len → (h : Hermitian) (l : Vectors) (targets : ℕ) → TargetRoom len h l targets → MatrixRoom len′ h
 rows-room e h l targets at =
     let v = at .room .vector-room .vectors-in in
     record {
@@ -52,10 +52,10 @@ rows-room e h l targets at =
       diagonal-off = apart (h .off) (2 * h .edges) (h .diagonal) (h .size) (omega (arith, at .off-behind));
     }
 
-abbrev asks : Hermitian → Hermitian → Plan → ℕ → Float → Penalty
+abbrev asks : Hermitian → Hermitian → Vectors → ℕ → Float → Penalty
 asks h mass l targets weight = record { weight = weight; diagonal = h .diagonal; mass = mass .diagonal; targets = targets; rhs = l .residual }
 
-pub penalty-room : {len : ℕ} (h mass : Hermitian) (l : Plan) (targets : ℕ) (weight : Float) → SoftRoom len h mass l → TargetRoom len h l targets
+pub penalty-room : {len : ℕ} (h mass : Hermitian) (l : Vectors) (targets : ℕ) (weight : Float) → SoftRoom len h mass l → TargetRoom len h l targets
     → PenaltyRoom len (h .size) (asks h mass l targets weight)
 penalty-room h mass l targets weight ok at =
     let s : mass .diagonal + mass .size ≤ l .x = ok .mass-room .diagonal-below in
@@ -72,7 +72,7 @@ penalty-room h mass l targets weight ok at =
 
 -- ---- soft terms alone
 
-module _ (w : List Float) (h mass : Hermitian) (l : Plan) (from to : List ℕ) (t : Terms) (ok : SystemRoom (length w) h mass l t) where
+module _ (w : List Float) (h mass : Hermitian) (l : Vectors) (from to : List ℕ) (t : Terms) (ok : SystemRoom (length w) h mass l t) where
   vectors : VectorRoom (length w) (h .size) l
   vectors = ok .soft-room .h-room .vector-room
 
@@ -153,7 +153,7 @@ length-blanked : (flags : List ℕ) (v : List Complex) → length (blanked flags
 unfolding blanked
 length-blanked flags v = length-tab _ (length v)
 
-module _ (w : List Float) (h mass : Hermitian) (l : Plan) (flags from to : List ℕ) where
+module _ (w : List Float) (h mass : Hermitian) (l : Vectors) (flags from to : List ℕ) where
   pub inside-added : SoftRoom (length w) h mass l → (weight : Float) {w₁ w₂ : List Float} → w₁ ≡ blankedIn (l .direction) (h .size) flags w
       → Softens w₁ w₂ h mass l from to (termOf weight (regionC w₁ (l .direction) (h .size)))
       → Softens w w₂ h mass l from to (termOf weight (blanked flags (regionC w (l .direction) (h .size))))
@@ -185,7 +185,7 @@ module _ (w : List Float) (h mass : Hermitian) (l : Plan) (flags from to : List 
 
 -- ---- tangent: the boundary fixed
 
-module _ (w : List Float) (h : Hermitian) (l : Plan) (targets : ℕ) (flags from to : List ℕ) (at : TargetRoom (length w) h l targets) where
+module _ (w : List Float) (h : Hermitian) (l : Vectors) (targets : ℕ) (flags from to : List ℕ) (at : TargetRoom (length w) h l targets) where
   abbrev placed : Tangents
   placed = record { rhs = l .residual; coupling = l .x; targets = targets }
 
@@ -236,7 +236,7 @@ module _ (w : List Float) (h : Hermitian) (l : Plan) (targets : ℕ) (flags from
 
 -- ---- tangent: the whole
 
-module _ (w : List Float) (h mass : Hermitian) (l : Plan) (targets : ℕ) (flags from to : List ℕ) (t : Terms) (ok : SystemRoom (length w) h mass l t) (at : TargetRoom (length w) h l targets) where
+module _ (w : List Float) (h mass : Hermitian) (l : Vectors) (targets : ℕ) (flags from to : List ℕ) (t : Terms) (ok : SystemRoom (length w) h mass l t) (at : TargetRoom (length w) h l targets) where
   abbrev aims : List Complex
   aims = regionC w targets (h .size)
 

@@ -1,7 +1,7 @@
 // The linear systems of a pass's branches, in regions of one lent slice: the matrix at h becomes the system's, and the right-hand side is left in the
-// plan's residual. specs/Systems.antt says what each system is, and specs/Work.antt where it stands.
+// solver's residual. specs/Systems.antt says what each system is, and specs/Work.antt where it stands.
 // `flag` has a flag for each point, 1 where it lies on the boundary, and `from` and `to` the ends of the edges.
-use conjugate_gradient::Plan;
+use conjugate_gradient::Vectors;
 use constraints::Penalty;
 use constraints::Tangents;
 use hermitian::Hermitian;
@@ -19,7 +19,7 @@ pub fn soft_system(
     work: &mut [f64],
     h: Hermitian,
     mass: Hermitian,
-    l: Plan,
+    l: Vectors,
     from: &[u32],
     to: &[u32],
     t: Terms,
@@ -28,7 +28,7 @@ pub fn soft_system(
     requires { ⌜ Graph mass (now from) (now to) ⌝ }
     ensures { λ _. ⌜ MakesSoft (now (work .entry)) (now (work .exit)) h mass l (now (from .entry)) (now (to .entry)) t ⌝ }
 {
-    cells::fill(work, l.residual, 2 * h.size, 0.0);
+    cells::fill(work, l.residual, 2 * h.size, 0.0); // no right-hand side but the soft terms'
     soft::soften(work, h, mass, l, from, to, t);
 }
 
@@ -37,7 +37,7 @@ pub fn weak_system(
     work: &mut [f64],
     h: Hermitian,
     mass: Hermitian,
-    l: Plan,
+    l: Vectors,
     targets: usize,
     weight: f64,
     flag: &[u32],
@@ -65,7 +65,7 @@ fn add_inside(
     work: &mut [f64],
     h: Hermitian,
     mass: Hermitian,
-    l: Plan,
+    l: Vectors,
     weight: f64,
     flag: &[u32],
     from: &[u32],
@@ -83,7 +83,7 @@ fn guided_inside(
     work: &mut [f64],
     h: Hermitian,
     mass: Hermitian,
-    l: Plan,
+    l: Vectors,
     flag: &[u32],
     from: &[u32],
     to: &[u32],
@@ -104,7 +104,7 @@ fn aligned_inside(
     work: &mut [f64],
     h: Hermitian,
     mass: Hermitian,
-    l: Plan,
+    l: Vectors,
     flag: &[u32],
     from: &[u32],
     to: &[u32],
@@ -123,7 +123,7 @@ fn soften_inside(
     work: &mut [f64],
     h: Hermitian,
     mass: Hermitian,
-    l: Plan,
+    l: Vectors,
     flag: &[u32],
     from: &[u32],
     to: &[u32],
@@ -137,11 +137,11 @@ fn soften_inside(
     aligned_inside(work, h, mass, l, flag, from, to, t);
 }
 
-// The targets hold on the boundary: the right-hand side there, and elsewhere less the coupling, which stands in the plan's x; and the boundary's rows.
+// The targets hold on the boundary: the right-hand side there, and elsewhere less the coupling, which stands in the solver's x; and the boundary's rows.
 fn fix_boundary(
     work: &mut [f64],
     h: Hermitian,
-    l: Plan,
+    l: Vectors,
     targets: usize,
     flag: &[u32],
     from: &[u32],
@@ -165,7 +165,7 @@ pub fn tangent_system(
     work: &mut [f64],
     h: Hermitian,
     mass: Hermitian,
-    l: Plan,
+    l: Vectors,
     targets: usize,
     flag: &[u32],
     from: &[u32],

@@ -82,14 +82,14 @@ fn some(fd: i32, seen: Tally) -> Tally {
     rows::judged(seen, entry(fd, text, must))
 }
 
-// The whole list. The turns only fall so that the loop is known to end.
+// The whole list. The iterations only fall so that the loop is known to end.
 fn main() {
     let fd = replay::open(b"texts");
     let mut seen = rows::unseen();
-    let mut turns = u64::MAX;
-    while turns > 0 && seen.more {
+    let mut iterations = u64::MAX;
+    while iterations > 0 && seen.more {
         seen = some(fd, seen);
-        turns -= 1;
+        iterations -= 1;
     }
     replay::report(b"texts", seen.recorded, seen.differ);
     libc::close(fd);

@@ -1,4 +1,4 @@
--- The turns of the loop that inverts a diagonal. Assumes nothing.
+-- The iterations of the loop that inverts a diagonal. Assumes nothing.
 use mathlib.Core.Path.{_≡_, sym, ap, _∙_}
 use mathlib.Core.List.{List}
 use Prim.Native.Nat.{ℕ, _+_, _≤_, _<_}

@@ -1,4 +1,4 @@
--- The turns of the loop that scales a vector. Assumes nothing.
+-- The iterations of the loop that scales a vector. Assumes nothing.
 use mathlib.Core.Path.{_≡_, ap, _∙_}
 use mathlib.Core.List.{List}
 use Prim.Native.Nat.{ℕ, _+_, _*_, _≤_, _<_}

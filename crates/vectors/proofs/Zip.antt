@@ -1,4 +1,4 @@
--- A loop over two vectors that changes one of them: turn i sets y i to f (y i) (x i). Assumes nothing.
+-- A loop over two vectors that changes one of them: iteration i sets y i to f (y i) (x i). Assumes nothing.
 use mathlib.Core.Path.{_≡_, refl, sym, ap, _∙_}
 use mathlib.Core.List.{List}
 use Prim.Native.Nat.{ℕ, _+_, _*_, _≤_, _<_}
@@ -27,7 +27,7 @@ pub getD-scaled : (d : List Float) (x : List Complex) {n : ℕ} → length x ≡
 unfolding scaled
 getD-scaled d x e i l = getD-tab _ (length x) i cnan (rw e l)
 
--- ---- y's region after i turns, where u is the other vector
+-- ---- y's region after i iterations, where u is the other vector
 module _ (w : List Float) (y n : ℕ) (f : Complex → Complex → Complex) (u : List Complex) where
   zipAt : ℕ → Complex → Complex
   zipAt i z = f z (getD u i cnan)
@@ -48,7 +48,7 @@ module _ (w : List Float) (y n : ℕ) (f : Complex → Complex → Complex) (u :
   unfolding zipTo
   zipTo-none = over-none _ cnan (regionC w y n)
 
-  -- after i turns: what is read at j, where it is yet to be changed, and where it is changed. Other regions of the slice v may differ
+  -- after i iterations: what is read at j, where it is yet to be changed, and where it is changed. Other regions of the slice v may differ
   pub zip-todo : (v : List Float) → y + 2 * n ≤ length v → (i j : ℕ) → i ≤ j → j < n → getC (putC v y (zipTo i)) y n j ≡ getC w y n j
   unfolding zipTo
   zip-todo v h i j g l = putC-at v y (zipTo i) (length-zipTo i) j l h ∙ over-todo zipAt cnan i (regionC w y n) j g ∙ getD-regionC w y n j l
@@ -60,7 +60,7 @@ module _ (w : List Float) (y n : ℕ) (f : Complex → Complex → Complex) (u :
       ∙ over-done zipAt cnan i (regionC w y n) j g (rw length-regionC l)
       ∙ ap (λ z. f z (getD u j cnan)) (getD-regionC w y n j (omega arith))
 
-  -- turn i stores
+  -- iteration i stores
   pub zip-cell : (v : List Float) → y + 2 * n ≤ length v → (i : ℕ) → i < n → setC (putC v y (zipTo i)) y n i (f (getC w y n i) (getD u i cnan)) ≡ putC v y (zipTo (i + 1))
   unfolding zipTo zipAt
   zip-cell v h i l = rw (← getD-regionC w y n i l) (over-cell zipAt v y (regionC w y n) (length-regionC w y n) h i l)

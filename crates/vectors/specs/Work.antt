@@ -1,4 +1,4 @@
--- What the passes require of the work slice, and the turns of their loops on the flat list.
+-- What the passes require of the work slice, and the iterations of their loops on the flat list.
 use mathlib.Core.List.{List}
 use Prim.Native.Nat.{ℕ, _+_, _*_, _≤_}
 use lib.ListN.{getD}

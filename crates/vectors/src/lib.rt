@@ -18,7 +18,7 @@ ghost use Rattle.hermitian.specs.Work.{PairRoom};
 ghost use Rattle.vectors.specs.Vectors.{zipOf, addScaled, recipsOf, scaledBy};
 ghost use Rattle.vectors.specs.Work.{DirectRoom, nextC, directC};
 
-fn invert_turn(work: &mut [f64], y: usize, d: usize, i: usize)
+fn invert_at(work: &mut [f64], y: usize, d: usize, i: usize)
     requires { ⌜ (y + i < length (now work)) × (d + i < length (now work)) ⌝ }
     ensures { λ _. ⌜ now (work .exit) ≡ set (now (work .entry)) (y + i) (recipOf (getD (now (work .entry)) (d + i) nan)) ⌝ }
 {
@@ -32,7 +32,7 @@ pub fn invert(work: &mut [f64], y: usize, d: usize, n: usize)
     ensures { λ _. ⌜ now (work .exit) ≡ put (now (work .entry)) y (recipsOf (region nan (now (work .entry)) d n)) ⌝ }
 {
     for i in 0..n {
-        invert_turn(work, y, d, i);
+        invert_at(work, y, d, i);
     }
 }
 
@@ -43,7 +43,7 @@ fn add_scaled(y: Complex, x: Complex, k: f64) -> Complex
     y.add(x.scale(k))
 }
 
-fn advance_turn(work: &mut [f64], y: usize, x: usize, n: usize, alpha: f64, i: usize)
+fn advance_at(work: &mut [f64], y: usize, x: usize, n: usize, alpha: f64, i: usize)
     requires { ⌜ (i < n) × (y + n + i < length (now work)) × (x + n + i < length (now work)) ⌝ }
     ensures { λ _. ⌜ now (work .exit) ≡ setC (now (work .entry)) y n i (addScaled alpha (getC (now (work .entry)) y n i) (getC (now (work .entry)) x n i)) ⌝ }
 {
@@ -57,7 +57,7 @@ pub fn advance(work: &mut [f64], y: usize, x: usize, n: usize, alpha: f64)
     ensures { λ _. ⌜ now (work .exit) ≡ putC (now (work .entry)) y (zipOf (addScaled alpha) (regionC (now (work .entry)) y n) (regionC (now (work .entry)) x n)) ⌝ }
 {
     for i in 0..n {
-        advance_turn(work, y, x, n, alpha, i);
+        advance_at(work, y, x, n, alpha, i);
     }
 }
 
@@ -95,7 +95,7 @@ fn next_at(
     }
 }
 
-fn direct_turn(
+fn direct_at(
     work: &mut [f64],
     x: usize,
     p: usize,
@@ -131,11 +131,11 @@ pub fn direct(
         p (zipOf (addScaled beta) (scaled (region nan (now (work .entry)) inverse n) (regionC (now (work .entry)) r n)) (regionC (now (work .entry)) p n)) ⌝ }
 {
     for i in 0..n {
-        direct_turn(work, x, p, r, inverse, n, alpha, beta, i);
+        direct_at(work, x, p, r, inverse, n, alpha, beta, i);
     }
 }
 
-fn scale_turn(work: &mut [f64], x: usize, n: usize, k: f64, i: usize)
+fn scale_at(work: &mut [f64], x: usize, n: usize, k: f64, i: usize)
     requires { ⌜ (i < n) × (x + n + i < length (now work)) ⌝ }
     ensures { λ _. ⌜ now (work .exit) ≡ setC (now (work .entry)) x n i (cscale (getC (now (work .entry)) x n i) k) ⌝ }
 {
@@ -149,6 +149,6 @@ pub fn scale_by(work: &mut [f64], x: usize, n: usize, k: f64)
     ensures { λ _. ⌜ now (work .exit) ≡ putC (now (work .entry)) x (scaledBy k (regionC (now (work .entry)) x n)) ⌝ }
 {
     for i in 0..n {
-        scale_turn(work, x, n, k, i);
+        scale_at(work, x, n, k, i);
     }
 }

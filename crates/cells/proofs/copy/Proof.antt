@@ -1,4 +1,4 @@
--- `cells::copy` meets its contract: the loop keeps what `Inv-loop` says, and what is left to do falls at each turn; the laws are in proofs/Writes.
+-- `cells::copy` meets its contract: the loop keeps what `Inv-loop` says, and what is left to do falls at each iteration; the laws are in proofs/Writes.
 use Rattle.cells.proofs.Writes.{copyTo, copy-none, copy-again, copy-done}
 use Rattle.cells.specs.Region.{put}
 use mathlib.Core.Path.{_≡_}
@@ -17,8 +17,8 @@ abbrev μ-loop : tie.MeasureT-loop
 loop-holds : tie.Need-loop-holds Inv-loop μ-loop
 loop-holds c = search (copy-none, needs)
 
-copy-turn-requires : tie.Need-copy-turn-requires Inv-loop μ-loop
-copy-turn-requires c κs = search needs
+copy-at-requires : tie.Need-copy-at-requires Inv-loop μ-loop
+copy-at-requires c κs = search needs
 
 add-i : tie.Need-add-i Inv-loop μ-loop
 add-i c = search needs
@@ -42,7 +42,7 @@ copy-spec =
     Inv-loop
     μ-loop
     loop-holds
-    copy-turn-requires
+    copy-at-requires
     add-i
     loop-less
     loop-again

@@ -1,4 +1,4 @@
--- `cells::fill` meets its contract: the loop keeps what `Inv-loop` says, and what is left to do falls at each turn; the laws are in proofs/Writes.
+-- `cells::fill` meets its contract: the loop keeps what `Inv-loop` says, and what is left to do falls at each iteration; the laws are in proofs/Writes.
 use Rattle.cells.proofs.Writes.{fillTo, fill-none, fill-again, fill-done}
 use Rattle.cells.specs.Region.{put}
 use lib.Ieee.{nan}

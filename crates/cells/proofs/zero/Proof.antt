@@ -1,4 +1,4 @@
--- `cells::zero` meets its contract: the loop keeps what `Inv-loop` says, and what is left to do falls at each turn; the laws are in proofs/Writes.
+-- `cells::zero` meets its contract: the loop keeps what `Inv-loop` says, and what is left to do falls at each iteration; the laws are in proofs/Writes.
 use Rattle.cells.proofs.Writes.{zeroTo, zero-none, zero-again, zero-done}
 use Rattle.float.specs.Double.{lit}
 use lib.Ieee.{nan}

@@ -1,4 +1,4 @@
--- `cells::zero_u32` meets its contract: the loop keeps what `Inv-loop` says, and what is left to do falls at each turn; the laws are in proofs/Writes.
+-- `cells::zero_u32` meets its contract: the loop keeps what `Inv-loop` says, and what is left to do falls at each iteration; the laws are in proofs/Writes.
 use Rattle.cells.proofs.Writes.{zeroTo, zero-none, zero-again, zero-done}
 use mathlib.Core.Path.{_≡_}
 use Prim.Native.Nat.{_≤_, _-_}

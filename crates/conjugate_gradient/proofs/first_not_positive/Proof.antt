@@ -1,4 +1,4 @@
--- `conjugate_gradient::first_not_positive` meets its contract: the loop keeps what `Inv-loop` says, and what is left to do falls at each turn; the laws are in proofs/Tests.
+-- `conjugate_gradient::first_not_positive` meets its contract: the loop keeps what `Inv-loop` says, and what is left to do falls at each iteration; the laws are in proofs/Tests.
 use Rattle.conjugate_gradient.proofs.Tests.{FitTo, scan-none, scan-again, scan-found, scan-done}
 use Prim.Native.Nat.{_≤_, _-_}
 use borrow.Author.Needs.{needs}

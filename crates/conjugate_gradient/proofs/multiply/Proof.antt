@@ -1,5 +1,5 @@
--- `conjugate_gradient::multiply` meets its contract: each return opens the definition and rewrites it by the tests and the calls on its way; the laws are in proofs/Turns.
-use Rattle.conjugate_gradient.proofs.Turns.{multiply-all}
+-- `conjugate_gradient::multiply` meets its contract: each return opens the definition and rewrites it by the tests and the calls on its way; the laws are in proofs/Iterations.
+use Rattle.conjugate_gradient.proofs.Iterations.{multiply-all}
 use Rattle.cells.proofs.Loops.{apart}
 use native.Mathlib.Omega.{arith}
 use borrow.Author.Needs.{needs}

@@ -1,5 +1,5 @@
--- `conjugate_gradient::step` meets its contract: each return opens the definition and rewrites it by the tests and the calls on its way; the laws are in proofs/Turns.
-use Rattle.conjugate_gradient.proofs.Turns.{step-converged, step-lost, step-going}
+-- `conjugate_gradient::step` meets its contract: each return opens the definition and rewrites it by the tests and the calls on its way; the laws are in proofs/Iterations.
+use Rattle.conjugate_gradient.proofs.Iterations.{step-converged, step-lost, step-going}
 use borrow.Author.Needs.{needs}
 use Rattle.conjugate_gradient.proofs.step.Statement.{statement}
 use Rattle.conjugate_gradient.proofs.step.Tie as tie

@@ -1,4 +1,4 @@
--- `geometries::geometries` meets its contract: the loop keeps what `Inv-loop` says, and what is left to do falls at each turn; the laws are in proofs/Steps.
+-- `geometries::geometries` meets its contract: the loop keeps what `Inv-loop` says, and what is left to do falls at each iteration; the laws are in proofs/Steps.
 use borrow.Author.Needs.{needs}
 use Rattle.geometries.proofs.Steps.{To, to-none, to-more, to-found, kept-done, kept-lengths, to-lengths, room-now, below-now}
 use Prim.Native.Nat.{_-_, _≤_}

@@ -1,4 +1,4 @@
--- `hermitian::dot` meets its contract: the loop keeps what `Inv-loop` says, and what is left to do falls at each turn; the laws are in proofs/Loops.
+-- `hermitian::dot` meets its contract: the loop keeps what `Inv-loop` says, and what is left to do falls at each iteration; the laws are in proofs/Loops.
 use Rattle.hermitian.proofs.Loops.{dotTo, dot-none, dot-again, dot-done}
 use mathlib.Core.Path.{_≡_}
 use Prim.Native.Nat.{_≤_, _-_}
@@ -18,8 +18,8 @@ new-requires c κs = search needs
 loop-holds : tie.Need-loop-holds Inv-loop μ-loop
 loop-holds c = search (dot-none, needs)
 
-dot-turn-requires : tie.Need-dot-turn-requires Inv-loop μ-loop
-dot-turn-requires c κs = search needs
+dot-at-requires : tie.Need-dot-at-requires Inv-loop μ-loop
+dot-at-requires c κs = search needs
 
 add-i : tie.Need-add-i Inv-loop μ-loop
 add-i c = search needs
@@ -41,7 +41,7 @@ dot-spec =
     μ-loop
     new-requires
     loop-holds
-    dot-turn-requires
+    dot-at-requires
     add-i
     loop-less
     loop-again

@@ -1,4 +1,4 @@
--- `hermitian::dot_re` meets its contract: the loop keeps what `Inv-loop` says, and what is left to do falls at each turn; the laws are in proofs/Loops.
+-- `hermitian::dot_re` meets its contract: the loop keeps what `Inv-loop` says, and what is left to do falls at each iteration; the laws are in proofs/Loops.
 use Rattle.hermitian.proofs.Loops.{reTo, re-none, re-again, re-done}
 use mathlib.Core.Path.{_≡_}
 use Prim.Native.Nat.{_≤_, _-_}
@@ -15,8 +15,8 @@ abbrev μ-loop : tie.MeasureT-loop
 loop-holds : tie.Need-loop-holds Inv-loop μ-loop
 loop-holds c = search (re-none, needs)
 
-dot-re-turn-requires : tie.Need-dot-re-turn-requires Inv-loop μ-loop
-dot-re-turn-requires c κs = search needs
+dot-re-at-requires : tie.Need-dot-re-at-requires Inv-loop μ-loop
+dot-re-at-requires c κs = search needs
 
 add-i : tie.Need-add-i Inv-loop μ-loop
 add-i c = search needs
@@ -33,4 +33,4 @@ returns c = search re-done
 pub dot-re-spec : {M : Type 1} → statement M
 dot-re-spec =
     tie.close
-    (tie.spec Inv-loop μ-loop loop-holds dot-re-turn-requires add-i loop-less loop-again returns)
+    (tie.spec Inv-loop μ-loop loop-holds dot-re-at-requires add-i loop-less loop-again returns)

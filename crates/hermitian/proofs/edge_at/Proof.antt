@@ -22,14 +22,14 @@ shared-slice-read-wide-2 c = search needs
 wide-requires-2 : tie.Need-wide-requires-2
 wide-requires-2 c κs = search needs
 
-edge-turn-requires : tie.Need-edge-turn-requires
-edge-turn-requires c κs = search needs
+edge-one-requires : tie.Need-edge-one-requires
+edge-one-requires c κs = search needs
 
 same-length : tie.Need-same-length
 same-length c = search needs
 
 returns : tie.Need-returns
-returns c = c .before .before .edge-turn .ensures ∙ rw (c .before .before .before .before .before .wide .ensures, c .before .before .before .wide2 .ensures)
+returns c = c .before .before .edge-one .ensures ∙ rw (c .before .before .before .before .before .wide .ensures, c .before .before .before .wide2 .ensures)
 
 pub edge-at-spec : {M : Type 1} → statement M
 edge-at-spec =
@@ -41,6 +41,6 @@ edge-at-spec =
     mul-wide-2
     shared-slice-read-wide-2
     wide-requires-2
-    edge-turn-requires
+    edge-one-requires
     same-length
     returns)

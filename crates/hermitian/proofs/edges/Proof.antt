@@ -1,4 +1,4 @@
--- `hermitian::edges` meets its contract: the loop keeps what `Inv-loop` says, and what is left to do falls at each turn; the laws are in proofs/Product.
+-- `hermitian::edges` meets its contract: the loop keeps what `Inv-loop` says, and what is left to do falls at each iteration; the laws are in proofs/Product.
 use native.Mathlib.Omega.{arith}
 use Rattle.hermitian.proofs.Product.{edgesTo, edges-none, edges-again, edges-done}
 use Rattle.cells.specs.Cell.{putC}

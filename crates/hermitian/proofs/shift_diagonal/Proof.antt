@@ -1,4 +1,4 @@
--- `hermitian::shift_diagonal` meets its contract: the loop keeps what `Inv-loop` says, and what is left to do falls at each turn; the laws are in proofs/Shift.
+-- `hermitian::shift_diagonal` meets its contract: the loop keeps what `Inv-loop` says, and what is left to do falls at each iteration; the laws are in proofs/Shift.
 use Rattle.hermitian.proofs.Shift.{shiftRealTo, shift-real-none, shift-real-again, shift-real-done}
 use Rattle.cells.specs.Region.{put}
 use mathlib.Core.Path.{_≡_}
@@ -17,8 +17,8 @@ abbrev μ-loop : tie.MeasureT-loop
 loop-holds : tie.Need-loop-holds Inv-loop μ-loop
 loop-holds c = search (shift-real-none, needs)
 
-shift-real-turn-requires : tie.Need-shift-real-turn-requires Inv-loop μ-loop
-shift-real-turn-requires c κs = search needs
+shift-real-at-requires : tie.Need-shift-real-at-requires Inv-loop μ-loop
+shift-real-at-requires c κs = search needs
 
 add-i : tie.Need-add-i Inv-loop μ-loop
 add-i c = search needs
@@ -42,7 +42,7 @@ shift-diagonal-spec =
     Inv-loop
     μ-loop
     loop-holds
-    shift-real-turn-requires
+    shift-real-at-requires
     add-i
     loop-less
     loop-again

@@ -1,4 +1,4 @@
--- `hermitian::shift_off` meets its contract: the loop keeps what `Inv-loop` says, and what is left to do falls at each turn; the laws are in proofs/Shift.
+-- `hermitian::shift_off` meets its contract: the loop keeps what `Inv-loop` says, and what is left to do falls at each iteration; the laws are in proofs/Shift.
 use Rattle.hermitian.proofs.Shift.{shiftTo, shift-none, shift-again, shift-done}
 use Rattle.cells.specs.Cell.{putC}
 use mathlib.Core.Path.{_≡_}
@@ -17,8 +17,8 @@ abbrev μ-loop : tie.MeasureT-loop
 loop-holds : tie.Need-loop-holds Inv-loop μ-loop
 loop-holds c = search (shift-none, needs)
 
-shift-turn-requires : tie.Need-shift-turn-requires Inv-loop μ-loop
-shift-turn-requires c κs = search needs
+shift-at-requires : tie.Need-shift-at-requires Inv-loop μ-loop
+shift-at-requires c κs = search needs
 
 add-i : tie.Need-add-i Inv-loop μ-loop
 add-i c = search needs
@@ -42,7 +42,7 @@ shift-off-spec =
     Inv-loop
     μ-loop
     loop-holds
-    shift-turn-requires
+    shift-at-requires
     add-i
     loop-less
     loop-again

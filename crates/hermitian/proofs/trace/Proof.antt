@@ -1,4 +1,4 @@
--- `hermitian::trace` meets its contract: the loop keeps what `Inv-loop` says, and what is left to do falls at each turn; the laws are in proofs/Shift.
+-- `hermitian::trace` meets its contract: the loop keeps what `Inv-loop` says, and what is left to do falls at each iteration; the laws are in proofs/Shift.
 use mathlib.Core.Path.{refl, _≡_}
 use Rattle.hermitian.proofs.Shift.{traceTo, trace-none, trace-again, trace-done}
 use Prim.Native.Nat.{_≤_, _-_}
@@ -15,8 +15,8 @@ abbrev μ-loop : tie.MeasureT-loop
 loop-holds : tie.Need-loop-holds Inv-loop μ-loop
 loop-holds c = search (trace-none, needs)
 
-trace-turn-requires : tie.Need-trace-turn-requires Inv-loop μ-loop
-trace-turn-requires c κs = search needs
+trace-at-requires : tie.Need-trace-at-requires Inv-loop μ-loop
+trace-at-requires c κs = search needs
 
 add-i : tie.Need-add-i Inv-loop μ-loop
 add-i c = search needs
@@ -33,4 +33,4 @@ returns c = search trace-done
 pub trace-spec : {M : Type 1} → statement M
 trace-spec =
     tie.close
-    (tie.spec Inv-loop μ-loop loop-holds trace-turn-requires add-i loop-less loop-again returns)
+    (tie.spec Inv-loop μ-loop loop-holds trace-at-requires add-i loop-less loop-again returns)

@@ -1,4 +1,4 @@
--- `layers::edges_good` meets its contract: the loop keeps what `Inv-loop` says, and what is left to do falls at each turn; the laws are in proofs/Tests.
+-- `layers::edges_good` meets its contract: the loop keeps what `Inv-loop` says, and what is left to do falls at each iteration; the laws are in proofs/Tests.
 use Rattle.layers.proofs.Tests.{not-true, not-false}
 use mathlib.Core.Bool.{false}
 use Rattle.layers.proofs.Tests.{all-none, edges-again, edges-not, edges-done}

@@ -18,17 +18,17 @@ returns c = told-refused _ _ _ _ _ _ (c .before .is-good .ensures) (not-true _ (
 matrix-for-requires : tie.Need-matrix-for-requires
 matrix-for-requires c κs = search needs
 
-plan-for-requires : tie.Need-plan-for-requires
-plan-for-requires c κs = omega (arith, small _ _ _ _ (c .before .before .is-good .ensures) (not-false _ (c .before .if1 .left)))
+vectors-for-requires : tie.Need-vectors-for-requires
+vectors-for-requires c κs = omega (arith, small _ _ _ _ (c .before .before .is-good .ensures) (not-false _ (c .before .if1 .left)))
 
 conjugate-gradient-requires : tie.Need-conjugate-gradient-requires
-conjugate-gradient-requires c κs = solve-needs _ _ _ _ (c .before .before .before .before .is-good .ensures) (not-false _ (c .before .before .before .if1 .left)) (c .before .before .matrix-for .ensures) (c .before .plan-for .ensures)
+conjugate-gradient-requires c κs = solve-needs _ _ _ _ (c .before .before .before .before .is-good .ensures) (not-false _ (c .before .before .before .if1 .left)) (c .before .before .matrix-for .ensures) (c .before .vectors-for .ensures)
 
 same-length-2 : tie.Need-same-length-2
 same-length-2 c = search needs
 
 returns-2 : tie.Need-returns-2
-returns-2 c = told-solved _ _ _ _ _ _ (c .before .before .before .before .before .before .before .is-good .ensures) (not-false _ (c .before .before .before .before .before .before .if1 .left)) (c .before .before .before .before .before .matrix-for .ensures) (c .before .before .before .before .plan-for .ensures) (c .before .before .conjugate-gradient .ensures)
+returns-2 c = told-solved _ _ _ _ _ _ (c .before .before .before .before .before .before .before .is-good .ensures) (not-false _ (c .before .before .before .before .before .before .if1 .left)) (c .before .before .before .before .before .matrix-for .ensures) (c .before .before .before .before .vectors-for .ensures) (c .before .before .conjugate-gradient .ensures)
 
 pub layers-conjugate-gradient-spec : {M : Type 1} → statement M
 layers-conjugate-gradient-spec =
@@ -38,7 +38,7 @@ layers-conjugate-gradient-spec =
     same-length
     returns
     matrix-for-requires
-    plan-for-requires
+    vectors-for-requires
     conjugate-gradient-requires
     same-length-2
     returns-2)

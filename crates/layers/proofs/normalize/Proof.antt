@@ -19,17 +19,17 @@ returns c = normalize-refused _ _ _ _ nan 0 (c .before .is-good .ensures) (not-t
 matrix-for-requires : tie.Need-matrix-for-requires
 matrix-for-requires c κs = search needs
 
-plan-for-requires : tie.Need-plan-for-requires
-plan-for-requires c κs = omega (arith, small _ _ _ _ (c .before .before .is-good .ensures) (not-false _ (c .before .if1 .left)))
+vectors-for-requires : tie.Need-vectors-for-requires
+vectors-for-requires c κs = omega (arith, small _ _ _ _ (c .before .before .is-good .ensures) (not-false _ (c .before .if1 .left)))
 
 normalize-in-mass-requires : tie.Need-normalize-in-mass-requires
-normalize-in-mass-requires c κs = normalize-needs _ _ _ _ (c .before .before .before .before .is-good .ensures) (not-false _ (c .before .before .before .if1 .left)) (c .before .before .matrix-for .ensures) (c .before .plan-for .ensures)
+normalize-in-mass-requires c κs = normalize-needs _ _ _ _ (c .before .before .before .before .is-good .ensures) (not-false _ (c .before .before .before .if1 .left)) (c .before .before .matrix-for .ensures) (c .before .vectors-for .ensures)
 
 same-length-2 : tie.Need-same-length-2
 same-length-2 c = search needs
 
 returns-2 : tie.Need-returns-2
-returns-2 c = normalize-normal _ _ _ _ nan 0 (c .before .before .before .before .before .before .before .is-good .ensures) (not-false _ (c .before .before .before .before .before .before .if1 .left)) (c .before .before .before .before .before .matrix-for .ensures) (c .before .before .before .before .plan-for .ensures) (c .before .before .normalize-in-mass .ensures)
+returns-2 c = normalize-normal _ _ _ _ nan 0 (c .before .before .before .before .before .before .before .is-good .ensures) (not-false _ (c .before .before .before .before .before .before .if1 .left)) (c .before .before .before .before .before .matrix-for .ensures) (c .before .before .before .before .vectors-for .ensures) (c .before .before .normalize-in-mass .ensures)
 
 pub normalize-spec : {M : Type 1} → statement M
 normalize-spec =
@@ -39,7 +39,7 @@ normalize-spec =
     same-length
     returns
     matrix-for-requires
-    plan-for-requires
+    vectors-for-requires
     normalize-in-mass-requires
     same-length-2
     returns-2)

@@ -1,4 +1,4 @@
--- `linear::load_ends` is safe and ends: what is left to do falls at each turn.
+-- `linear::load_ends` is safe and ends: what is left to do falls at each iteration.
 use Prim.Native.Nat.{_≤_, _-_}
 use mathlib.Core.Path.{_≡_}
 use lib.ListN.{length}

@@ -1,4 +1,4 @@
--- `replay::word` meets its contract: after i turns the value is what the first i digits spell, and a word past the end spells 0. Assumes nothing.
+-- `replay::word` meets its contract: after i iterations the value is what the first i digits spell, and a word past the end spells 0. Assumes nothing.
 use Prim.Native.Nat.{_-_, _*_, _≤_}
 use native.Mathlib.Omega.{arith}
 use lib.ListN.{length}

@@ -1,4 +1,4 @@
--- `residual::add_cells` meets its contract: the loop keeps what `Inv-loop` says, and what is left to do falls at each turn; the laws are in proofs/Sweeps.
+-- `residual::add_cells` meets its contract: the loop keeps what `Inv-loop` says, and what is left to do falls at each iteration; the laws are in proofs/Sweeps.
 use Rattle.residual.proofs.Sweeps.{addTo, add-none, add-again, add-done}
 use mathlib.Core.Path.{_≡_}
 use Prim.Native.Nat.{_≤_, _-_}

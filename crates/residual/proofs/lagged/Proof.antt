@@ -1,4 +1,4 @@
--- `residual::lagged` meets its contract: the loop keeps what `Inv-loop` says, and what is left to do falls at each turn; the laws are in proofs/Sweeps.
+-- `residual::lagged` meets its contract: the loop keeps what `Inv-loop` says, and what is left to do falls at each iteration; the laws are in proofs/Sweeps.
 use Rattle.residual.proofs.Sweeps.{lagTo, lag-none, lag-again, lag-done}
 use mathlib.Core.Path.{_≡_}
 use Prim.Native.Nat.{_≤_, _-_}
@@ -18,8 +18,8 @@ abbrev μ-loop : tie.MeasureT-loop
 loop-holds : tie.Need-loop-holds Inv-loop μ-loop
 loop-holds c = search (lag-none, needs)
 
-lag-turn-requires : tie.Need-lag-turn-requires Inv-loop μ-loop
-lag-turn-requires c κs = omega arith
+lag-at-requires : tie.Need-lag-at-requires Inv-loop μ-loop
+lag-at-requires c κs = omega arith
 
 add-k : tie.Need-add-k Inv-loop μ-loop
 add-k c = search needs
@@ -43,7 +43,7 @@ lagged-spec =
     Inv-loop
     μ-loop
     loop-holds
-    lag-turn-requires
+    lag-at-requires
     add-k
     loop-less
     loop-again

@@ -22,8 +22,8 @@ returns c = reduce-few _ _ _ _ _ _ (c .before .before .before .before .before .b
 sub-count : tie.Need-sub-count
 sub-count c = search needs
 
-pair-turn-requires : tie.Need-pair-turn-requires
-pair-turn-requires c κs = search needs
+pair-at-requires : tie.Need-pair-at-requires
+pair-at-requires c κs = search needs
 
 lagged-requires : tie.Need-lagged-requires
 lagged-requires c κs = (search needs, half _ (c .before .before .before .before .before .if1 .left))
@@ -53,7 +53,7 @@ same-length-2 : tie.Need-same-length-2
 same-length-2 c = search needs
 
 returns-2 : tie.Need-returns-2
-returns-2 c = reduce-all _ _ _ _ _ _ (c .before .before .before .before .before .before .before .before .before .before .before .before .before .before .before .before .pre) _ (half _ (c .before .before .before .before .before .before .before .before .before .before .before .before .before .before .if1 .left)) (c .before .before .before .before .before .before .before .before .before .before .before .before .pair-turn .ensures) (c .before .before .before .before .before .before .before .before .lagged .ensures) (c .before .before .before .before .terms2 .ensures) (c .add-cells2 .ensures)
+returns-2 c = reduce-all _ _ _ _ _ _ (c .before .before .before .before .before .before .before .before .before .before .before .before .before .before .before .before .pre) _ (half _ (c .before .before .before .before .before .before .before .before .before .before .before .before .before .before .if1 .left)) (c .before .before .before .before .before .before .before .before .before .before .before .before .pair-at .ensures) (c .before .before .before .before .before .before .before .before .lagged .ensures) (c .before .before .before .before .terms2 .ensures) (c .add-cells2 .ensures)
 
 pub reduce-spec : {M : Type 1} → statement M
 reduce-spec =
@@ -65,7 +65,7 @@ reduce-spec =
     same-length
     returns
     sub-count
-    pair-turn-requires
+    pair-at-requires
     lagged-requires
     mul-first
     add-terms

@@ -1,4 +1,4 @@
--- `residual::terms` meets its contract: the loop keeps what `Inv-loop` says, and what is left to do falls at each turn; the laws are in proofs/Sweeps.
+-- `residual::terms` meets its contract: the loop keeps what `Inv-loop` says, and what is left to do falls at each iteration; the laws are in proofs/Sweeps.
 use Rattle.residual.proofs.Sweeps.{termsTo, terms-none, terms-again, terms-done}
 use mathlib.Core.Path.{_≡_}
 use Prim.Native.Nat.{_≤_, _-_}
@@ -17,11 +17,11 @@ abbrev μ-loop : tie.MeasureT-loop
 loop-holds : tie.Need-loop-holds Inv-loop μ-loop
 loop-holds c = search (terms-none, needs)
 
-add-term-turn : tie.Need-add-term-turn Inv-loop μ-loop
-add-term-turn c = search needs
+add-term-one : tie.Need-add-term-one Inv-loop μ-loop
+add-term-one c = search needs
 
-term-turn-requires : tie.Need-term-turn-requires Inv-loop μ-loop
-term-turn-requires c κs = omega arith
+term-one-requires : tie.Need-term-one-requires Inv-loop μ-loop
+term-one-requires c κs = omega arith
 
 add-k : tie.Need-add-k Inv-loop μ-loop
 add-k c = search needs
@@ -45,8 +45,8 @@ terms-spec =
     Inv-loop
     μ-loop
     loop-holds
-    add-term-turn
-    term-turn-requires
+    add-term-one
+    term-one-requires
     add-k
     loop-less
     loop-again

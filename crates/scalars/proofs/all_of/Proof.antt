@@ -1,13 +1,13 @@
--- `scalars::all_of` is safe and ends: what is left to do falls at each turn.
+-- `scalars::all_of` is safe and ends: what is left to do falls at each iteration.
 use borrow.Author.Needs.{needs}
 use Rattle.scalars.proofs.all_of.Statement.{statement}
 use Rattle.scalars.proofs.all_of.Tie as tie
 
 abbrev Inv-loop : tie.InvT-loop
-Inv-loop name list fd seen₀ turns₀ seen turns = Unit {0}
+Inv-loop name list fd seen₀ iterations₀ seen iterations = Unit {0}
 
 abbrev μ-loop : tie.MeasureT-loop
-μ-loop name list fd seen₀ turns₀ seen turns = turns
+μ-loop name list fd seen₀ iterations₀ seen iterations = iterations
 
 open-requires : tie.Need-open-requires Inv-loop μ-loop
 open-requires c κs = search needs
@@ -21,8 +21,8 @@ loop-holds c = search needs
 some-requires : tie.Need-some-requires Inv-loop μ-loop
 some-requires c κs = search needs
 
-sub-turns : tie.Need-sub-turns Inv-loop μ-loop
-sub-turns c = search needs
+sub-iterations : tie.Need-sub-iterations Inv-loop μ-loop
+sub-iterations c = search needs
 
 loop-less : tie.Need-loop-less Inv-loop μ-loop
 loop-less c = search needs
@@ -49,7 +49,7 @@ all-of-spec =
     unseen-requires
     loop-holds
     some-requires
-    sub-turns
+    sub-iterations
     loop-less
     loop-again
     report-requires

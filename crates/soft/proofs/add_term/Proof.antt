@@ -1,4 +1,4 @@
--- `soft::add_term` meets its contract: the calls in turn; the laws are in proofs/Systems.
+-- `soft::add_term` meets its contract: the calls in order; the laws are in proofs/Systems.
 use native.Mathlib.Omega.{arith}
 use Rattle.cells.proofs.Loops.{apart}
 use Rattle.soft.proofs.Systems.{same-shift, term-off, term-added}

@@ -1,4 +1,4 @@
--- `systems::fix_boundary` meets its contract: the calls in turn; the laws are in proofs/Made.
+-- `systems::fix_boundary` meets its contract: the calls in order; the laws are in proofs/Made.
 use native.Mathlib.Omega.{arith}
 use Rattle.cells.proofs.Loops.{apart}
 use Rattle.systems.proofs.Made.{rows-room, fixed-all}

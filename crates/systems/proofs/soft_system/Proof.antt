@@ -1,4 +1,4 @@
--- `systems::soft_system` meets its contract: the calls in turn; the laws are in proofs/Made.
+-- `systems::soft_system` meets its contract: the calls in order; the laws are in proofs/Made.
 use Rattle.soft.proofs.Systems.{same-soft}
 use native.Mathlib.Omega.{arith}
 use Rattle.systems.proofs.Made.{soft-made}

@@ -1,4 +1,4 @@
--- `systems::soften_inside` meets its contract: the calls in turn; the laws are in proofs/Made.
+-- `systems::soften_inside` meets its contract: the calls in order; the laws are in proofs/Made.
 use Rattle.systems.proofs.Made.{same-system, inside-both}
 use borrow.Author.Needs.{needs}
 use Rattle.systems.proofs.soften_inside.Statement.{statement}

@@ -1,4 +1,4 @@
--- `systems::tangent_system` meets its contract: the calls in turn; the laws are in proofs/Made.
+-- `systems::tangent_system` meets its contract: the calls in order; the laws are in proofs/Made.
 use native.Mathlib.Omega.{arith}
 use Rattle.cells.proofs.Loops.{apart}
 use Rattle.systems.proofs.Made.{same-system, same-targets, tangent-made}

@@ -1,4 +1,4 @@
--- `systems::weak_system` meets its contract: the calls in turn; the laws are in proofs/Made.
+-- `systems::weak_system` meets its contract: the calls in order; the laws are in proofs/Made.
 use native.Mathlib.Omega.{arith}
 use Rattle.soft.proofs.Systems.{same-soft}
 use Rattle.systems.proofs.Made.{penalty-room, weak-made}

@@ -1,4 +1,4 @@
--- `texts::marked` is safe and ends: what is left of the slice falls at each turn. Assumes nothing.
+-- `texts::marked` is safe and ends: what is left of the slice falls at each iteration. Assumes nothing.
 use borrow.Author.Needs.{needs}
 use Prim.Native.Nat.{_-_}
 use lib.ListN.{length}

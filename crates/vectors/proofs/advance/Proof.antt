@@ -1,4 +1,4 @@
--- `vectors::advance` meets its contract: the loop keeps what `Inv-loop` says, and what is left to do falls at each turn; the laws are in proofs/Directions.
+-- `vectors::advance` meets its contract: the loop keeps what `Inv-loop` says, and what is left to do falls at each iteration; the laws are in proofs/Directions.
 use Rattle.vectors.proofs.Directions.{advanceTo, advance-none, advance-again, advance-done}
 use Rattle.cells.specs.Cell.{putC}
 use mathlib.Core.Path.{_≡_}
@@ -17,8 +17,8 @@ abbrev μ-loop : tie.MeasureT-loop
 loop-holds : tie.Need-loop-holds Inv-loop μ-loop
 loop-holds c = search (advance-none, needs)
 
-advance-turn-requires : tie.Need-advance-turn-requires Inv-loop μ-loop
-advance-turn-requires c κs = search needs
+advance-at-requires : tie.Need-advance-at-requires Inv-loop μ-loop
+advance-at-requires c κs = search needs
 
 add-i : tie.Need-add-i Inv-loop μ-loop
 add-i c = search needs
@@ -42,7 +42,7 @@ advance-spec =
     Inv-loop
     μ-loop
     loop-holds
-    advance-turn-requires
+    advance-at-requires
     add-i
     loop-less
     loop-again

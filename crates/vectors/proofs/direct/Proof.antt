@@ -1,4 +1,4 @@
--- `vectors::direct` meets its contract: the loop keeps what `Inv-loop` says, and what is left to do falls at each turn; the laws are in proofs/Directions.
+-- `vectors::direct` meets its contract: the loop keeps what `Inv-loop` says, and what is left to do falls at each iteration; the laws are in proofs/Directions.
 use Rattle.vectors.proofs.Directions.{directTo, direct-none, direct-again, direct-done}
 use mathlib.Core.Path.{_≡_}
 use Prim.Native.Nat.{_≤_, _-_}
@@ -16,8 +16,8 @@ abbrev μ-loop : tie.MeasureT-loop
 loop-holds : tie.Need-loop-holds Inv-loop μ-loop
 loop-holds c = search (direct-none, needs)
 
-direct-turn-requires : tie.Need-direct-turn-requires Inv-loop μ-loop
-direct-turn-requires c κs = search needs
+direct-at-requires : tie.Need-direct-at-requires Inv-loop μ-loop
+direct-at-requires c κs = search needs
 
 add-i : tie.Need-add-i Inv-loop μ-loop
 add-i c = search needs
@@ -41,7 +41,7 @@ direct-spec =
     Inv-loop
     μ-loop
     loop-holds
-    direct-turn-requires
+    direct-at-requires
     add-i
     loop-less
     loop-again

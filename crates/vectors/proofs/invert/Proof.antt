@@ -1,4 +1,4 @@
--- `vectors::invert` meets its contract: the loop keeps what `Inv-loop` says, and what is left to do falls at each turn; the laws are in proofs/Inverses.
+-- `vectors::invert` meets its contract: the loop keeps what `Inv-loop` says, and what is left to do falls at each iteration; the laws are in proofs/Inverses.
 use Rattle.vectors.proofs.Inverses.{invertTo, invert-none, invert-again, invert-done}
 use Rattle.cells.specs.Region.{put}
 use mathlib.Core.Path.{_≡_}
@@ -17,8 +17,8 @@ abbrev μ-loop : tie.MeasureT-loop
 loop-holds : tie.Need-loop-holds Inv-loop μ-loop
 loop-holds c = search (invert-none, needs)
 
-invert-turn-requires : tie.Need-invert-turn-requires Inv-loop μ-loop
-invert-turn-requires c κs = search needs
+invert-at-requires : tie.Need-invert-at-requires Inv-loop μ-loop
+invert-at-requires c κs = search needs
 
 add-i : tie.Need-add-i Inv-loop μ-loop
 add-i c = search needs
@@ -42,7 +42,7 @@ invert-spec =
     Inv-loop
     μ-loop
     loop-holds
-    invert-turn-requires
+    invert-at-requires
     add-i
     loop-less
     loop-again

@@ -1,4 +1,4 @@
--- `vectors::scale_by` meets its contract: the loop keeps what `Inv-loop` says, and what is left to do falls at each turn; the laws are in proofs/Scale.
+-- `vectors::scale_by` meets its contract: the loop keeps what `Inv-loop` says, and what is left to do falls at each iteration; the laws are in proofs/Scale.
 use Rattle.vectors.proofs.Scale.{scaleTo, scale-none, scale-again, scale-done}
 use Rattle.cells.specs.Cell.{putC}
 use mathlib.Core.Path.{_≡_}
@@ -17,8 +17,8 @@ abbrev μ-loop : tie.MeasureT-loop
 loop-holds : tie.Need-loop-holds Inv-loop μ-loop
 loop-holds c = search (scale-none, needs)
 
-scale-turn-requires : tie.Need-scale-turn-requires Inv-loop μ-loop
-scale-turn-requires c κs = search needs
+scale-at-requires : tie.Need-scale-at-requires Inv-loop μ-loop
+scale-at-requires c κs = search needs
 
 add-i : tie.Need-add-i Inv-loop μ-loop
 add-i c = search needs
@@ -42,7 +42,7 @@ scale-by-spec =
     Inv-loop
     μ-loop
     loop-holds
-    scale-turn-requires
+    scale-at-requires
     add-i
     loop-less
     loop-again

@@ -1,11 +1,8 @@
--- `replay::rows::double` meets its contract: each return follows from the tests and the calls on its way.
+-- `replay::rows::double` meets its contract: what its calls ensure.
 use borrow.Author.Needs.{needs}
 use mathlib.Core.Path.{_∙_}
 use Rattle.replay.proofs.rows.double.Statement.{statement}
 use Rattle.replay.proofs.rows.double.Tie as tie
-
-add-word : tie.Need-add-word
-add-word c = search needs
 
 word-requires : tie.Need-word-requires
 word-requires c κs = search needs
@@ -17,4 +14,4 @@ returns : tie.Need-returns
 returns c = c .from-bits .ensures ∙ rw (c .before .word .ensures)
 
 pub double-spec : {M : Type 1} → statement M
-double-spec = tie.close (tie.spec add-word word-requires from-bits-requires returns)
+double-spec = tie.close (tie.spec word-requires from-bits-requires returns)
