@@ -17,6 +17,7 @@ use Rattle.floor.specs.declared.Check.{Check}
 use Rattle.floor.specs.declared.Check.the-variants.{Sound, Refused}
 use Rattle.floor.specs.Checks.{row, wellFormed, notFiniteOrBelowZero, andThen, checkFloor}
 use Rattle.floor.proofs.Rows.{or-none, whole-slices}
+use Rattle.refinement.specs.declared.Cut.{Cut}
 use Rattle.refinement.specs.Flag.{flaggedTri}
 use Rattle.refinement.specs.Floor.{tris, trisOf, cornersOf, endsOf, Refined, refinementOf}
 use Rattle.refinement.specs.Steps.{CutTo}
@@ -153,25 +154,25 @@ module _ (threshold : Float) (angles points sizes : List Float) (l : List ℕ) w
   t : ℕ
   t = length l / 3
 
-  pub filled : {w w′ : List ℕ} {m k c : ℕ} {newPoints newSizes newPoints′ newSizes′ : List Float} {newTriangles cutEnds newTriangles′ cutEnds′ : List ℕ}
+  pub filled : {w w′ : List ℕ} {cut : Cut} {k : ℕ} {newPoints newSizes newPoints′ newSizes′ : List Float} {newTriangles cutEnds newTriangles′ cutEnds′ : List ℕ}
       → Roomy (length points) (length l) (length sizes) (length newPoints) (length newSizes) (length newTriangles) (length cutEnds)
-      → CutTo 0 BUCKETS (flaggedTri threshold angles) l (length l / 3) w w′ m c
-      → Stored (refined (mid (length points / 3) (sidesIn 0 BUCKETS w′ m)) (tris l (length l / 3))) newTriangles 0 0 newTriangles′ k
-      → FilledFor points sizes (sidesIn 0 BUCKETS w′ m) newPoints newSizes cutEnds newPoints′ newSizes′ cutEnds′
-      → Filled (refinementOf threshold angles points sizes (trisOf l)) newPoints newSizes newTriangles cutEnds (record { points = length points / 3 + m; triangles = k; flagged = c; cut = m }) newPoints′ newSizes′ newTriangles′ cutEnds′
+      → CutTo (record { base = 0; buckets = BUCKETS; sides = 0 }) (flaggedTri threshold angles) l (length l / 3) w w′ cut
+      → Stored (refined (mid (length points / 3) (sidesIn 0 BUCKETS w′ (cut .sides))) (tris l (length l / 3))) newTriangles 0 0 newTriangles′ k
+      → FilledFor points sizes (sidesIn 0 BUCKETS w′ (cut .sides)) newPoints newSizes cutEnds newPoints′ newSizes′ cutEnds′
+      → Filled (refinementOf threshold angles points sizes (trisOf l)) newPoints newSizes newTriangles cutEnds (record { points = length points / 3 + cut .sides; triangles = k; flagged = cut .flagged; cut = cut .sides }) newPoints′ newSizes′ newTriangles′ cutEnds′
   unfolding f n t refinementOf refine
-  filled {w} {w′} {m} {k} {c} {newPoints} {newSizes} {newTriangles = newTriangles} {cutEnds} room cut tri put =
+  filled {w} {w′} {cut} {k} {newPoints} {newSizes} {newTriangles = newTriangles} {cutEnds} room found tri put =
       let L = cuts f (trisOf l) in
-      let s : sidesIn 0 BUCKETS w′ m ≡ cuts f (trisOf l) = cut .all-cut in
-      let len : m ≡ length (cuts f (trisOf l)) = sym (length-pairs (loOf 0 BUCKETS w′) (hiOf 0 BUCKETS w′) m) ∙ ap length s in
+      let s : sidesIn 0 BUCKETS w′ (cut .sides) ≡ cuts f (trisOf l) = found .all-cut in
+      let len : cut .sides ≡ length (cuts f (trisOf l)) = sym (length-pairs (loOf 0 BUCKETS w′) (hiOf 0 BUCKETS w′) (cut .sides)) ∙ ap length s in
       let new = refined (mid n L) (trisOf l) in
       let many : length new ≤ 4 * t = subst (λ (z : ℕ). length new ≤ 4 * z) (tris-length l t) (refined-most (mid n L) (trisOf l)) in
       let p = points-length points L in
       let z = sizes-length sizes L in
       record {
-        counts = counts-same (third (length (morePoints points L)) (n + m) (omega (arith, p, room .whole, len))) (rw s at (tri .counted) ∙ omega arith) (cut .counted) len;
-        points = rw s at (put .points) ∙ front newPoints (morePoints points L) (omega (arith, p, room .whole, len, room .in-points, cut .few));
-        sizes = rw s at (put .sizes) ∙ front newSizes (moreSizes sizes L) (omega (arith, z, room .sized, len, room .in-sizes, cut .few));
+        counts = counts-same (third (length (morePoints points L)) (n + cut .sides) (omega (arith, p, room .whole, len))) (rw s at (tri .counted) ∙ omega arith) (found .counted) len;
+        points = rw s at (put .points) ∙ front newPoints (morePoints points L) (omega (arith, p, room .whole, len, room .in-points, found .few));
+        sizes = rw s at (put .sizes) ∙ front newSizes (moreSizes sizes L) (omega (arith, z, room .sized, len, room .in-sizes, found .few));
         triangles = rw s at (tri .stands) ∙ front newTriangles (cornersOf new) (omega (arith, corners-length new, many, room .in-triangles));
-        ends = rw s at (put .ends) ∙ front cutEnds (endsOf L) (omega (arith, ends-length L, len, cut .few, room .in-ends));
+        ends = rw s at (put .ends) ∙ front cutEnds (endsOf L) (omega (arith, ends-length L, len, found .few, room .in-ends));
       }

@@ -131,9 +131,19 @@ fn refine_over(
 {
     let n = points.len() / 3;
     let t = triangles.len() / 3;
-    let cut = refinement::cut_sides(triangles, t, angles, threshold, w, 0, BUCKETS);
+    let empty = edges::Table {
+        base: 0,
+        buckets: BUCKETS,
+        sides: 0,
+    };
+    let cut = refinement::cut_sides(triangles, t, angles, threshold, w, empty);
     let m = cut.sides;
-    let k = refine_floor::refine_triangles(triangles, t, n, w, 0, BUCKETS, m, new_triangles);
+    let table = edges::Table {
+        base: 0,
+        buckets: BUCKETS,
+        sides: m,
+    };
+    let k = refine_floor::refine_triangles(triangles, t, n, w, table, new_triangles);
     put_floor(points, sizes, w, m, new_points, new_sizes, cut_ends);
     Counts {
         points: n + m,

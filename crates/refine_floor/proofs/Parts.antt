@@ -12,11 +12,12 @@ use Rattle.mesh.specs.Mesh.{Tri, Side, side, mid, pieces, refined}
 use Rattle.mesh.proofs.Theorem.{refined-append}
 use Rattle.areas.specs.Points.{midpoint, midpoints}
 use Rattle.areas.proofs.Points.{mids-length}
-use Rattle.edges.specs.Table.{pairs, sidesIn, loOf, hiOf, Held}
+use Rattle.edges.specs.declared.Table.{Table}
+use Rattle.edges.specs.Table.{pairs, sidesIn, loOf, hiOf, endOf}
 use Rattle.edges.proofs.Chain.{length-pairs}
 use Rattle.edges.proofs.Numbering.{held-within}
 use Rattle.refinement.specs.Floor.{tris, triAt, cornersOf, endsOf}
-use Rattle.refinement.specs.Steps.{Rows}
+use Rattle.refinement.specs.Steps.{HeldIn, cutsIn, Rows}
 use Rattle.refine_floor.specs.Stored.{Stored}
 use Rattle.refinement.proofs.Triangles.{corners-length, corners-append}
 use Rattle.refinement.proofs.Parts.{take-rows, four}
@@ -65,21 +66,21 @@ stands-again {m} {l} {out₀} {out} {out′} {at} {i} {a} {k} {k′} z h s =
 -- ---- triangles in the slice that has the table
 
 -- the table stays where it is
-pub record Within (n o N m : ℕ) (l w₀ : List ℕ) (at i : ℕ) (w : List ℕ) (k : ℕ) : Type 0 where
-  pub stands : Stands (mid n (sidesIn o N w₀ m)) l w₀ at i w k
-  pub held : Held o N w m
+pub record Within (n : ℕ) (t : Table) (l w₀ : List ℕ) (at i : ℕ) (w : List ℕ) (k : ℕ) : Type 0 where
+  pub stands : Stands (mid n (cutsIn t w₀)) l w₀ at i w k
+  pub held : HeldIn t w
 
-pub within-none : (n o N m : ℕ) (l w : List ℕ) (at : ℕ) → Held o N w m → Within n o N m l w at 0 w 0
-within-none n o N m l w at h = record { stands = stands-none (mid n (sidesIn o N w m)) l w at; held = h }
+pub within-none : (n : ℕ) (t : Table) (l w : List ℕ) (at : ℕ) → HeldIn t w → Within n t l w at 0 w 0
+within-none n t l w at h = record { stands = stands-none (mid n (cutsIn t w)) l w at; held = h }
 
-pub within-again : {n o N m : ℕ} {l w₀ : List ℕ} {at i : ℕ} {w w′ : List ℕ} {k k′ : ℕ} → o + N + 3 * m ≤ at → Held o N w₀ m → Within n o N m l w₀ at i w k
-    → Stored (pieces (mid n (sidesIn o N w m)) (triAt l i)) w (at + 3 * k) k w′ k′ → Within n o N m l w₀ at (i + 1) w′ k′
-within-again {n} {o} {N} {m} {l} {w₀} {at} {i} {w} {w′} {k} {k′} behind h t s =
-    let old = held-within o N m at w₀ (cornersOf (refined (mid n (sidesIn o N w₀ m)) (tris l i))) behind (t .stands .stored .stands) h in
-    let new = stands-again refl (t .stands) (rw (old .1) at s) in
+pub within-again : {n : ℕ} {t : Table} {l w₀ : List ℕ} {at i : ℕ} {w w′ : List ℕ} {k k′ : ℕ} → endOf t ≤ at → HeldIn t w₀ → Within n t l w₀ at i w k
+    → Stored (pieces (mid n (cutsIn t w)) (triAt l i)) w (at + 3 * k) k w′ k′ → Within n t l w₀ at (i + 1) w′ k′
+within-again {n} {t} {l} {w₀} {at} {i} {w} {w′} {k} {k′} behind h so-far s =
+    let old = held-within (t .base) (t .buckets) (t .sides) at w₀ (cornersOf (refined (mid n (cutsIn t w₀)) (tris l i))) behind (so-far .stands .stored .stands) h in
+    let new = stands-again refl (so-far .stands) (rw (old .1) at s) in
     record {
       stands = new;
-      held = held-within o N m at w₀ (cornersOf (refined (mid n (sidesIn o N w₀ m)) (tris l (i + 1)))) behind (new .stored .stands) h .0;
+      held = held-within (t .base) (t .buckets) (t .sides) at w₀ (cornersOf (refined (mid n (cutsIn t w₀)) (tris l (i + 1)))) behind (new .stored .stands) h .0;
     }
 
 -- ---- ends

@@ -1,5 +1,6 @@
 // The slices of a refined floor: its triangles, the ends of its cut sides, its points, sizes and guidance, each as a run of stores into a lent slice.
 // The refinement call (crate refine_call) puts them together.
+use edges::Table;
 ghost use mathlib.Core.Path.{_≡_};
 ghost use mathlib.Core.List.{[], _∷_};
 ghost use Prim.Native.Nat.{_+_, _*_, _<_, _≤_, _^_};
@@ -7,8 +8,9 @@ ghost use lib.ListN.{length};
 ghost use lib.Seq.{sets};
 ghost use Rattle.mesh.specs.Mesh.{side, mid, pieces, refined};
 ghost use Rattle.areas.specs.Points.{xOf, yOf, midpoint, midpoints, midSize, midSizes, morePoints, moreSizes};
-ghost use Rattle.edges.specs.Table.{Held, sidesIn, loOf, hiOf};
+ghost use Rattle.edges.specs.Table.{sidesIn, loOf, hiOf, endOf};
 ghost use Rattle.refinement.specs.Floor.{tris, triAt, endsOf};
+ghost use Rattle.refinement.specs.Steps.{HeldIn, cutsIn};
 ghost use Rattle.refine_floor.specs.Stored.{Stored};
 ghost use Rattle.refine_floor.specs.Guidance.{midAngleOn, midAngles, moreAngles};
 
@@ -16,45 +18,41 @@ ghost use Rattle.refine_floor.specs.Guidance.{midAngleOn, midAngles, mor
 
 // The pieces of triangle i behind the first k triangles of `out`. How many there are then.
 fn refine_triangle(
-    l: &[u32],
+    triangles: &[u32],
     i: usize,
-    n: usize,
-    w: &[u32],
-    base: usize,
-    nb: usize,
-    m: usize,
+    points: usize,
+    numbers: &[u32],
+    table: Table,
     out: &mut [u32],
     k: usize,
 ) -> usize
-    requires { ⌜ Held base nb (now w) m ⌝ }
-    requires { ⌜ (3 * i + 3 ≤ length (now l)) × ((n + m < 2 ^ 32) × (3 * k + 12 ≤ length (now out))) ⌝ }
-    ensures { λ r. ⌜ Stored (pieces (mid n (sidesIn base nb (now (w .entry)) m)) (triAt (now (l .entry)) i)) (now (out .entry)) (3 * k) k (now (out .exit)) r ⌝ }
+    requires { ⌜ HeldIn table (now numbers) ⌝ }
+    requires { ⌜ (3 * i + 3 ≤ length (now triangles)) × ((points + table .sides < 2 ^ 32) × (3 * k + 12 ≤ length (now out))) ⌝ }
+    ensures { λ r. ⌜ Stored (pieces (mid points (cutsIn table (now (numbers .entry)))) (triAt (now (triangles .entry)) i)) (now (out .entry)) (3 * k) k (now (out .exit)) r ⌝ }
 {
-    let p = refinement::pieces_of(l, i, n, w, base, nb, m);
+    let p = refinement::pieces_of(triangles, i, points, numbers, table);
     let rows = p.rows;
     refinement::put_rows(out, 3 * k, rows, 3 * p.count);
     k + p.count
 }
 
-// The pieces of the first t triangles of l, of n points, whose m cut sides are in the table. How many there are.
+// The pieces of the first `count` triangles, whose cut sides are in the table. How many there are.
 pub fn refine_triangles(
-    l: &[u32],
-    t: usize,
-    n: usize,
-    w: &[u32],
-    base: usize,
-    nb: usize,
-    m: usize,
+    triangles: &[u32],
+    count: usize,
+    points: usize,
+    numbers: &[u32],
+    table: Table,
     out: &mut [u32],
 ) -> usize
-    requires { ⌜ Held base nb (now w) m ⌝ }
-    requires { ⌜ (3 * t ≤ length (now l)) × ((n + m < 2 ^ 32) × (12 * t ≤ length (now out))) ⌝ }
-    ensures { λ r. ⌜ Stored (refined (mid n (sidesIn base nb (now (w .entry)) m)) (tris (now (l .entry)) t)) (now (out .entry)) 0 0 (now (out .exit)) r ⌝ }
+    requires { ⌜ HeldIn table (now numbers) ⌝ }
+    requires { ⌜ (3 * count ≤ length (now triangles)) × ((points + table .sides < 2 ^ 32) × (12 * count ≤ length (now out))) ⌝ }
+    ensures { λ r. ⌜ Stored (refined (mid points (cutsIn table (now (numbers .entry)))) (tris (now (triangles .entry)) count)) (now (out .entry)) 0 0 (now (out .exit)) r ⌝ }
 {
     let mut k = 0;
     let mut i = 0;
-    while i < t {
-        k = refine_triangle(l, i, n, w, base, nb, m, out, k);
+    while i < count {
+        k = refine_triangle(triangles, i, points, numbers, table, out, k);
         i += 1;
     }
     k
@@ -62,45 +60,41 @@ pub fn refine_triangles(
 
 // The same where the slice that has the table takes the triangles too, from `at` on: those of triangle i.
 fn refine_triangle_within(
-    l: &[u32],
+    triangles: &[u32],
     i: usize,
-    n: usize,
-    w: &mut [u32],
-    base: usize,
-    nb: usize,
-    m: usize,
+    points: usize,
+    numbers: &mut [u32],
+    table: Table,
     at: usize,
     k: usize,
 ) -> usize
-    requires { ⌜ Held base nb (now w) m ⌝ }
-    requires { ⌜ (3 * i + 3 ≤ length (now l)) × ((n + m < 2 ^ 32) × (at + 3 * k + 12 ≤ length (now w))) ⌝ }
-    ensures { λ r. ⌜ Stored (pieces (mid n (sidesIn base nb (now (w .entry)) m)) (triAt (now (l .entry)) i)) (now (w .entry)) (at + 3 * k) k (now (w .exit)) r ⌝ }
+    requires { ⌜ HeldIn table (now numbers) ⌝ }
+    requires { ⌜ (3 * i + 3 ≤ length (now triangles)) × ((points + table .sides < 2 ^ 32) × (at + 3 * k + 12 ≤ length (now numbers))) ⌝ }
+    ensures { λ r. ⌜ Stored (pieces (mid points (cutsIn table (now (numbers .entry)))) (triAt (now (triangles .entry)) i)) (now (numbers .entry)) (at + 3 * k) k (now (numbers .exit)) r ⌝ }
 {
-    let p = refinement::pieces_of(l, i, n, w, base, nb, m);
+    let p = refinement::pieces_of(triangles, i, points, numbers, table);
     let rows = p.rows;
-    refinement::put_rows(w, at + 3 * k, rows, 3 * p.count);
+    refinement::put_rows(numbers, at + 3 * k, rows, 3 * p.count);
     k + p.count
 }
 
-// The pieces of the first t triangles, in the slice that has the table, from `at` on. How many there are.
+// The pieces of the first `count` triangles, in the slice that has the table, from `at` on. How many there are.
 pub fn refine_triangles_within(
-    l: &[u32],
-    t: usize,
-    n: usize,
-    w: &mut [u32],
-    base: usize,
-    nb: usize,
-    m: usize,
+    triangles: &[u32],
+    count: usize,
+    points: usize,
+    numbers: &mut [u32],
+    table: Table,
     at: usize,
 ) -> usize
-    requires { ⌜ Held base nb (now w) m ⌝ }
-    requires { ⌜ ((3 * t ≤ length (now l)) × (n + m < 2 ^ 32)) × ((base + nb + 3 * m ≤ at) × (at + 12 * t ≤ length (now w))) ⌝ }
-    ensures { λ r. ⌜ Stored (refined (mid n (sidesIn base nb (now (w .entry)) m)) (tris (now (l .entry)) t)) (now (w .entry)) at 0 (now (w .exit)) r ⌝ }
+    requires { ⌜ HeldIn table (now numbers) ⌝ }
+    requires { ⌜ ((3 * count ≤ length (now triangles)) × (points + table .sides < 2 ^ 32)) × ((endOf table ≤ at) × (at + 12 * count ≤ length (now numbers))) ⌝ }
+    ensures { λ r. ⌜ Stored (refined (mid points (cutsIn table (now (numbers .entry)))) (tris (now (triangles .entry)) count)) (now (numbers .entry)) at 0 (now (numbers .exit)) r ⌝ }
 {
     let mut k = 0;
     let mut i = 0;
-    while i < t {
-        k = refine_triangle_within(l, i, n, w, base, nb, m, at, k);
+    while i < count {
+        k = refine_triangle_within(triangles, i, points, numbers, table, at, k);
         i += 1;
     }
     k

@@ -20,7 +20,7 @@ part-is w b e k z h = let y : e - b ≡ k = omega arith in ap (λ (j : ℕ). tak
 
 pub cuts-by : (corners : List ℕ) (n : ℕ) (threshold : Float) (w : List Float) (u : List ℕ) → CutRoom (length corners) n (length w) (length u) → {u₁ u′ : List ℕ} {r : Cut}
     → u₁ ≡ sets u 0 (replicate (2 * (length corners / 3)) 0)
-    → CutTo 0 (2 * (length corners / 3)) (flaggedTri threshold (take (n - 0) (drop 0 w))) corners (length corners / 3) u₁ u′ (r .sides) (r .flagged)
+    → CutTo (record { base = 0; buckets = 2 * (length corners / 3); sides = 0 }) (flaggedTri threshold (take (n - 0) (drop 0 w))) corners (length corners / 3) u₁ u′ r
     → CutsBy corners n threshold w u u′ r
 cuts-by corners n threshold w u room e done =
     let z = part-is w 0 n n (omega arith) (room .angles-in) in

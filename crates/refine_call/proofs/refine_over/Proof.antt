@@ -14,8 +14,8 @@ refine-triangles-requires c κs = search needs
 put-floor-requires : tie.Need-put-floor-requires
 put-floor-requires c κs = search needs
 
-add-t16 : tie.Need-add-t16
-add-t16 c = omega (arith, c .before .before .before .before .before .before .before .before .before .before .before .before .before .before .before .before .before .before .before .before .before .before .before .before .before .before .before .before .before .pre .1 .few-points, c .before .before .before .before .before .before .before .before .before .before .before .before .before .before .before .before .before .before .before .before .before .before .before .before .before .before .before .before .before .pre .1 .few-triangles, c .before .before .before .before .before .before .before .before .before .before .before .before .before .before .before .before .before .before .cut-sides .ensures .few)
+add-t18 : tie.Need-add-t18
+add-t18 c = omega (arith, c .before .before .before .before .before .before .before .before .before .before .before .before .before .before .before .before .before .before .before .before .before .before .before .before .before .before .before .before .before .pre .1 .few-points, c .before .before .before .before .before .before .before .before .before .before .before .before .before .before .before .before .before .before .before .before .before .before .before .before .before .before .before .before .before .pre .1 .few-triangles, c .before .before .before .before .before .before .before .before .before .before .before .before .before .before .before .before .before .before .cut-sides .ensures .few)
 
 same-length : tie.Need-same-length
 same-length c = search needs
@@ -42,7 +42,7 @@ refine-over-spec =
     cut-sides-requires
     refine-triangles-requires
     put-floor-requires
-    add-t16
+    add-t18
     same-length
     same-length-2
     same-length-3

@@ -4,16 +4,16 @@ use Prim.Native.Nat.{_-_, _≤_}
 use mathlib.Core.Path.{_≡_}
 use native.Mathlib.Omega.{arith}
 use Rattle.refine_floor.proofs.Parts.{Stands, stands-none, stands-again}
-use Rattle.edges.specs.Table.{sidesIn}
+use Rattle.refinement.specs.Steps.{cutsIn}
 use Rattle.mesh.specs.Mesh.{mid}
 use Rattle.refine_floor.proofs.refine_triangles.Statement.{statement}
 use Rattle.refine_floor.proofs.refine_triangles.Tie as tie
 
 abbrev Inv-loop : tie.InvT-loop
-Inv-loop l t n w base nb m out₀ k₀ i₀ out k i = (i ≤ t) × Stands (mid n (sidesIn base nb w m)) l out₀ 0 i out k
+Inv-loop triangles count points numbers table out₀ k₀ i₀ out k i = (i ≤ count) × Stands (mid points (cutsIn table numbers)) triangles out₀ 0 i out k
 
 abbrev μ-loop : tie.MeasureT-loop
-μ-loop l t n w base nb m out₀ k₀ i₀ out k i = t - i
+μ-loop triangles count points numbers table out₀ k₀ i₀ out k i = count - i
 
 loop-holds : tie.Need-loop-holds Inv-loop μ-loop
 loop-holds c = (omega arith, stands-none _ _ _ 0)
@@ -34,7 +34,7 @@ same-length : tie.Need-same-length Inv-loop μ-loop
 same-length c = c .before .loop .inv .1 .same-length
 
 returns : tie.Need-returns Inv-loop μ-loop
-returns c = let e : c .before .loop .i ≡ c .before .before .before .before .before .args .t = omega arith in rw e at (c .before .loop .inv .1 .stored)
+returns c = let e : c .before .loop .i ≡ c .before .before .before .before .before .args .count = omega arith in rw e at (c .before .loop .inv .1 .stored)
 
 pub refine-triangles-spec : {M : Type 1} → statement M
 refine-triangles-spec =
