@@ -19,7 +19,7 @@ use Rattle.mesh.proofs.Local.{Distinct}
 use Rattle.mesh.proofs.Whole.{count-around}
 use Rattle.edges.specs.Table.{loOf, hiOf, sidesIn, NumbersOf}
 use Rattle.edges.specs.Numbering.{triFrom, trisFrom, NumberedTo, occurs, times, listed, EachCounted}
-use Rattle.edges.proofs.Chain.{length-pairs}
+use Rattle.edges.proofs.Tree.{length-pairs}
 
 -- ---- listed sides
 

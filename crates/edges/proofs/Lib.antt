@@ -1,6 +1,5 @@
-pub mod Bucket
-pub mod Chain
-pub mod Counts
-pub mod Numbering
+pub mod Tree
 pub mod Stored
+pub mod Numbering
+pub mod Counts
 pub mod Split

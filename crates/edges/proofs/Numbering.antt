@@ -15,10 +15,10 @@ use lib.Seq.{getD-at, getD-set-same, getD-set-other, sets, length-sets}
 use Rattle.mesh.specs.Mesh.{Side, side, key, Tri, tri, place, met, metAll, sides, sidesAfter, one}
 use Rattle.mesh.proofs.Theorem.{place-below}
 use Rattle.runs.proofs.Runs.{sets-before, sets-behind}
-use Rattle.edges.specs.Table.{slotOf, last, pairs, loOf, hiOf, sidesIn, Held, MetTri, NumbersOf}
+use Rattle.edges.specs.Table.{pairs, loOf, hiOf, sidesIn, Held, MetTri, NumbersOf}
 use Rattle.edges.specs.Numbering.{triFrom, trisFrom, Room, NumberStep, NumberedTo, occurs, Below, Counted}
-use Rattle.edges.proofs.Chain.{length-pairs}
-use Rattle.edges.proofs.Stored.{met-keeps, zeros-at}
+use Rattle.edges.proofs.Tree.{length-pairs, trees-same}
+use Rattle.edges.proofs.Stored.{met-keeps, zeros-at, slot-below, spot-in}
 
 -- ---- a table in another slice with the same cells
 
@@ -28,17 +28,12 @@ pairs-same lo hi lo′ hi′ zero p q = refl
 pairs-same lo hi lo′ hi′ (suc k) p q =
     ap₂ (λ (l : List Side) (s : Side). l ++ (s ∷ [])) (pairs-same lo hi lo′ hi′ k (λ j h. p j (omega arith)) (λ j h. q j (omega arith))) (ap₂ side (p k (omega arith)) (q k (omega arith)))
 
-last-same : (N : ℕ) (lo hi lo′ hi′ : ℕ → ℕ) (h m : ℕ) → ((k : ℕ) → k < m → lo′ k ≡ lo k) → ((k : ℕ) → k < m → hi′ k ≡ hi k) → last N lo′ hi′ h m ≡ last N lo hi h m
-unfolding last
-last-same N lo hi lo′ hi′ h zero p q = refl
-last-same N lo hi lo′ hi′ h (suc k) p q = rw (p k (omega arith), q k (omega arith), last-same N lo hi lo′ hi′ h k (λ j g. p j (omega arith)) (λ j g. q j (omega arith)))
-
-module _ (o N : ℕ) (w w′ : List ℕ) (m : ℕ) (same : (j : ℕ) → o ≤ j → j < o + N + 3 * m → getD w′ j 0 ≡ getD w j 0) where
+module _ (o N : ℕ) (w w′ : List ℕ) (m : ℕ) (same : (j : ℕ) → o ≤ j → j < o + N + 4 * m → getD w′ j 0 ≡ getD w j 0) where
   los : (k : ℕ) → k < m → loOf o N w′ k ≡ loOf o N w k
-  los k h = same (o + N + 3 * k) (omega arith) (omega arith)
+  los k h = same (o + N + 4 * k) (omega arith) (omega arith)
 
   his : (k : ℕ) → k < m → hiOf o N w′ k ≡ hiOf o N w k
-  his k h = same (o + N + 3 * k + 1) (omega arith) (omega arith)
+  his k h = same (o + N + 4 * k + 1) (omega arith) (omega arith)
 
   pub sides-same : sidesIn o N w′ m ≡ sidesIn o N w m
   sides-same = pairs-same (loOf o N w) (hiOf o N w) (loOf o N w′) (hiOf o N w′) m los his
@@ -48,12 +43,7 @@ module _ (o N : ℕ) (w w′ : List ℕ) (m : ℕ) (same : (j : ℕ) → o ≤ j
     buckets = t .buckets;
     narrow = t .narrow;
     room = omega (arith, t .room);
-    table = record {
-      heads = λ h l. same (o + h) (omega arith) (omega arith) ∙ t .table .heads h l ∙ sym (last-same N (loOf o N w) (hiOf o N w) (loOf o N w′) (hiOf o N w′) h m los his);
-      links = λ k l. same (o + N + 3 * k + 2) (omega arith) (omega arith) ∙ t .table .links k l
-          ∙ ap₂ (λ (a b : ℕ). last N (loOf o N w) (hiOf o N w) (slotOf N a b) k) (sym (los k l)) (sym (his k l))
-          ∙ sym (last-same N (loOf o N w) (hiOf o N w) (loOf o N w′) (hiOf o N w′) (slotOf N (loOf o N w′ k) (hiOf o N w′ k)) k (λ j g. los j (omega arith)) (λ j g. his j (omega arith)));
-    };
+    trees = trees-same los his (λ q s. same q (spot-in s .0) (spot-in s .1)) (λ k l. slot-below N _ _ (t .buckets)) (t .trees);
     numbered = rw sides-same (t .numbered);
   }
 
@@ -96,7 +86,7 @@ step-of {c} {e} {o} {N} {t} {i} {w} {w₁} {w′} {m} {m′} {p} {q} {r} plan it
     let a = e + 3 * i in
     let room : a + 3 ≤ length w₁ = omega (arith, plan .numbers, plan .table, met .outside .same) in
     let same : (j : ℕ) → (j < a) ⊎ (a + 3 ≤ j) → getD w′ j 0 ≡ getD w₁ j 0 = λ j h. ap (λ (l : List ℕ). getD l j 0) z ∙ three-else w₁ a p q r j h in
-    let cells : (j : ℕ) → o ≤ j → j < o + N + 3 * m′ → getD w′ j 0 ≡ getD w₁ j 0 = λ j h g. same j (inr (omega (arith, plan .numbers))) in
+    let cells : (j : ℕ) → o ≤ j → j < o + N + 4 * m′ → getD w′ j 0 ≡ getD w₁ j 0 = λ j h g. same j (inr (omega (arith, plan .numbers))) in
     let len : length w′ ≡ length w₁ = ap length z ∙ three-length w₁ a p q r in
     let listed : sidesIn o N w′ m′ ≡ sidesIn o N w₁ m′ = sides-same o N w₁ w′ m′ cells in
     record {
@@ -296,8 +286,8 @@ counted-done {e} {k} {a} {m} {w} {w₁} {w₂} r z c =
 
 -- ---- a run of stores behind a table
 
-pub held-within : (o N m at : ℕ) (w vs : List ℕ) {w′ : List ℕ} → o + N + 3 * m ≤ at → w′ ≡ sets w at vs → Held o N w m → Held o N w′ m × (sidesIn o N w′ m ≡ sidesIn o N w m)
+pub held-within : (o N m at : ℕ) (w vs : List ℕ) {w′ : List ℕ} → o + N + 4 * m ≤ at → w′ ≡ sets w at vs → Held o N w m → Held o N w′ m × (sidesIn o N w′ m ≡ sidesIn o N w m)
 held-within o N m at w vs {w′} h e t = (held-same o N w w′ m cells (ap length e ∙ length-sets w at vs) t, sides-same o N w w′ m cells)
   where
-    cells : (j : ℕ) → o ≤ j → j < o + N + 3 * m → getD w′ j 0 ≡ getD w j 0
+    cells : (j : ℕ) → o ≤ j → j < o + N + 4 * m → getD w′ j 0 ≡ getD w j 0
     cells j p q = ap (λ (l : List ℕ). getD l j 0) e ∙ sets-before w at vs j 0 (omega arith)

@@ -1,133 +1,234 @@
 -- A table of sides in one slice: what the stores of a new side do to it, and what a side that is met, or three, comes to. Assumes nothing.
-use Prim.Native.Nat.{ℕ, zero, suc, _+_, _-_, _*_, _^_, _≤_, _<_}
+use Prim.Native.Nat.{ℕ, zero, suc, _+_, _-_, _*_, _/_, _%_, _^_, _≤_, _<_}
 use native.Mathlib.Omega.{arith}
 use native.Mathlib.Decide.{ℕ-discrete}
 use native.Mathlib.Numerals.{add-one}
+use native.Mathlib.Nat.{mod-lt}
 use mathlib.Core.Path.{_≡_, refl, sym, ap, _∙_, subst}
-use mathlib.Core.Logic.{_≢_, ⊎-elim}
+use mathlib.Core.Logic.{_≢_, _⊎_, inl, inr, ⊎-elim}
+use mathlib.Core.Bool.{true, false, cond, _&&_}
 use mathlib.Core.List.{List, [], _∷_, _++_}
-use mathlib.Core.Option.{some}
+use mathlib.Core.Option.{Option, none, some}
+use lib.Dec.{eqb, ltb}
 use lib.ListN.{length, getD, set, length-set, length-append, replicate}
 use lib.Seq.{getD-set-same, getD-set-other, sets, length-sets}
+use borrow.Author.Tests.{lt-ltb, le-ltb}
 use Rattle.mesh.specs.Mesh.{Side, side, key, tri, place, met, metAll}
 use Rattle.mesh.proofs.Theorem.{place-below}
 use Rattle.runs.proofs.Runs.{sets-before}
 use Rattle.mesh.proofs.Cuts.{key-either, place-keep, place-end, met-old, met-new, met-numbered, Found, found, missing, find}
-use Rattle.edges.specs.Table.{Linked, slotOf, seek, last, pairs, headOf, loOf, hiOf, linkOf, sidesIn, Held, Outside, Met, MetTri, oneMore}
-use Rattle.edges.proofs.Chain.{Added, table-more, new-pairs, length-pairs, seek-none, seek-some}
+use Rattle.edges.specs.Table.{slotOf, pathOf, pairs, Spot, bucket, link, Trees, Free, holdOf, loOf, hiOf, underOf, sidesIn, Held, Walked, Outside, Met, MetTri, oneMore}
+use Rattle.edges.proofs.Tree.{same-both, same-not, Walk, walk-start, walk-known, walk-on, walk-free, walk-none, left-over, walk-less, Put, trees-more, no-trees, new-pairs, length-pairs, place-here, place-nowhere}
 
--- w after the four stores of a side at place m of bucket h
-abbrev pub stored : ℕ → ℕ → List ℕ → ℕ → ℕ → ℕ → ℕ → ℕ → List ℕ
-stored o N w m a b v h = set (set (set (set w (o + N + 3 * m) a) (o + N + 3 * m + 1) b) (o + N + 3 * m + 2) v) (o + h) (m + 1)
+-- the bucket of a side is one of the N
+pub slot-below : (N a b : ℕ) → 0 < N → slotOf N a b < N
+unfolding slotOf
+slot-below N a b h = go (ℕ-discrete (N - a) 0)
+  where
+    go : Dec (N - a ≡ 0) → cond (ltb a N) a (a % N) < N
+    go (yes e) = rw (le-ltb a N (omega arith)) (mod-lt a h)
+    go (no e) = rw (lt-ltb a N (omega arith)) (omega arith)
 
-module _ (o N : ℕ) (w : List ℕ) (m a b v h : ℕ) (l : h < N) (room : o + N + 3 * (m + 1) ≤ length w) where
+-- a position stands before the row of the next side, at none of its rows' ends
+spot-apart : {o N m q : ℕ} → Spot o N (underOf o N) m q → (o ≤ q) × ((q < o + N + 4 * m) × ((k : ℕ) → (q ≢ o + N + 4 * k) × (q ≢ o + N + 4 * k + 1)))
+spot-apart (bucket h l e) = (omega arith, (omega arith, λ k. (λ z. omega arith, λ z. omega arith)))
+spot-apart (link k s l g e) = (omega arith, (omega arith, λ j. (λ z. omega arith, λ z. omega arith)))
+
+pub spot-in : {o N m q : ℕ} → Spot o N (underOf o N) m q → (o ≤ q) × (q < o + N + 4 * m)
+spot-in s = (spot-apart s .0, spot-apart s .1 .0)
+
+-- w after the five stores of a side at place m: its ends, two empty links, and its number at position p
+abbrev pub stored : ℕ → ℕ → List ℕ → ℕ → ℕ → ℕ → ℕ → List ℕ
+stored o N w m a b p = set (set (set (set (set w (o + N + 4 * m) a) (o + N + 4 * m + 1) b) (o + N + 4 * m + 2) 0) (o + N + 4 * m + 3) 0) p (m + 1)
+
+module _ (o N : ℕ) (w : List ℕ) (m a b p : ℕ) (spot : Spot o N (underOf o N) m p) (room : o + N + 4 * m + 4 ≤ length w) where
   w₁ : List ℕ
-  w₁ = set w (o + N + 3 * m) a
+  w₁ = set w (o + N + 4 * m) a
 
   w₂ : List ℕ
   unfolding w₁
-  w₂ = set w₁ (o + N + 3 * m + 1) b
+  w₂ = set w₁ (o + N + 4 * m + 1) b
 
   w₃ : List ℕ
   unfolding w₂
-  w₃ = set w₂ (o + N + 3 * m + 2) v
+  w₃ = set w₂ (o + N + 4 * m + 2) 0
+
+  w₄ : List ℕ
+  unfolding w₃
+  w₄ = set w₃ (o + N + 4 * m + 3) 0
 
   len₁ : length w₁ ≡ length w
   unfolding w₁
-  len₁ = length-set w (o + N + 3 * m) a
+  len₁ = length-set w (o + N + 4 * m) a
 
   len₂ : length w₂ ≡ length w
   unfolding w₂
-  len₂ = length-set w₁ (o + N + 3 * m + 1) b ∙ len₁
+  len₂ = length-set w₁ (o + N + 4 * m + 1) b ∙ len₁
 
   len₃ : length w₃ ≡ length w
   unfolding w₃
-  len₃ = length-set w₂ (o + N + 3 * m + 2) v ∙ len₂
+  len₃ = length-set w₂ (o + N + 4 * m + 2) 0 ∙ len₂
 
-  pub stored-length : length (stored o N w m a b v h) ≡ length w
-  unfolding w₃
-  stored-length = length-set w₃ (o + h) (m + 1) ∙ len₃
+  len₄ : length w₄ ≡ length w
+  unfolding w₄
+  len₄ = length-set w₃ (o + N + 4 * m + 3) 0 ∙ len₃
 
-  pub elsewhere : (j : ℕ) → j ≢ o + h → j ≢ o + N + 3 * m → j ≢ o + N + 3 * m + 1 → j ≢ o + N + 3 * m + 2 → getD (stored o N w m a b v h) j 0 ≡ getD w j 0
-  unfolding w₃
-  elsewhere j n₀ n₁ n₂ n₃ =
-      getD-set-other w₃ (o + h) j (m + 1) 0 n₀ ∙ getD-set-other w₂ (o + N + 3 * m + 2) j v 0 n₃ ∙ getD-set-other w₁ (o + N + 3 * m + 1) j b 0 n₂ ∙ getD-set-other w (o + N + 3 * m) j a 0 n₁
+  pub stored-length : length (stored o N w m a b p) ≡ length w
+  unfolding w₄
+  stored-length = length-set w₄ p (m + 1) ∙ len₄
 
-  at-lo : getD (stored o N w m a b v h) (o + N + 3 * m) 0 ≡ a
-  unfolding w₃
+  below : p < o + N + 4 * m
+  below = spot-apart spot .1 .0
+
+  pub elsewhere : (j : ℕ) → j ≢ p → (j < o + N + 4 * m) ⊎ (o + N + 4 * m + 4 ≤ j) → getD (stored o N w m a b p) j 0 ≡ getD w j 0
+  unfolding w₄
+  elsewhere j n r =
+      getD-set-other w₄ p j (m + 1) 0 n ∙ getD-set-other w₃ (o + N + 4 * m + 3) j 0 0 (apart 3 (omega arith)) ∙ getD-set-other w₂ (o + N + 4 * m + 2) j 0 0 (apart 2 (omega arith))
+      ∙ getD-set-other w₁ (o + N + 4 * m + 1) j b 0 (apart 1 (omega arith)) ∙ getD-set-other w (o + N + 4 * m) j a 0 (apart₀ r)
+    where
+      apart₀ : (j < o + N + 4 * m) ⊎ (o + N + 4 * m + 4 ≤ j) → j ≢ o + N + 4 * m
+      apart₀ (inl h) e = omega arith
+      apart₀ (inr h) e = omega arith
+
+      apart : (s : ℕ) → s < 4 → j ≢ o + N + 4 * m + s
+      apart s h e = go r
+        where
+          go : (j < o + N + 4 * m) ⊎ (o + N + 4 * m + 4 ≤ j) → ⊥
+          go (inl l) = omega arith
+          go (inr l) = omega arith
+
+  at-lo : getD (stored o N w m a b p) (o + N + 4 * m) 0 ≡ a
+  unfolding w₄
   at-lo =
-      getD-set-other w₃ (o + h) (o + N + 3 * m) (m + 1) 0 (omega arith) ∙ getD-set-other w₂ (o + N + 3 * m + 2) (o + N + 3 * m) v 0 (omega arith)
-      ∙ getD-set-other w₁ (o + N + 3 * m + 1) (o + N + 3 * m) b 0 (omega arith) ∙ getD-set-same w (o + N + 3 * m) a 0 (omega arith)
+      getD-set-other w₄ p (o + N + 4 * m) (m + 1) 0 (omega (arith, below)) ∙ getD-set-other w₃ (o + N + 4 * m + 3) (o + N + 4 * m) 0 0 (omega arith)
+      ∙ getD-set-other w₂ (o + N + 4 * m + 2) (o + N + 4 * m) 0 0 (omega arith) ∙ getD-set-other w₁ (o + N + 4 * m + 1) (o + N + 4 * m) b 0 (omega arith)
+      ∙ getD-set-same w (o + N + 4 * m) a 0 (omega arith)
 
-  at-hi : getD (stored o N w m a b v h) (o + N + 3 * m + 1) 0 ≡ b
-  unfolding w₃
+  at-hi : getD (stored o N w m a b p) (o + N + 4 * m + 1) 0 ≡ b
+  unfolding w₄
   at-hi =
-      getD-set-other w₃ (o + h) (o + N + 3 * m + 1) (m + 1) 0 (omega arith) ∙ getD-set-other w₂ (o + N + 3 * m + 2) (o + N + 3 * m + 1) v 0 (omega arith)
-      ∙ getD-set-same w₁ (o + N + 3 * m + 1) b 0 (omega (arith, len₁))
+      getD-set-other w₄ p (o + N + 4 * m + 1) (m + 1) 0 (omega (arith, below)) ∙ getD-set-other w₃ (o + N + 4 * m + 3) (o + N + 4 * m + 1) 0 0 (omega arith)
+      ∙ getD-set-other w₂ (o + N + 4 * m + 2) (o + N + 4 * m + 1) 0 0 (omega arith) ∙ getD-set-same w₁ (o + N + 4 * m + 1) b 0 (omega (arith, len₁))
 
-  at-link : getD (stored o N w m a b v h) (o + N + 3 * m + 2) 0 ≡ v
-  unfolding w₃
-  at-link = getD-set-other w₃ (o + h) (o + N + 3 * m + 2) (m + 1) 0 (omega arith) ∙ getD-set-same w₂ (o + N + 3 * m + 2) v 0 (omega (arith, len₂))
+  at-link : (s : ℕ) → s < 2 → getD (stored o N w m a b p) (underOf o N m + s) 0 ≡ 0
+  unfolding w₄
+  at-link zero h =
+      let e : underOf o N m + 0 ≡ o + N + 4 * m + 2 = omega arith in
+      rw e (getD-set-other w₄ p (o + N + 4 * m + 2) (m + 1) 0 (omega (arith, below)) ∙ getD-set-other w₃ (o + N + 4 * m + 3) (o + N + 4 * m + 2) 0 0 (omega arith)
+      ∙ getD-set-same w₂ (o + N + 4 * m + 2) 0 0 (omega (arith, len₂)))
+  at-link (suc zero) h =
+      let e : underOf o N m + 1 ≡ o + N + 4 * m + 3 = omega arith in
+      rw e (getD-set-other w₄ p (o + N + 4 * m + 3) (m + 1) 0 (omega (arith, below)) ∙ getD-set-same w₃ (o + N + 4 * m + 3) 0 0 (omega (arith, len₃)))
+  at-link (suc (suc s)) h = absurd (omega arith)
 
-  at-head : getD (stored o N w m a b v h) (o + h) 0 ≡ m + 1
-  unfolding w₃
-  at-head = getD-set-same w₃ (o + h) (m + 1) 0 (omega (arith, len₃))
+  at-position : getD (stored o N w m a b p) p 0 ≡ m + 1
+  unfolding w₄
+  at-position = getD-set-same w₄ p (m + 1) 0 (omega (arith, len₄, below))
 
-  added : v ≡ getD w (o + h) 0
-      → Added N (loOf o N w) (hiOf o N w) (headOf o N w) (linkOf o N w) (loOf o N (stored o N w m a b v h)) (hiOf o N (stored o N w m a b v h)) (headOf o N (stored o N w m a b v h)) (linkOf o N (stored o N w m a b v h)) m a b h
-  added e =
-      record {
-        lo-old = λ k b. elsewhere (o + N + 3 * k) (omega arith) (omega arith) (omega arith) (omega arith);
-        hi-old = λ k b. elsewhere (o + N + 3 * k + 1) (omega arith) (omega arith) (omega arith) (omega arith);
-        link-old = λ k b. elsewhere (o + N + 3 * k + 2) (omega arith) (omega arith) (omega arith) (omega arith);
-        head-old = λ i b n. elsewhere (o + i) (λ z. n (omega arith)) (omega arith) (omega arith) (omega arith);
-        lo-new = at-lo;
-        hi-new = at-hi;
-        link-new = at-link ∙ e;
-        head-new = at-head ∙ add-one m;
-      }
+  put : Put o N (loOf o N w) (hiOf o N w) (holdOf w) (loOf o N (stored o N w m a b p)) (hiOf o N (stored o N w m a b p)) (holdOf (stored o N w m a b p)) (underOf o N) m a b p
+  put = record {
+    lo-old = λ k h. elsewhere (o + N + 4 * k) (λ z. spot-apart spot .1 .1 k .0 (sym z)) (inl (omega arith));
+    hi-old = λ k h. elsewhere (o + N + 4 * k + 1) (λ z. spot-apart spot .1 .1 k .1 (sym z)) (inl (omega arith));
+    lo-new = at-lo;
+    hi-new = at-hi;
+    held-old = λ q s n. elsewhere q n (inl (spot-apart s .1 .0));
+    held-new = at-position ∙ add-one m;
+    links-new = at-link;
+  }
 
-  stored-outside : Outside o N w (m + 1) (stored o N w m a b v h)
+  stored-outside : Outside o N w (m + 1) (stored o N w m a b p)
   stored-outside = record {
     same = stored-length;
-    before = λ j q. elsewhere j (omega arith) (omega arith) (omega arith) (omega arith);
-    behind = λ j q. elsewhere j (omega arith) (omega arith) (omega arith) (omega arith);
+    before = λ j q. elsewhere j (omega (arith, spot-apart spot .0)) (inl (omega arith));
+    behind = λ j q. elsewhere j (omega (arith, below)) (inr (omega arith));
+  }
+
+-- ---- a walk: at position p, which holds `at`, with r left of its path
+
+pub record Going (o N : ℕ) (w : List ℕ) (m a b p r at : ℕ) : Type 0 where
+  pub held : Held o N w m
+  pub walk : Walk o N (loOf o N w) (hiOf o N w) (holdOf w) (underOf o N) m a b p r
+  pub here : at ≡ holdOf w p
+  pub few : at ≤ m
+
+pub going-start : {o N : ℕ} {w : List ℕ} {m a b h p r at : ℕ} → Held o N w m → (h ≡ slotOf N a b) × (h < N) → p ≡ o + h → r ≡ pathOf a b → at ≡ holdOf w p → Going o N w m a b p r at
+going-start t e i j k =
+    let walk = walk-start (t .trees) e i j in
+    record { held = t; walk = walk; here = k; few = rw k (walk-known (t .trees) walk) }
+
+module _ {o N : ℕ} {w : List ℕ} {m a b p r at : ℕ} (g : Going o N w m a b p r at) where
+  pub going-on : at ≢ 0 → (eqb (loOf o N w (at - 1)) a && eqb (hiOf o N w (at - 1)) b) ≡ false → {at′ : ℕ} → at′ ≡ holdOf w (underOf o N (at - 1) + r % 2)
+      → Going o N w m a b (underOf o N (at - 1) + r % 2) (r / 2) at′ × (left-over m at′ < left-over m at)
+  going-on h miss {at′} e =
+      let i : holdOf w p ≡ at = sym (g .here) in
+      let on = walk-on (g .held .trees) (g .walk) (λ z. h (g .here ∙ z)) (rw i (same-not (loOf o N w (at - 1)) (hiOf o N w (at - 1)) a b miss)) in
+      let walk : Walk o N (loOf o N w) (hiOf o N w) (holdOf w) (underOf o N) m a b (underOf o N (at - 1) + r % 2) (r / 2) = rw i at on in (
+        record { held = g .held; walk = walk; here = e; few = rw e (walk-known (g .held .trees) walk) },
+        walk-less (g .held .trees) (at - 1) r (omega arith) (omega (arith, g .few)) e,
+      )
+
+  pub going-found : at ≢ 0 → (eqb (loOf o N w (at - 1)) a && eqb (hiOf o N w (at - 1)) b) ≡ true → Walked o N w m a b at p
+  going-found h hit =
+      let both = same-both (loOf o N w (at - 1)) (hiOf o N w (at - 1)) a b hit in
+      let i : at ≡ suc (at - 1) = omega arith in
+      record {
+        number = i ∙ sym (ap oneMore (place-here (loOf o N w) (hiOf o N w) m a b (at - 1) (g .held .numbered) (omega (arith, g .few)) (both .0) (both .1)));
+        few = g .few;
+        spot = g .walk .spot;
+        free = λ z. absurd (h z);
+      }
+
+  pub going-none : at ≡ 0 → Walked o N w m a b at p
+  going-none z = record {
+    number = z ∙ sym (ap oneMore (place-nowhere (loOf o N w) (hiOf o N w) a b m (walk-none (g .held .trees) (g .walk) (sym (g .here) ∙ z))));
+    few = g .few;
+    spot = g .walk .spot;
+    free = λ i. walk-free (g .held .trees) (g .walk) (sym (g .here) ∙ z);
   }
 
 -- ---- a side is met
 
-pub met-found : {o N : ℕ} {w : List ℕ} {m at : ℕ} (a b : ℕ) → Held o N w m → at ≡ seek (loOf o N w) (hiOf o N w) a b m → at ≢ 0 → Met o N w m w m (at - 1) (side a b)
-met-found {o} {N} {w} {m} {at} a b t e h =
-    let p : place (side a b) (sidesIn o N w m) ≡ some (at - 1) = seek-some (loOf o N w) (hiOf o N w) a b m (at - 1) (t .numbered) (sym e ∙ omega arith) in
-    record {
-      held = t;
-      now-met = sym (met-old (sidesIn o N w m) (side a b) _ p);
-      number = p;
-      more = omega arith;
-      outside = record { same = refl; before = λ j l. refl; behind = λ j l. refl };
-    }
+-- a number that stands for a place is that place
+some-of : (at : ℕ) (x : Option ℕ) → at ≡ oneMore x → at ≢ 0 → x ≡ some (at - 1)
+some-of at none e h = absurd (h e)
+some-of at (some k) e h = let i : k ≡ at - 1 = omega arith in ap some i
 
-pub met-added : {o N : ℕ} {w : List ℕ} {m h v : ℕ} (a b : ℕ) → Held o N w m → seek (loOf o N w) (hiOf o N w) a b m ≡ 0 → o + N + 3 * (m + 1) ≤ length w
-    → (h ≡ slotOf N a b) × (h < N) → v ≡ getD w (o + h) 0 → Met o N w m (stored o N w m a b v h) (m + 1) m (side a b)
-met-added {o} {N} {w} {m} {h} {v} a b t z room e ev =
-    let d = added o N w m a b v h (e .1) room ev in
-    let w′ = stored o N w m a b v h in
-    let out = seek-none (loOf o N w) (hiOf o N w) a b m z in
-    let new : sidesIn o N w′ (m + 1) ≡ sidesIn o N w m ++ (side a b ∷ []) = ap (pairs (loOf o N w′) (hiOf o N w′)) (add-one m) ∙ new-pairs d in
-    let now : sidesIn o N w′ (m + 1) ≡ met (sidesIn o N w m) (side a b) = new ∙ sym (met-new (sidesIn o N w m) (side a b) out) in
-    record {
-      held = record {
-        buckets = t .buckets;
-        narrow = t .narrow;
-        room = omega (arith, stored-length o N w m a b v h (e .1) room);
-        table = subst (Linked N (loOf o N w′) (hiOf o N w′) (headOf o N w′) (linkOf o N w′)) (sym (add-one m)) (table-more d (t .table) e);
-        numbered = rw now (met-numbered (sidesIn o N w m) (side a b) (t .numbered));
-      };
-      now-met = now;
-      number = rw new (place-end (side a b) (sidesIn o N w m) out ∙ ap some (length-pairs (loOf o N w) (hiOf o N w) m));
-      more = omega arith;
-      outside = stored-outside o N w m a b v h (e .1) room;
-    }
+none-of : {at : ℕ} (x : Option ℕ) → at ≡ oneMore x → at ≡ 0 → x ≡ none
+none-of none e h = refl
+none-of (some k) e h = absurd (omega arith)
+
+module _ {o N : ℕ} {w : List ℕ} {m at p : ℕ} (a b : ℕ) (t : Held o N w m) (k : Walked o N w m a b at p) where
+  pub met-found : at ≢ 0 → Met o N w m w m (at - 1) (side a b)
+  met-found h =
+      let q : place (side a b) (sidesIn o N w m) ≡ some (at - 1) = some-of at (place (side a b) (sidesIn o N w m)) (k .number) h in
+      record {
+        held = t;
+        now-met = sym (met-old (sidesIn o N w m) (side a b) _ q);
+        number = q;
+        more = omega arith;
+        outside = record { same = refl; before = λ j l. refl; behind = λ j l. refl };
+      }
+
+  pub met-added : at ≡ 0 → o + N + 4 * m + 4 ≤ length w → Met o N w m (stored o N w m a b p) (m + 1) m (side a b)
+  met-added z room =
+      let w′ = stored o N w m a b p in
+      let d = put o N w m a b p (k .spot) room in
+      let out = none-of (place (side a b) (sidesIn o N w m)) (k .number) z in
+      let new : sidesIn o N w′ (m + 1) ≡ sidesIn o N w m ++ (side a b ∷ []) = ap (pairs (loOf o N w′) (hiOf o N w′)) (add-one m) ∙ new-pairs d in
+      let now : sidesIn o N w′ (m + 1) ≡ met (sidesIn o N w m) (side a b) = new ∙ sym (met-new (sidesIn o N w m) (side a b) out) in
+      record {
+        held = record {
+          buckets = t .buckets;
+          narrow = t .narrow;
+          room = omega (arith, stored-length o N w m a b p (k .spot) room);
+          trees = subst (Trees o N (loOf o N w′) (hiOf o N w′) (holdOf w′) (underOf o N)) (sym (add-one m)) (trees-more d (t .trees) (k .free z) (λ j l. slot-below N _ _ (t .buckets)));
+          numbered = rw now (met-numbered (sidesIn o N w m) (side a b) (t .numbered));
+        };
+        now-met = now;
+        number = rw new (place-end (side a b) (sidesIn o N w m) out ∙ ap some (length-pairs (loOf o N w) (hiOf o N w) m));
+        more = omega arith;
+        outside = stored-outside o N w m a b p (k .spot) room;
+      }
 
 pub met-key : {o N : ℕ} {w w′ : List ℕ} {m m′ k : ℕ} (u v : ℕ) → u < v → Met o N w m w′ m′ k (side u v) → Met o N w m w′ m′ k (key u v)
 met-key u v h t = rw (⊎-elim (λ p. p .0) (λ p. absurd (omega (arith, p .1))) (key-either u v)) t
@@ -180,21 +281,11 @@ met-three {o} {N} {w₁ = w₁} {w₂} {w₃} {m₁ = m₁} {m₂} {m₃} {p} {q
 
 -- ---- a side is looked for
 
-pub found-side : {o N : ℕ} {w : List ℕ} {m at : ℕ} (a b : ℕ) → Held o N w m → at ≡ seek (loOf o N w) (hiOf o N w) a b m → (at ≡ oneMore (place (side a b) (sidesIn o N w m))) × (at ≤ m)
-found-side {o} {N} {w} {m} {at} a b t e = go (ℕ-discrete at 0)
-  where
-    go : Dec (at ≡ 0) → (at ≡ oneMore (place (side a b) (sidesIn o N w m))) × (at ≤ m)
-    go (yes z) = (z ∙ sym (ap oneMore (seek-none (loOf o N w) (hiOf o N w) a b m (sym e ∙ z))), omega arith)
-    go (no z) =
-        let p = seek-some (loOf o N w) (hiOf o N w) a b m (at - 1) (t .numbered) (sym e ∙ omega arith) in
-        let i : at ≡ suc (at - 1) = omega arith in
-        (i ∙ sym (ap oneMore p), omega (arith, place-below (side a b) (sidesIn o N w m) (at - 1) p, length-pairs (loOf o N w) (hiOf o N w) m))
+pub found-key : {o N : ℕ} {w : List ℕ} {m at p : ℕ} (u v : ℕ) → u < v → Walked o N w m u v at p → (at ≡ oneMore (place (key u v) (sidesIn o N w m))) × (at ≤ m)
+found-key u v h t = rw (⊎-elim (λ p. p .0) (λ p. absurd (omega (arith, p .1))) (key-either u v)) (t .number, t .few)
 
-pub found-key : {o N : ℕ} {w : List ℕ} {m at : ℕ} (u v : ℕ) → u < v → Held o N w m → at ≡ seek (loOf o N w) (hiOf o N w) u v m → (at ≡ oneMore (place (key u v) (sidesIn o N w m))) × (at ≤ m)
-found-key u v h t e = rw (⊎-elim (λ p. p .0) (λ p. absurd (omega (arith, p .1))) (key-either u v)) (found-side u v t e)
-
-pub found-key′ : {o N : ℕ} {w : List ℕ} {m at : ℕ} (u v : ℕ) → v ≤ u → Held o N w m → at ≡ seek (loOf o N w) (hiOf o N w) v u m → (at ≡ oneMore (place (key u v) (sidesIn o N w m))) × (at ≤ m)
-found-key′ u v h t e = rw (⊎-elim (λ p. absurd (omega (arith, p .1))) (λ p. p .0) (key-either u v)) (found-side v u t e)
+pub found-key′ : {o N : ℕ} {w : List ℕ} {m at p : ℕ} (u v : ℕ) → v ≤ u → Walked o N w m v u at p → (at ≡ oneMore (place (key u v) (sidesIn o N w m))) × (at ≤ m)
+found-key′ u v h t = rw (⊎-elim (λ p. absurd (omega (arith, p .1))) (λ p. p .0) (key-either u v)) (t .number, t .few)
 
 -- ---- an empty table
 
@@ -212,11 +303,11 @@ zeros-at l i (suc k) (suc j) r h =
     rw e (zeros-at (set l i 0) (suc i) k j (omega (arith, length-set l i 0)) (omega arith))
 
 pub empty-held : (o N : ℕ) (w : List ℕ) → (0 < N) × (N ≤ 2 ^ 32) → o + N ≤ length w → Held o N (sets w o (replicate N 0)) 0
-unfolding last pairs
+unfolding pairs
 empty-held o N w b r = record {
   buckets = b .0;
   narrow = b .1;
   room = omega (arith, length-sets w o (replicate N 0));
-  table = record { heads = λ h l. zeros-at w o N h r l; links = λ k l. absurd (omega arith) };
+  trees = no-trees (holdOf (sets w o (replicate N 0))) (λ h l. zeros-at w o N h r l);
   numbered = λ k l. absurd (omega arith);
 }

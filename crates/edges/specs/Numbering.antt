@@ -22,7 +22,7 @@ trisFrom c w (suc i) = trisFrom c w i ++ (triFrom c w i ∷ [])
 pub record Room (c e o N t len : ℕ) : Type 0 where
   pub corners : c + 3 * t ≤ e
   pub numbers : e + 3 * t ≤ o
-  pub table : o + N + 9 * t ≤ len
+  pub table : o + N + 12 * t ≤ len
   pub narrow : 3 * t < 2 ^ 32
   pub buckets : 0 < N
   pub few-buckets : N ≤ 2 ^ 32
@@ -35,7 +35,7 @@ pub record NumberStep (c e o N i : ℕ) (w : List ℕ) (m : ℕ) (w′ : List �
   pub more : m′ ≤ m + 3
   pub most : m ≤ m′
   pub same-length : length w′ ≡ length w
-  pub elsewhere : (j : ℕ) → (j < o) ⊎ (o + N + 3 * m′ ≤ j) → (j < e + 3 * i) ⊎ (e + 3 * i + 3 ≤ j) → getD w′ j 0 ≡ getD w j 0
+  pub elsewhere : (j : ℕ) → (j < o) ⊎ (o + N + 4 * m′ ≤ j) → (j < e + 3 * i) ⊎ (e + 3 * i + 3 ≤ j) → getD w′ j 0 ≡ getD w j 0
 
 -- the m sides of the first t triangles stand in the table in the order first met, and the numbers of each triangle's sides at their place; all else is as it was
 pub record NumberedTo (c e o N t : ℕ) (w w′ : List ℕ) (m : ℕ) : Type 0 where
@@ -44,7 +44,7 @@ pub record NumberedTo (c e o N t : ℕ) (w w′ : List ℕ) (m : ℕ) : Type 0 w
   pub numbers : (i : ℕ) → i < t → NumbersOf (triFrom c w i) (sidesIn o N w′ m) (getD w′ (e + 3 * i) 0) (getD w′ (e + 3 * i + 1) 0) (getD w′ (e + 3 * i + 2) 0)
   pub few : m ≤ 3 * t
   pub same-length : length w′ ≡ length w
-  pub elsewhere : (j : ℕ) → (j < o) ⊎ (o + N + 3 * m ≤ j) → (j < e) ⊎ (e + 3 * t ≤ j) → getD w′ j 0 ≡ getD w j 0
+  pub elsewhere : (j : ℕ) → (j < o) ⊎ (o + N + 4 * m ≤ j) → (j < e) ⊎ (e + 3 * t ≤ j) → getD w′ j 0 ≡ getD w j 0
 
 -- how often the number s stands among the first k from e on
 unfoldable pub occurs : ℕ → ℕ → List ℕ → ℕ → ℕ

@@ -1,7 +1,6 @@
 // Sides of triangles, numbered in the order first met, lower end first: the Rust's HashMap of sides, and its list of them, in lent numbers.
-// The table stands in one slice of numbers: its buckets, then three numbers for each of its sides (specs/Table.antt).
-// A search looks at the sides of one bucket only, a constant number in the mean if there are as many buckets as sides; that it finds the right
-// place is proved for any function that puts sides into buckets.
+// The table stands in one slice of numbers: its buckets, then four numbers for each of its sides (specs/Table.antt). No numbers are mixed to choose a bucket,
+// and no floor makes a search long: the sides of a bucket, which share their lower end, stand in a tree by the digits of their upper end.
 pub mod numbers;
 
 ghost use mathlib.Core.Path.{_≡_};
@@ -11,7 +10,7 @@ ghost use lib.ListN.{length, replicate};
 ghost use lib.Seq.{sets};
 ghost use lib.Dec.{eqb};
 ghost use Rattle.mesh.specs.Mesh.{side, key, tri, place};
-ghost use Rattle.edges.specs.Table.{slotOf, seek, loOf, hiOf, sidesIn, Held, Met, MetTri, oneMore};
+ghost use Rattle.edges.specs.Table.{slotOf, pathOf, sidesIn, rowOf, endOf, Held, Walked, Met, MetTri, oneMore};
 
 // Where a table stands, of how many buckets, and how many sides it has.
 pub struct Table {
@@ -35,12 +34,31 @@ pub struct Meetings {
     pub ca: usize,
 }
 
-// The bucket of a side.
+// The bucket of a side, of n.
 fn slot(n: usize, a: u32, b: u32) -> usize
-    requires { ⌜ (0 < n) × (n ≤ 2 ^ 32) ⌝ }
+    requires { ⌜ 0 < n ⌝ }
     ensures { λ r. ⌜ (r ≡ slotOf n a b) × (r < n) ⌝ }
 {
-    (mesh::index(a) * 1640531527 + mesh::index(b) * 1172981867) % 0x1_0000_0000 * n / 0x1_0000_0000
+    let low = mesh::index(a);
+    if low < n {
+        return low;
+    }
+    low % n
+}
+
+// The path of a side.
+fn path(a: u32, b: u32) -> usize
+    ensures { λ r. ⌜ r ≡ pathOf a b ⌝ }
+{
+    mesh::index(a) * 0x2_0000 + mesh::index(b)
+}
+
+// Where the row of side k begins: its lower end, its upper end, two links.
+pub fn row(t: Table, k: usize) -> usize
+    requires { ⌜ rowOf t k < 2 ^ 64 ⌝ }
+    ensures { λ r. ⌜ r ≡ rowOf t k ⌝ }
+{
+    t.base + t.buckets + 4 * k
 }
 
 fn same_side(a: u32, b: u32, c: u32, d: u32) -> bool
@@ -69,21 +87,30 @@ pub fn clear(w: &mut [u32], base: usize, n: usize)
     zeros(w, base, n);
 }
 
-// One more than the number of the side a b, or 0.
-fn find(w: &[u32], t: Table, a: u32, b: u32) -> usize
+// Where the walk to a side ends: one more than the side's number, or 0 and the empty position.
+struct Spot {
+    at: usize,
+    position: usize,
+}
+
+// The walk to the side a b.
+fn walk(w: &[u32], t: Table, a: u32, b: u32) -> Spot
     requires { ⌜ Held (t .base) (t .buckets) (now w) (t .sides) ⌝ }
-    ensures { λ r. ⌜ r ≡ seek (loOf (t .base) (t .buckets) (now (w .entry))) (hiOf (t .base) (t .buckets) (now (w .entry))) a b (t .sides) ⌝ }
+    ensures { λ r. ⌜ Walked (t .base) (t .buckets) (now (w .entry)) (t .sides) a b (r .at) (r .position) ⌝ }
 {
-    let h = t.base + slot(t.buckets, a, b);
-    let mut at = mesh::index(w[h]);
+    let mut position = t.base + slot(t.buckets, a, b);
+    let mut rest = path(a, b);
+    let mut at = mesh::index(w[position]);
     while at != 0 {
-        let k = t.base + t.buckets + 3 * (at - 1);
+        let k = t.base + t.buckets + 4 * (at - 1);
         if same_side(w[k], w[k + 1], a, b) {
-            return at;
+            return Spot { at, position };
         }
-        at = mesh::index(w[k + 2]);
+        position = k + 2 + rest % 2;
+        rest = rest / 2;
+        at = mesh::index(w[position]);
     }
-    0
+    Spot { at, position }
 }
 
 // One more than the number of the side of u and v, or 0.
@@ -92,32 +119,34 @@ pub fn find_side(w: &[u32], t: Table, u: u32, v: u32) -> usize
     ensures { λ r. ⌜ (r ≡ oneMore (place (key u v) (sidesIn (t .base) (t .buckets) (now (w .entry)) (t .sides)))) × (r ≤ t .sides) ⌝ }
 {
     if u < v {
-        return find(w, t, u, v);
+        let s = walk(w, t, u, v);
+        return s.at;
     }
-    find(w, t, v, u)
+    let s = walk(w, t, v, u);
+    s.at
 }
 
 // The side a b, lower end first, is found or put into the table.
 fn find_or_insert(w: &mut [u32], t: Table, a: u32, b: u32) -> Meeting
     requires { ⌜ Held (t .base) (t .buckets) (now w) (t .sides) ⌝ }
-    requires { ⌜ (t .base + t .buckets + 3 * (t .sides + 1) ≤ length (now w)) × (t .sides + 1 < 2 ^ 32) ⌝ }
+    requires { ⌜ (endOf t + 4 ≤ length (now w)) × (t .sides + 1 < 2 ^ 32) ⌝ }
     ensures { λ r. ⌜ Met (t .base) (t .buckets) (now (w .entry)) (t .sides) (now (w .exit)) (r .sides) (r .number) (side a b) ⌝ }
 {
-    let at = find(w, t, a, b);
+    let s = walk(w, t, a, b);
     let m = t.sides;
-    if at != 0 {
+    if s.at != 0 {
         return Meeting {
             sides: m,
-            number: at - 1,
+            number: s.at - 1,
         };
     }
-    let h = t.base + slot(t.buckets, a, b);
-    let old = w[h];
-    let k = t.base + t.buckets + 3 * m;
+    let position = s.position;
+    let k = t.base + t.buckets + 4 * m;
     w[k] = a;
     w[k + 1] = b;
-    w[k + 2] = old;
-    w[h] = (m + 1) as u32;
+    w[k + 2] = 0;
+    w[k + 3] = 0;
+    w[position] = (m + 1) as u32;
     Meeting {
         sides: m + 1,
         number: m,
@@ -127,7 +156,7 @@ fn find_or_insert(w: &mut [u32], t: Table, a: u32, b: u32) -> Meeting
 // The side of u and v is met.
 pub fn meet_side(w: &mut [u32], t: Table, u: u32, v: u32) -> Meeting
     requires { ⌜ Held (t .base) (t .buckets) (now w) (t .sides) ⌝ }
-    requires { ⌜ (t .base + t .buckets + 3 * (t .sides + 1) ≤ length (now w)) × (t .sides + 1 < 2 ^ 32) ⌝ }
+    requires { ⌜ (endOf t + 4 ≤ length (now w)) × (t .sides + 1 < 2 ^ 32) ⌝ }
     ensures { λ r. ⌜ Met (t .base) (t .buckets) (now (w .entry)) (t .sides) (now (w .exit)) (r .sides) (r .number) (key u v) ⌝ }
 {
     if u < v {
@@ -139,7 +168,7 @@ pub fn meet_side(w: &mut [u32], t: Table, u: u32, v: u32) -> Meeting
 // The sides a b, b c and c a of a triangle are met.
 pub fn meet_triangle(w: &mut [u32], t: Table, a: u32, b: u32, c: u32) -> Meetings
     requires { ⌜ Held (t .base) (t .buckets) (now w) (t .sides) ⌝ }
-    requires { ⌜ (t .base + t .buckets + 3 * (t .sides + 3) ≤ length (now w)) × (t .sides + 3 < 2 ^ 32) ⌝ }
+    requires { ⌜ (endOf t + 12 ≤ length (now w)) × (t .sides + 3 < 2 ^ 32) ⌝ }
     ensures { λ r. ⌜ MetTri (t .base) (t .buckets) (now (w .entry)) (t .sides) (now (w .exit)) (r .sides) (r .ab) (r .bc) (r .ca) (tri a b c) ⌝ }
 {
     let p = meet_side(w, t, a, b);

@@ -5,7 +5,7 @@ ghost use Prim.Native.Nat.{_+_, _*_, _<_, _≤_, _^_};
 ghost use mathlib.Core.List.{[], _∷_};
 ghost use lib.ListN.{length, getD, set};
 ghost use lib.Seq.{sets};
-ghost use Rattle.edges.specs.Table.{Held, thirds, split};
+ghost use Rattle.edges.specs.Table.{Held, endOf, fourths, split};
 ghost use Rattle.edges.specs.Numbering.{Room, NumberStep, NumberedTo, Below, Counted};
 
 // Three numbers in a row.
@@ -78,25 +78,25 @@ pub fn number_triangles(w: &mut [u32], p: Plan) -> usize
     number_all(w, p)
 }
 
-// Every third of the numbers from `at` on, m of them, copied to `to`.
-fn copy_thirds(w: &mut [u32], at: usize, m: usize, to: usize)
-    requires { ⌜ (at + 3 * m ≤ to + 2) × (to + m ≤ length (now w)) ⌝ }
-    ensures { λ _. ⌜ now (w .exit) ≡ sets (now (w .entry)) to (thirds at (now (w .entry)) m) ⌝ }
+// Every fourth of the numbers from `at` on, m of them, copied to `to`.
+fn copy_fourths(w: &mut [u32], at: usize, m: usize, to: usize)
+    requires { ⌜ (at + 4 * m ≤ to + 3) × (to + m ≤ length (now w)) ⌝ }
+    ensures { λ _. ⌜ now (w .exit) ≡ sets (now (w .entry)) to (fourths at (now (w .entry)) m) ⌝ }
 {
     let mut k = 0;
     while k < m {
-        w[to + k] = w[at + 3 * k];
+        w[to + k] = w[at + 4 * k];
         k += 1;
     }
 }
 
 // The lower ends of a table's sides, copied to `from`, and their upper ends to `to`.
 pub fn split_ends(w: &mut [u32], t: crate::Table, from: usize, to: usize)
-    requires { ⌜ (t .base + t .buckets + 3 * t .sides ≤ from) × (from + t .sides ≤ to) × (to + t .sides ≤ length (now w)) ⌝ }
+    requires { ⌜ (endOf t ≤ from) × (from + t .sides ≤ to) × (to + t .sides ≤ length (now w)) ⌝ }
     ensures { λ _. ⌜ now (w .exit) ≡ split (t .base) (t .buckets) (t .sides) from to (now (w .entry)) ⌝ }
 {
-    copy_thirds(w, t.base + t.buckets, t.sides, from);
-    copy_thirds(w, t.base + t.buckets + 1, t.sides, to);
+    copy_fourths(w, t.base + t.buckets, t.sides, from);
+    copy_fourths(w, t.base + t.buckets + 1, t.sides, to);
 }
 
 // One more of number j from e on, among the counts from a on.

@@ -1,35 +1,22 @@
--- `edges::find_or_insert` meets its contract: each return opens the definition and rewrites it by the tests and the calls on its way; the laws are in proofs/Stored.
+-- `edges::find_or_insert` meets its contract: a side that the walk found stays, any other is put where the walk ended; the laws are in proofs/Stored.
 use borrow.Author.Needs.{needs}
-use mathlib.Core.Path.{refl, sym, _∙_}
 use native.Mathlib.Omega.{arith}
 use lib.ListN.{length-set}
-use Rattle.edges.proofs.Stored.{met-found, met-added}
+use Rattle.edges.proofs.Stored.{spot-in, met-found, met-added}
 use Rattle.edges.proofs.find_or_insert.Statement.{statement}
 use Rattle.edges.proofs.find_or_insert.Tie as tie
 
-find-requires : tie.Need-find-requires
-find-requires c κs = search needs
+walk-requires : tie.Need-walk-requires
+walk-requires c κs = search needs
 
-sub-t13 : tie.Need-sub-t13
-sub-t13 c = search needs
+sub-t12 : tie.Need-sub-t12
+sub-t12 c = search needs
 
 same-length : tie.Need-same-length
 same-length c = search needs
 
 returns : tie.Need-returns
-returns c = met-found _ _ (c .before .before .before .before .pre .0) (c .before .find .ensures) (c .if1 .taken)
-
-slot-requires : tie.Need-slot-requires
-slot-requires c κs = search needs
-
-add-h : tie.Need-add-h
-add-h c = search needs
-
-mul-old : tie.Need-mul-old
-mul-old c = search needs
-
-slice-read-old : tie.Need-slice-read-old
-slice-read-old c = search needs
+returns c = met-found _ _ (c .before .before .before .before .before .before .pre .0) (c .before .before .before .walk .ensures) (c .before .if1 .taken)
 
 add-k : tie.Need-add-k
 add-k c = search needs
@@ -67,36 +54,41 @@ slice-write-w-3 c = simp length-set (omega arith)
 add-w-3 : tie.Need-add-w-3
 add-w-3 c = search needs
 
-cast-w : tie.Need-cast-w
-cast-w c = search needs
-
 mul-w-4 : tie.Need-mul-w-4
 mul-w-4 c = search needs
 
 slice-write-w-4 : tie.Need-slice-write-w-4
 slice-write-w-4 c = simp length-set (omega arith)
 
-add-t17 : tie.Need-add-t17
-add-t17 c = search needs
+add-w-4 : tie.Need-add-w-4
+add-w-4 c = search needs
+
+cast-w : tie.Need-cast-w
+cast-w c = search needs
+
+mul-w-5 : tie.Need-mul-w-5
+mul-w-5 c = record { fits = omega (arith, spot-in (c .before .before .before .walk .ensures .spot)) }
+
+slice-write-w-5 : tie.Need-slice-write-w-5
+slice-write-w-5 c = simp length-set (omega (arith, spot-in (c .before .before .before .walk .ensures .spot)))
+
+add-t14 : tie.Need-add-t14
+add-t14 c = search needs
 
 same-length-2 : tie.Need-same-length-2
 same-length-2 c = search needs
 
 returns-2 : tie.Need-returns-2
-returns-2 c = met-added _ _ (c .before .before .before .before .before .before .before .before .pre .0) (sym (c .before .before .before .before .before .find .ensures) ∙ c .before .before .before .before .if1 .left) (c .before .before .before .before .before .before .before .before .pre .1 .0) (c .before .before .before .slot .ensures) refl
+returns-2 c = met-added _ _ (c .before .before .before .before .before .before .pre .0) (c .before .before .before .walk .ensures) (c .before .if1 .left) (c .before .before .before .before .before .before .pre .1 .0)
 
 pub find-or-insert-spec : {M : Type 1} → statement M
 find-or-insert-spec =
     tie.close
     (tie.spec
-    find-requires
-    sub-t13
+    walk-requires
+    sub-t12
     same-length
     returns
-    slot-requires
-    add-h
-    mul-old
-    slice-read-old
     add-k
     mul-k
     add-k-2
@@ -109,9 +101,12 @@ find-or-insert-spec =
     mul-w-3
     slice-write-w-3
     add-w-3
-    cast-w
     mul-w-4
     slice-write-w-4
-    add-t17
+    add-w-4
+    cast-w
+    mul-w-5
+    slice-write-w-5
+    add-t14
     same-length-2
     returns-2)

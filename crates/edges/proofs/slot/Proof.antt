@@ -1,39 +1,25 @@
--- `edges::slot` meets its contract: each return opens the definition and rewrites it by the tests and the calls on its way; the laws are in proofs/Bucket.
+-- `edges::slot` meets its contract: the definition is opened at its test; the bound is in proofs/Stored.
 use borrow.Author.Needs.{needs}
+use borrow.Author.Tests.{lt-ltb, le-ltb}
+use mathlib.Core.Path.{sym, _∙_}
+use Prim.Native.Nat.{_%_}
+use native.Mathlib.Omega.{arith}
+use native.Mathlib.Nat.{mod-lt}
 use Rattle.edges.specs.Table.{slotOf}
-use Rattle.edges.proofs.Bucket.{slot-fits, slot-below}
 use Rattle.edges.proofs.slot.Statement.{statement}
 use Rattle.edges.proofs.slot.Tie as tie
 
 index-requires : tie.Need-index-requires
 index-requires c κs = search needs
 
-mul-result : tie.Need-mul-result
-mul-result c = search needs
-
-index-requires-2 : tie.Need-index-requires-2
-index-requires-2 c κs = search needs
-
-mul-result-2 : tie.Need-mul-result-2
-mul-result-2 c = search needs
-
-add-result : tie.Need-add-result
-add-result c = search needs
-
-mul-result-3 : tie.Need-mul-result-3
-mul-result-3 c = record { fits = slot-fits _ _ (c .before .before .pre) }
-
 returns : tie.Need-returns
-returns c = (unfold slotOf in rw (c .before .index .ensures, c .index2 .ensures), slot-below _ _ (c .before .before .pre .0))
+returns c = let e = c .before .index .ensures in (unfold slotOf in rw (lt-ltb _ _ (rw e at (c .if1 .taken)), e), c .if1 .taken)
+
+rem-result : tie.Need-rem-result
+rem-result c = search needs
+
+returns-2 : tie.Need-returns-2
+returns-2 c = let e = c .before .index .ensures in (unfold slotOf in rw (le-ltb _ _ (rw e at (c .if1 .left)), e), mod-lt _ (c .before .before .pre))
 
 pub slot-spec : {M : Type 1} → statement M
-slot-spec =
-    tie.close
-    (tie.spec
-    index-requires
-    mul-result
-    index-requires-2
-    mul-result-2
-    add-result
-    mul-result-3
-    returns)
+slot-spec = tie.close (tie.spec index-requires returns rem-result returns-2)

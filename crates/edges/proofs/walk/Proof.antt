@@ -1,22 +1,25 @@
--- `edges::find` meets its contract: the loop keeps what `Inv-loop` says, and what is left to do falls at each turn; the laws are in proofs/Chain.
+-- `edges::walk` meets its contract: the loop keeps a `Walk` to the side, and goes on to later sides only; the laws are in proofs/Tree and proofs/Stored.
 use borrow.Author.Needs.{needs}
-use mathlib.Core.Path.{sym, _∙_}
-use Rattle.edges.specs.Table.{Held, loOf, hiOf}
-use Rattle.edges.proofs.Chain.{Chase, chase-start, chase-step, chase-found, chase-none}
-use Rattle.edges.proofs.find.Statement.{statement}
-use Rattle.edges.proofs.find.Tie as tie
+use mathlib.Core.Path.{refl, sym, _∙_}
+use Rattle.edges.proofs.Tree.{left-over}
+use Rattle.edges.proofs.Stored.{Going, going-start, going-on, going-found, going-none}
+use Rattle.edges.proofs.walk.Statement.{statement}
+use Rattle.edges.proofs.walk.Tie as tie
 
 abbrev Inv-loop : tie.InvT-loop
-Inv-loop w t a b h at₀ at = Held (t .base) (t .buckets) w (t .sides) × Chase (t .buckets) (loOf (t .base) (t .buckets) w) (hiOf (t .base) (t .buckets) w) (t .sides) a b at
+Inv-loop w t a b position₀ rest₀ at₀ position rest at = Going (t .base) (t .buckets) w (t .sides) a b position rest at
 
 abbrev μ-loop : tie.MeasureT-loop
-μ-loop w t a b h at₀ at = at
+μ-loop w t a b position₀ rest₀ at₀ position rest at = left-over (t .sides) at
 
 slot-requires : tie.Need-slot-requires Inv-loop μ-loop
 slot-requires c κs = search needs
 
-add-h : tie.Need-add-h Inv-loop μ-loop
-add-h c = search needs
+add-position : tie.Need-add-position Inv-loop μ-loop
+add-position c = search needs
+
+path-requires : tie.Need-path-requires Inv-loop μ-loop
+path-requires c κs = search needs
 
 mul-index : tie.Need-mul-index Inv-loop μ-loop
 mul-index c = search needs
@@ -28,7 +31,7 @@ index-requires : tie.Need-index-requires Inv-loop μ-loop
 index-requires c κs = search needs
 
 loop-holds : tie.Need-loop-holds Inv-loop μ-loop
-loop-holds c = (c .before .before .before .before .before .pre, chase-start (c .before .before .before .before .before .pre .table) (c .before .before .before .slot .ensures) (c .index .ensures))
+loop-holds c = going-start (c .before .before .before .before .before .before .pre) (c .before .before .before .before .slot .ensures) refl (c .before .before .path .ensures) (c .index .ensures)
 
 add-k : tie.Need-add-k Inv-loop μ-loop
 add-k c = search needs
@@ -61,10 +64,13 @@ same-side-requires : tie.Need-same-side-requires Inv-loop μ-loop
 same-side-requires c κs = search needs
 
 returns : tie.Need-returns Inv-loop μ-loop
-returns c = chase-found (c .before .before .before .before .before .before .loop .inv .1) (c .before .before .before .before .before .loop-test .taken) (sym (c .before .same-side .ensures) ∙ c .if1 .taken)
+returns c = going-found (c .before .before .before .before .before .before .loop .inv) (c .before .before .before .before .before .loop-test .taken) (sym (c .before .same-side .ensures) ∙ c .if1 .taken)
 
-add-index : tie.Need-add-index Inv-loop μ-loop
-add-index c = search needs
+add-position-2 : tie.Need-add-position-2 Inv-loop μ-loop
+add-position-2 c = search needs
+
+add-position-3 : tie.Need-add-position-3 Inv-loop μ-loop
+add-position-3 c = search needs
 
 mul-index-2 : tie.Need-mul-index-2 Inv-loop μ-loop
 mul-index-2 c = search needs
@@ -76,22 +82,23 @@ index-requires-2 : tie.Need-index-requires-2 Inv-loop μ-loop
 index-requires-2 c κs = search needs
 
 loop-less : tie.Need-loop-less Inv-loop μ-loop
-loop-less c = let i = c .before .before .before .before .before .before .before .before .loop .inv in chase-step (i .1) (c .before .before .before .before .before .before .before .loop-test .taken) (i .0 .table) (sym (c .before .before .before .same-side .ensures) ∙ c .before .before .if1 .left) (c .index2 .ensures) .1
+loop-less c = going-on (c .before .before .before .before .before .before .before .before .loop .inv) (c .before .before .before .before .before .before .before .loop-test .taken) (sym (c .before .before .before .same-side .ensures) ∙ c .before .before .if1 .left) (c .index2 .ensures) .1
 
 loop-again : tie.Need-loop-again Inv-loop μ-loop
-loop-again c = let i = c .before .before .before .before .before .before .before .before .loop .inv in (i .0, chase-step (i .1) (c .before .before .before .before .before .before .before .loop-test .taken) (i .0 .table) (sym (c .before .before .before .same-side .ensures) ∙ c .before .before .if1 .left) (c .index2 .ensures) .0)
+loop-again c = going-on (c .before .before .before .before .before .before .before .before .loop .inv) (c .before .before .before .before .before .before .before .loop-test .taken) (sym (c .before .before .before .same-side .ensures) ∙ c .before .before .if1 .left) (c .index2 .ensures) .0
 
 returns-2 : tie.Need-returns-2 Inv-loop μ-loop
-returns-2 c = chase-none (c .before .loop .inv .1) (c .loop-test .left)
+returns-2 c = going-none (c .before .loop .inv) (c .loop-test .left)
 
-pub find-spec : {M : Type 1} → statement M
-find-spec =
+pub walk-spec : {M : Type 1} → statement M
+walk-spec =
     tie.close
     (tie.spec
     Inv-loop
     μ-loop
     slot-requires
-    add-h
+    add-position
+    path-requires
     mul-index
     shared-slice-read-index
     index-requires
@@ -107,7 +114,8 @@ find-spec =
     shared-slice-read-same-side-2
     same-side-requires
     returns
-    add-index
+    add-position-2
+    add-position-3
     mul-index-2
     shared-slice-read-index-2
     index-requires-2
