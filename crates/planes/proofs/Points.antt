@@ -1,7 +1,6 @@
 -- What stands at each place of a refined floor's points: the old point there, or the midpoint of a cut side. And the loops that store planes. Assumes nothing.
 use Prim.Native.Nat.{ℕ, zero, suc, _+_, _*_, _/_, _-_, _≤_, _<_}
 use native.Mathlib.Omega.{arith}
-use native.Mathlib.Decide.{ℕ-discrete}
 use mathlib.Core.Path.{_≡_, refl, sym, ap, _∙_}
 use mathlib.Core.List.{List, [], _∷_, _++_, map}
 use lib.ListN.{length, length-append, length-map, getD, List·getD-append}
@@ -13,8 +12,8 @@ use Rattle.mesh.specs.Mesh.{Side, side}
 use Rattle.areas.specs.Area.{halfway}
 use Rattle.areas.specs.Points.{midpoint, midpoints, morePoints}
 use Rattle.edges.specs.declared.Table.{Table}
-use Rattle.edges.specs.Table.{pairs, loOf, hiOf}
-use Rattle.edges.proofs.Chain.{length-pairs}
+use Rattle.edges.specs.Table.{loOf, hiOf}
+use Rattle.edges.proofs.Tree.{length-pairs, pair-at}
 use Rattle.planes.specs.Planes.{cutsIn, midwayAt, coordinateAt, coordinatePlane, meanOn, cutAt, valuePlane}
 use Rattle.planes.specs.declared.Mean.{Mean}
 
@@ -25,17 +24,6 @@ mids-at pts (s ∷ l) zero k b h = let e : 3 * 0 + k ≡ k = omega arith in rw e
 mids-at pts (s ∷ l) (suc j) k b h =
     let e : 3 * suc j + k ≡ 3 + (3 * j + k) = omega arith in
     rw e (getD-append-add (midpoint pts s) (midpoints pts l) (3 * j + k) nan ∙ mids-at pts l j k b (omega arith))
-
-pairs-at : (lo hi : ℕ → ℕ) (m j : ℕ) → j < m → getD (pairs lo hi m) j (side 0 0) ≡ side (lo j) (hi j)
-unfolding pairs
-pairs-at lo hi zero j h = absurd (omega arith)
-pairs-at lo hi (suc m) j h = go (ℕ-discrete j m) (pairs-at lo hi m j)
-  where
-    go : Dec (j ≡ m) → (j < m → getD (pairs lo hi m) j (side 0 0) ≡ side (lo j) (hi j)) → getD (pairs lo hi m ++ (side (lo m) (hi m) ∷ [])) j (side 0 0) ≡ side (lo j) (hi j)
-    go (yes e) before =
-        let i : j ≡ length (pairs lo hi m) + 0 = omega (arith, length-pairs lo hi m) in
-        ap (λ (k : ℕ). getD (pairs lo hi m ++ (side (lo m) (hi m) ∷ [])) k (side 0 0)) i ∙ getD-append-add (pairs lo hi m) (side (lo m) (hi m) ∷ []) 0 (side 0 0) ∙ rw e
-    go (no e) before = List·getD-append (pairs lo hi m) (side (lo m) (hi m) ∷ []) (side 0 0) j (omega (arith, length-pairs lo hi m)) ∙ before (omega arith)
 
 pub cuts-length : (t : Table) (u : List ℕ) → length (cutsIn t u) ≡ t .sides
 unfolding cutsIn
@@ -68,7 +56,7 @@ new-coordinate pts t u k v b whole h g =
     ∙ midpoint-at pts (getD (cutsIn t u) j (side 0 0)) (loOf (t .base) (t .buckets) u j) (hiOf (t .base) (t .buckets) u j) k b (at j (omega arith)))
   where
     at : (j : ℕ) → j < t .sides → getD (cutsIn t u) j (side 0 0) ≡ side (loOf (t .base) (t .buckets) u j) (hiOf (t .base) (t .buckets) u j)
-    at j h = unfold cutsIn in pairs-at (loOf (t .base) (t .buckets) u) (hiOf (t .base) (t .buckets) u) (t .sides) j h
+    at j h = unfold cutsIn in pair-at (loOf (t .base) (t .buckets) u) (hiOf (t .base) (t .buckets) u) (t .sides) j h
 
 -- ---- the loop
 
@@ -81,7 +69,7 @@ plane-done w at pts t u k e = e ∙ rw (cuts-length t u)
 
 pub cut-at : (t : Table) (u : List ℕ) (j : ℕ) → j < t .sides → getD (cutsIn t u) j (side 0 0) ≡ cutAt t u j
 unfolding cutsIn
-cut-at t u j h = pairs-at (loOf (t .base) (t .buckets) u) (hiOf (t .base) (t .buckets) u) (t .sides) j h
+cut-at t u j h = pair-at (loOf (t .base) (t .buckets) u) (hiOf (t .base) (t .buckets) u) (t .sides) j h
 
 map-at : (f : Side → Float) (l : List Side) (j : ℕ) → j < length l → getD (map f l) j nan ≡ f (getD l j (side 0 0))
 map-at f [] j h = absurd (omega arith)

@@ -2,21 +2,13 @@
 // cut sides, which stand in a table of crate edges; and the corners of the triangles as given. The first pass has no cut sides. specs/Planes.antt says what stands in each plane.
 use edges::Table;
 ghost use mathlib.Core.Path.{_≡_};
-ghost use Prim.Native.Nat.{_+_, _*_, _/_, _<_, _≤_, _^_};
+ghost use Prim.Native.Nat.{_+_, _*_, _/_, _<_, _≤_};
 ghost use lib.ListN.{length, getD, set};
 ghost use lib.Ieee.{nan};
 ghost use Rattle.cells.specs.Region.{put};
 ghost use Rattle.edges.specs.Table.{endOf};
 ghost use Rattle.planes.specs.Planes.{cutsIn, midwayAt, coordinateAt, coordinatePlane, PointsIn, PlaneRoom};
 ghost use Rattle.planes.specs.Planes.{cutAt, meanOf, meanOn, valuePlane, ValueRoom};
-
-// Where the ends of side j stand, the lower and then the upper.
-fn row(table: Table, j: usize) -> usize
-    requires { ⌜ (j < table .sides) × (endOf table < 2 ^ 64) ⌝ }
-    ensures { λ r. ⌜ (r ≡ table .base + table .buckets + 3 * j) × (r + 2 ≤ endOf table) ⌝ }
-{
-    table.base + table.buckets + 3 * j
-}
 
 // x of point v as given where k is 0, and y where it is 1.
 fn given(points: &[f64], k: usize, v: u32) -> f64
@@ -31,7 +23,7 @@ fn midway(points: &[f64], numbers: &[u32], table: Table, k: usize, j: usize) -> 
     requires { ⌜ PointsIn (length (now points)) table k (length (now numbers)) × (j < table .sides) ⌝ }
     ensures { λ r. ⌜ r ≡ midwayAt (now (points .entry)) table (now (numbers .entry)) k j ⌝ }
 {
-    let at = row(table, j);
+    let at = edges::row(table, j);
     areas::half_sum(
         given(points, k, numbers[at]),
         given(points, k, numbers[at + 1]),
@@ -104,7 +96,7 @@ fn mean_on(values: &[f64], numbers: &[u32], table: Table, kind: Mean, j: usize) 
     requires { ⌜ (endOf table ≤ length (now numbers)) × (j < table .sides) ⌝ }
     ensures { λ r. ⌜ r ≡ meanOn kind (now (values .entry)) (cutAt table (now (numbers .entry)) j) ⌝ }
 {
-    let at = row(table, j);
+    let at = edges::row(table, j);
     let a = floor::read(values, mesh::index(numbers[at]));
     let b = floor::read(values, mesh::index(numbers[at + 1]));
     between(kind, a, b)

@@ -30,7 +30,7 @@ marked-more f (s ∷ ts) t = go (f s) (marked-more f ts t)
     go true e = ap (λ (l : List Tri). s ∷ l) e
     go false e = e
 
-after-more : (l : List Side) (ts : List Tri) (t : Tri) → sidesAfter l (ts ++ (t ∷ [])) ≡ metAll (sidesAfter l ts) (sides t)
+pub after-more : (l : List Side) (ts : List Tri) (t : Tri) → sidesAfter l (ts ++ (t ∷ [])) ≡ metAll (sidesAfter l ts) (sides t)
 unfolding sidesAfter
 after-more l [] t = refl
 after-more l (s ∷ ts) t = after-more (metAll l (sides s)) ts t
@@ -43,14 +43,14 @@ cuts-more f ts t = rw (marked-more f ts t) (go (f t))
     go true = after-more [] (marked f ts) t
     go false = ap (sidesAfter []) (append-nil (marked f ts))
 
-count-more : (f : Tri → Bool) (ts : List Tri) (t : Tri) → length (marked f (ts ++ (t ∷ []))) ≡ one (f t) + length (marked f ts)
+pub count-more : (f : Tri → Bool) (ts : List Tri) (t : Tri) → length (marked f (ts ++ (t ∷ []))) ≡ one (f t) + length (marked f ts)
 count-more f ts t = ap length (marked-more f ts t) ∙ length-append (marked f ts) (cond (f t) (t ∷ []) []) ∙ go (f t)
   where
     go : (b : Bool) → length (marked f ts) + length (cond b (t ∷ []) []) ≡ one b + length (marked f ts)
     go true = omega arith
     go false = omega arith
 
-one-most : (b : Bool) → one b ≤ 1
+pub one-most : (b : Bool) → one b ≤ 1
 one-most true = omega arith
 one-most false = omega arith
 
@@ -114,7 +114,7 @@ pub one-less-some : (p : ℕ) → p ≢ 0 → oneLess p ≡ some (p - 1)
 one-less-some zero h = absurd (h refl)
 one-less-some (suc p) h = let e : suc p - 1 ≡ p = omega arith in rw e
 
-one-less-one-more : (o : Option ℕ) → oneLess (oneMore o) ≡ o
+pub one-less-one-more : (o : Option ℕ) → oneLess (oneMore o) ≡ o
 one-less-one-more none = refl
 one-less-one-more (some k) = refl
 

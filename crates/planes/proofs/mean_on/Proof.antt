@@ -38,7 +38,7 @@ between-requires : tie.Need-between-requires
 between-requires c κs = search needs
 
 returns : tie.Need-returns
-returns c = c .between .ensures ∙ rw (c .before .read2 .ensures, c .before .before .index2 .ensures, c .before .before .before .before .read .ensures, c .before .before .before .before .before .index .ensures, c .before .before .before .before .before .before .before .row .ensures .0)
+returns c = c .between .ensures ∙ rw (c .before .read2 .ensures, c .before .before .index2 .ensures, c .before .before .before .before .read .ensures, c .before .before .before .before .before .index .ensures, c .before .before .before .before .before .before .before .row .ensures)
 
 pub mean-on-spec : {M : Type 1} → statement M
 mean-on-spec =

@@ -34,7 +34,7 @@ half-sum-requires c κs = search needs
 
 returns : tie.Need-returns
 unfolding midwayAt
-returns c = c .half-sum .ensures ∙ rw (c .before .given2 .ensures, c .before .before .before .given .ensures, c .before .before .before .before .before .row .ensures .0)
+returns c = c .half-sum .ensures ∙ rw (c .before .given2 .ensures, c .before .before .before .given .ensures, c .before .before .before .before .before .row .ensures)
 
 pub midway-spec : {M : Type 1} → statement M
 midway-spec =
