@@ -87,7 +87,14 @@ pub fn meet_side(ends: &mut [u32], links: &mut [u32], t: Table, u: u32, v: u32) 
 }
 
 // The sides a b, b c and c a of a triangle are met.
-pub fn meet_triangle(ends: &mut [u32], links: &mut [u32], t: Table, a: u32, b: u32, c: u32) -> Meetings
+pub fn meet_triangle(
+    ends: &mut [u32],
+    links: &mut [u32],
+    t: Table,
+    a: u32,
+    b: u32,
+    c: u32,
+) -> Meetings
     requires { ⌜ HeldApart (t .base) (t .buckets) (now ends) (now links) (t .sides) ⌝ }
     requires { ⌜ (2 * t .sides + 6 ≤ length (now ends)) × ((underAt (t .base) (t .buckets) (t .sides) + 6 ≤ length (now links)) × (t .sides + 3 < 2 ^ 32)) ⌝ }
     ensures { λ r. ⌜ MetTriApart (t .base) (t .buckets) (now (ends .entry)) (now (links .entry)) (t .sides)

@@ -154,7 +154,7 @@ module _ {n : ℕ} {cut : Cut} {l e w w′ : List ℕ} (h : Marks n cut l e w) w
 
 -- ---- what is written
 
-module _ (threshold : Float) (angles points sizes : List Float) (l : List ℕ) {newPoints newSizes : List Float} {newTriangles cutEnds : List ℕ}
+module _ (threshold : Float) (angles points sizes : List Float) (l : List ℕ) (newPoints newSizes : List Float) (newTriangles cutEnds : List ℕ)
     (room : Roomy (length points) (length l) (length sizes) (length newPoints) (length newSizes) (length newTriangles) (length cutEnds)) where
   pub marks-room : MarksRoom (length points / 3) (3 * (length l / 3)) (length l / 3) (length l) (length cutEnds) (length newTriangles)
   marks-room = record {

@@ -273,13 +273,15 @@ module _ {f : Tri → Bool} {n : ℕ} {l : List ℕ} {t : ℕ} {e w w₁ : List 
 pub cut-room : {f : Tri → Bool} {l : List ℕ} {t : ℕ} {w w₁ : List ℕ} {c : ℕ} → FlagsTo f l t w w₁ c → (n corners : ℕ) (e : List ℕ) → MarksRoom n (3 * t) t corners (length e) (length w) → c ≢ 0
     → {w₂ : List ℕ} → w₂ ≡ sets w₁ (3 * t) (replicate (3 * c) 0) → HeldApart (3 * t) (3 * c) e w₂ 0 × MarksRoom n (3 * c) t corners (length e) (length w₂)
 cut-room {t = t} {w} {w₁} {c} h n corners e room q {w₂} z =
-    let long : length w₂ ≡ length w₁ = ap length z ∙ length-sets w₁ (3 * t) (replicate (3 * c) 0) in
-    (rw z (empty-apart (3 * t) (3 * c) e w₁ (omega arith) (omega (arith, room .marks-in, h .same, h .seldom))), record {
-      corners-in = room .corners-in;
-      ends-in = room .ends-in;
-      marks-in = omega (arith, room .marks-in, long, h .same, h .seldom);
-      few = room .few;
-    })
+    let long : length w₂ ≡ length w₁ = ap length z ∙ length-sets w₁ (3 * t) (replicate (3 * c) 0) in (
+      rw z (empty-apart (3 * t) (3 * c) e w₁ (omega arith) (omega (arith, room .marks-in, h .same, h .seldom))),
+      record {
+        corners-in = room .corners-in;
+        ends-in = room .ends-in;
+        marks-in = omega (arith, room .marks-in, long, h .same, h .seldom);
+        few = room .few;
+      },
+    )
 
 -- ---- the marks of the others
 

@@ -25,6 +25,7 @@ use Rattle.refine_floor.proofs.Parts.{one-more}
 set-first : {A : Type 0} (l : List A) (i j : ℕ) (x : A) (ys : List A) → i < j → set (sets l j ys) i x ≡ sets (set l i x) j ys
 set-first l i j x [] h = refl
 set-first {A} l i j x (y ∷ ys) h = set-first (set l j y) i (suc j) x ys (omega arith) ∙ ap (λ (z : List A). sets z (suc j) ys) (set-comm l j i y x (omega arith))
+
 pub sets-prepend : {A : Type 0} (l : List A) (i j : ℕ) (xs ys : List A) → j ≡ i + length xs → sets (sets l j ys) i xs ≡ sets l i (xs ++ ys)
 sets-prepend l i j [] ys e = let z : j ≡ i = omega arith in rw z refl
 sets-prepend l i j (x ∷ xs) ys e = rw (set-first l i j x ys (omega arith)) (sets-prepend (set l i x) (suc i) j xs ys (omega arith))
@@ -119,8 +120,10 @@ pub refined-marked : {n : ℕ} {s : List Side} {l : List ℕ} {t : ℕ} {w w₁ 
 refined-marked {n} {s} {l} {t} {w} {w₁} {w₂} {k} room h e =
     let new = splitTo w₁ l t in
     let is : new ≡ refined (mid n s) (tris l t) = split-refined n s l w₁ t (h .marks) in
-    let long = corners-length new in
-    (rw (sym is) (record {
-      stands = e ∙ front-same (cornersOf new) w₁ w (omega (arith, long, h .counted, h .most, h .same)) (h .same) (λ j g. h .ahead j (omega (arith, long, h .counted, split-least w₁ l t)));
-      counted = omega (arith, h .counted);
-    }), h .least)
+    let long = corners-length new in (
+      rw (sym is) (record {
+        stands = e ∙ front-same (cornersOf new) w₁ w (omega (arith, long, h .counted, h .most, h .same)) (h .same) (λ j g. h .ahead j (omega (arith, long, h .counted, split-least w₁ l t)));
+        counted = omega (arith, h .counted);
+      }),
+      h .least,
+    )
