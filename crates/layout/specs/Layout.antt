@@ -9,11 +9,11 @@ abbrev pub realsOf : ℕ → ℕ → ℕ
 realsOf n t = 21 * n + 19 * t
 
 abbrev pub wordsOf : ℕ → ℕ → ℕ
-wordsOf n t = 28 * t + 3 * n + 2
+wordsOf n t = 30 * t + 2 * n + 1
 
--- as many buckets as a closed floor has sides, and more
-abbrev pub bucketsOf : ℕ → ℕ → ℕ
-bucketsOf n t = t + 2 * n + 2
+-- a bucket for each point, and one more, so that there is one
+abbrev pub bucketsOf : ℕ → ℕ
+bucketsOf n = n + 1
 
 unfoldable pub layoutOf : Base → Layout
 layoutOf at =
@@ -46,11 +46,11 @@ layoutOf at =
       wound = c + 3 * t;
       numbers = c + 6 * t;
       table = c + 9 * t;
-      buckets = bucketsOf n t;
-      from = c + 18 * t + bucketsOf n t;
-      to = c + 18 * t + bucketsOf n t + 3 * t;
-      counts = c + 18 * t + bucketsOf n t + 6 * t;
-      flags = c + 18 * t + bucketsOf n t + 9 * t;
+      buckets = bucketsOf n;
+      from = c + 21 * t + bucketsOf n;
+      to = c + 21 * t + bucketsOf n + 3 * t;
+      counts = c + 21 * t + bucketsOf n + 6 * t;
+      flags = c + 21 * t + bucketsOf n + 9 * t;
     }
 
 -- counts that no sum above overflows at
@@ -93,7 +93,7 @@ pub record Ordered (l : Layout) (reals words : ℕ) : Type 0 where
   pub given-in : l .given + 3 * l .triangles ≤ l .wound
   pub wound-in : l .wound + 3 * l .triangles ≤ l .numbers
   pub numbers-in : l .numbers + 3 * l .triangles ≤ l .table
-  pub table-in : l .table + l .buckets + 9 * l .triangles ≤ l .from
+  pub table-in : l .table + l .buckets + 12 * l .triangles ≤ l .from
   pub some-buckets : 0 < l .buckets
   pub few-buckets : l .buckets ≤ 2 ^ 32
   pub from-in : l .from + 3 * l .triangles ≤ l .to

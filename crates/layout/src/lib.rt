@@ -61,8 +61,8 @@ pub fn layout_at(at: Base) -> Layout
     let c = at.words;
     let n = at.points;
     let t = at.triangles;
-    let buckets = t + 2 * n + 2;
-    let behind = c + 18 * t + buckets;
+    let buckets = n + 1;
+    let behind = c + 21 * t + buckets;
     Layout {
         points: n,
         triangles: t,

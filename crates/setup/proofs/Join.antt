@@ -15,7 +15,7 @@ use Rattle.cells.proofs.Regions.{length-region, getD-region}
 use Rattle.edges.specs.Table.{loOf, hiOf, sidesIn, lower, upper, split, NumbersOf}
 use Rattle.edges.specs.Numbering.{triFrom, trisFrom, NumberedTo}
 use Rattle.edges.specs.Numbering as numbering
-use Rattle.edges.proofs.Chain.{length-pairs}
+use Rattle.edges.proofs.Tree.{length-pairs}
 use Rattle.edges.proofs.Numbering.{length-tris, tri-at}
 use Rattle.edges.proofs.Split.{length-map, split-length, split-before, split-lower, split-upper}
 use Rattle.hermitian.specs.Work.{Graph}
@@ -130,7 +130,7 @@ module _ (l : Layout) (w : List Float) (u : List ℕ) (f : Floor) (o : Ordered l
     list-room : ListRoom (listingAt l m) (l .points) (length u)
     list-room = record { corners-in = omega arith; numbers-in = omega arith; table-in = omega (arith, few); counts-in = omega (arith, few); flags-in = omega arith; narrow = omega arith }
 
-    table-same : (j : ℕ) → j < l .table + l .buckets + 3 * m → getD u₂ j 0 ≡ getD u₁ j 0
+    table-same : (j : ℕ) → j < l .table + l .buckets + 4 * m → getD u₂ j 0 ≡ getD u₁ j 0
     table-same j h = before-from j (omega (arith, o .table-in, few))
 
     edged : Edged l m u₂

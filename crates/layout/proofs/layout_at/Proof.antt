@@ -5,14 +5,8 @@ use Rattle.layout.specs.Layout.{layoutOf}
 use Rattle.layout.proofs.layout_at.Statement.{statement}
 use Rattle.layout.proofs.layout_at.Tie as tie
 
-mul-buckets : tie.Need-mul-buckets
-mul-buckets c = search needs
-
 add-buckets : tie.Need-add-buckets
 add-buckets c = search needs
-
-add-buckets-2 : tie.Need-add-buckets-2
-add-buckets-2 c = search needs
 
 mul-behind : tie.Need-mul-behind
 mul-behind c = search needs
@@ -232,9 +226,7 @@ pub layout-at-spec : {M : Type 1} → statement M
 layout-at-spec =
     tie.close
     (tie.spec
-    mul-buckets
     add-buckets
-    add-buckets-2
     mul-behind
     add-behind
     add-behind-2
