@@ -63,7 +63,8 @@ pub fn turns(n: usize) -> Vec<f64> {
 
 /// Triangles of two sides each in one of 64 of 65,536 buckets, where a bucket is the upper digits of a multiple of both ends.
 fn crowded() -> Vec<[u32; 3]> {
-    let slot = |a: u32, b: u32| u64::from(a.wrapping_mul(1640531527).wrapping_add(b.wrapping_mul(1172981867))) * 65536 >> 32;
+    let slot =
+        |a: u32, b: u32| u64::from(a.wrapping_mul(1640531527).wrapping_add(b.wrapping_mul(1172981867))) * 65536 >> 32;
     let mut tris = vec![];
     for a in 0..16384 {
         let near: Vec<u32> = (a + 1..16384).filter(|&b| slot(a, b) < 64).collect();
@@ -78,8 +79,16 @@ pub fn refined() -> Vec<(&'static str, Case, usize)> {
     let last = 16383;
     vec![
         ("one triangle", listed(3, vec![[0, 1, 2]]), 1000),
-        ("fan around the first point", listed(16384, (1..last).map(|i| [0, i, i + 1]).collect()), 1),
-        ("fan around the last point", listed(16384, (0..last - 1).map(|i| [i, i + 1, last]).collect()), 1),
+        (
+            "fan around the first point",
+            listed(16384, (1..last).map(|i| [0, i, i + 1]).collect()),
+            1,
+        ),
+        (
+            "fan around the last point",
+            listed(16384, (0..last - 1).map(|i| [i, i + 1, last]).collect()),
+            1,
+        ),
         ("sides of few buckets", listed(16384, crowded()), 1),
     ]
 }
