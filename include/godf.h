@@ -45,8 +45,8 @@ double godf_sqrt(double x);
  * other winding. Where the corners of each triangle are three different points, no side is cracked.
  *
  * With n points and T triangles, the four result arrays must have room for 3 (n + 3 T) numbers of points, n + 3 T sizes, 12 T
- * corner numbers and 8 T ends of cut sides (two a side). Accepted, the front of each is filled and the rest stays; refused,
- * nothing is written to them. `report` gets as many of its four numbers as it has room for:
+ * corner numbers and 8 T ends of cut sides (two a side). Accepted, the front of each is filled, as far as the counts in the report say, and
+ * the rest stays: what the call keeps until it is done stands in no place but these. Refused, nothing is written to them. `report` gets as many of its four numbers as it has room for:
  *   0  accepted: report = counts of points, triangles, flagged triangles, cut sides
  *   otherwise the number of a refusal, report = its place, 0, 0, 0 (place 0 where there is none). They are tested in this order, 5 for the
  *   angles behind 8, and within a row the lowest place is told:
@@ -55,7 +55,7 @@ double godf_sqrt(double x);
  *   6  a point's x or y is not finite (place: point)    7  a size is not finite and positive (place: point)
  *   8  a corner number is not below n (place: triangle)
  *   12 the threshold is not finite, or below 0          18 a result array is too short
- * The call uses about 1.4 MB of stack, and no other memory. */
+ * The call uses less than 16 kilobytes of stack, and no memory but what it is lent. */
 uint64_t godf_refine(const double *points, size_t point_numbers, const uint32_t *triangles, size_t corners,
                      const double *sizes, size_t size_count, const double *angles, size_t angle_count, double threshold,
                      double *new_points, size_t new_point_numbers, double *new_sizes, size_t new_size_count,

@@ -4,7 +4,7 @@ mod floors;
 mod linear;
 mod time;
 
-use floors::{case, turning, MODES, SIDES, SIZES};
+use floors::{case, refined, turning, turns, MODES, SIDES, SIZES};
 use oracle::{
     candidates::Godf,
     case::{Boundary, Case},
@@ -25,17 +25,17 @@ fn field(side: usize) -> (oracle::case::Case, Vec<f64>) {
 
 fn refinement(rounds: usize, sides: &[usize]) {
     heading("Refinement: godf_refine beside refine_once", "ms");
-    let mut calls: Vec<(String, oracle::case::Case, Vec<f64>, f64)> = vec![];
+    let mut calls: Vec<(String, oracle::case::Case, Vec<f64>, f64, usize)> = vec![];
     for &side in sides {
-        for threshold in [0.0, 5.0 * turning(side)] {
+        for threshold in [0.0, 5.0 * turning(side), 1.0] {
             let (c, alpha) = field(side);
-            calls.push((
-                format!("{side} by {side}, wavy, tangent, threshold {threshold:.4}"),
-                c,
-                alpha,
-                threshold,
-            ));
+            let name = format!("{side} by {side}, wavy, tangent, threshold {threshold:.4}");
+            calls.push((name, c, alpha, threshold, 1));
         }
+    }
+    for (name, c, times) in refined() {
+        let alpha = turns(c.n());
+        calls.push((name.to_string(), c, alpha, 0.0, times));
     }
     // 32,768 triangles, all flagged: a grid of 128 by 128 points that goes round
     let whole = oracle::floors::wrapped(128, 128);
@@ -47,8 +47,9 @@ fn refinement(rounds: usize, sides: &[usize]) {
         c,
         (0..128 * 128).map(turn).collect(),
         0.0,
+        1,
     ));
-    for (name, c, alpha, threshold) in calls {
+    for (name, c, alpha, threshold, times) in calls {
         let (points, tris) = (c.triples(), c.corners());
         // slices that the caller has touched before
         let mut lent = godf::lent(c.n(), c.triangles(), 0);
@@ -56,9 +57,21 @@ fn refinement(rounds: usize, sides: &[usize]) {
         let flagged = (PLATFORM.refine_once)(&points, &tris, &c.sizes, &alpha, threshold).3;
         assert_eq!(lent.report[2], flagged as u64, "flagged triangles");
         let name = format!("{name}: {flagged} of {} triangles flagged", tris.len());
-        let ours = || seconds(|| godf::refine(&mut lent, &c.points, &c.tris, &c.sizes, &alpha, threshold));
-        let theirs = || seconds(|| (PLATFORM.refine_once)(&points, &tris, &c.sizes, &alpha, threshold));
-        row(&name, rounds, 1e-3, ours, theirs);
+        let ours = || {
+            seconds(|| {
+                for _ in 0..times {
+                    godf::refine(&mut lent, &c.points, &c.tris, &c.sizes, &alpha, threshold);
+                }
+            })
+        };
+        let theirs = || {
+            seconds(|| {
+                for _ in 0..times {
+                    std::hint::black_box((PLATFORM.refine_once)(&points, &tris, &c.sizes, &alpha, threshold));
+                }
+            })
+        };
+        row(&name, rounds, 1e-3 * times as f64, ours, theirs);
     }
 }
 

@@ -1,3 +1,4 @@
+pub mod TwoSlices
 pub mod Tree
 pub mod Stored
 pub mod Numbering

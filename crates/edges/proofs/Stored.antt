@@ -189,11 +189,11 @@ module _ {o N : ℕ} {w : List ℕ} {m a b p r at : ℕ} (g : Going o N w m a b 
 -- ---- a side is met
 
 -- a number that stands for a place is that place
-some-of : (at : ℕ) (x : Option ℕ) → at ≡ oneMore x → at ≢ 0 → x ≡ some (at - 1)
+pub some-of : (at : ℕ) (x : Option ℕ) → at ≡ oneMore x → at ≢ 0 → x ≡ some (at - 1)
 some-of at none e h = absurd (h e)
 some-of at (some k) e h = let i : k ≡ at - 1 = omega arith in ap some i
 
-none-of : {at : ℕ} (x : Option ℕ) → at ≡ oneMore x → at ≡ 0 → x ≡ none
+pub none-of : {at : ℕ} (x : Option ℕ) → at ≡ oneMore x → at ≡ 0 → x ≡ none
 none-of none e h = refl
 none-of (some k) e h = absurd (omega arith)
 

@@ -1,6 +1,7 @@
 // Sides of triangles, numbered in the order first met, lower end first: the Rust's HashMap of sides, and its list of them, in lent numbers.
 // The table stands in one slice of numbers: its buckets, then four numbers for each of its sides (specs/Table.antt). No numbers are mixed to choose a bucket,
 // and no floor makes a search long: the sides of a bucket, which share their lower end, stand in a tree by the digits of their upper end.
+pub mod apart;
 pub mod numbers;
 
 ghost use mathlib.Core.Path.{_≡_};

@@ -14,7 +14,7 @@ use Rattle.edges.specs.Numbering.{trisFrom, Below}
 use Rattle.refine_floor.specs.Guidance.{midAngles, moreAngles}
 use Rattle.refinement.specs.Floor.{tris, trisOf}
 use Rattle.refinement.proofs.Triangles.{tris-held}
-use Rattle.planes.specs.declared.Cuts.{Cuts}
+use Rattle.edges.specs.declared.Table.{Table}
 use Rattle.planes.specs.Planes.{cutsIn}
 use Rattle.refusal.specs.declared.Stage.{Stage}
 use Rattle.layout.specs.Layout.{Fits}
@@ -25,8 +25,8 @@ use Rattle.floor_pass.specs.Lay.{passOver, passAt, LaidRoom, Made}
 use Rattle.floor_pass.specs.First.{firstBase, firstOver, FirstRoom}
 
 -- no cut sides
-abbrev pub no-cuts : Cuts
-no-cuts = record { ends = 0; sides = 0 }
+abbrev pub no-cuts : Table
+no-cuts = record { base = 0; buckets = 0; sides = 0 }
 
 none-cut : (u : List ℕ) → cutsIn no-cuts u ≡ []
 unfolding cutsIn pairs
@@ -57,7 +57,7 @@ module _ (o : Options) (a : Asked) (points : List Float) (corners : List ℕ) (s
     whole = ok .whole;
     sized = ok .sized;
     guided-all = ok .guided-all;
-    ends-in = omega arith;
+    table-in = omega arith;
     all-points = omega arith;
     fits = record { small = record { reals-small = omega arith; words-small = omega arith; points-small = ok .few-points; triangles-small = ok .few-triangles }; reals-fit = omega (arith, ok .reals-fit); words-fit = omega (arith, ok .words-fit, long) };
   }

@@ -15,7 +15,7 @@ use Rattle.areas.specs.Points.{xOf, yOf, midSize, midSizes, morePoints, moreSiz
 use Rattle.areas.proofs.Points.{points-length}
 use Rattle.edges.specs.Numbering.{trisFrom}
 use Rattle.refine_floor.specs.Guidance.{midAngleOn, midAngles, moreAngles}
-use Rattle.planes.specs.declared.Cuts.{Cuts}
+use Rattle.edges.specs.declared.Table.{Table}
 use Rattle.planes.specs.declared.Mean.{Mean}
 use Rattle.planes.specs.declared.Mean.the-variants.{Half, Angle}
 use Rattle.planes.specs.Planes.{cutsIn, coordinateAt, coordinatePlane, meanOf, meanOn, valuePlane}
@@ -66,13 +66,13 @@ angle-plane angles cuts = ap (λ (l : List Float). angles ++ l) (map-same (meanO
 
 -- ---- the slice with them
 
-module _ (at : Base) (guided : Bool) (points sizes angles : List Float) (c : Cuts) (w : List Float) (u : List ℕ)
-    (ok : LaidRoom at guided (length points) (length sizes) (length angles) c (length w) (length u)) where
+module _ (at : Base) (guided : Bool) (points sizes angles : List Float) (t : Table) (w : List Float) (u : List ℕ)
+    (ok : LaidRoom at guided (length points) (length sizes) (length angles) t (length w) (length u)) where
   abbrev l : Layout
   l = layoutOf at
 
   abbrev cuts : List Side
-  cuts = cutsIn c u
+  cuts = cutsIn t u
 
   abbrev placed : List Float
   placed = pointsLaid points sizes cuts l w
@@ -83,17 +83,17 @@ module _ (at : Base) (guided : Bool) (points sizes angles : List Float) (c : Cut
   ordered : Ordered l (length w) (length u)
   ordered = fits-ordered at (ok .fits)
 
-  pub lay-room : LayRoom (length points) (length sizes) c (length u) l (length w)
+  pub lay-room : LayRoom (length points) (length sizes) t (length u) l (length w)
   unfolding layoutOf
-  lay-room = record { whole = ok .whole; sized = ok .sized; ends-in = ok .ends-in; x-in = omega (arith, ok .fits .reals-fit); y-in = omega (arith, ok .fits .reals-fit); sizes-in = omega (arith, ok .fits .reals-fit) }
+  lay-room = record { whole = ok .whole; sized = ok .sized; table-in = ok .table-in; x-in = omega (arith, ok .fits .reals-fit); y-in = omega (arith, ok .fits .reals-fit); sizes-in = omega (arith, ok .fits .reals-fit) }
 
   pub placed-length : length placed ≡ length w
   unfolding pointsLaid
   placed-length = length-put _ _ _ ∙ length-put _ _ _ ∙ length-put _ _ _
 
-  pub guidance-room : GuidanceRoom guided (length angles) c (length u) l (length placed)
+  pub guidance-room : GuidanceRoom guided (length angles) t (length u) l (length placed)
   unfolding layoutOf
-  guidance-room = record { ends-in = ok .ends-in; guidance-in = λ g. omega (arith, ok .guided-all g, ok .fits .reals-fit, placed-length) }
+  guidance-room = record { table-in = ok .table-in; guidance-in = λ g. omega (arith, ok .guided-all g, ok .fits .reals-fit, placed-length) }
 
   pub ready-length : length ready ≡ length w
   unfolding guidanceLaid
@@ -110,19 +110,19 @@ module _ (at : Base) (guided : Bool) (points sizes angles : List Float) (c : Cut
   ready-else b n h = go guided refl
     where
       go : (g : Bool) → g ≡ guided → region nan (cond g (put placed (l .guidance) (valuePlane Angle angles cuts)) placed) b n ≡ region nan placed b n
-      go true e = region-else placed (l .guidance) (valuePlane Angle angles cuts) (length-plane Angle angles c u ∙ omega (arith, ok .guided-all (sym e))) nan b n h
+      go true e = region-else placed (l .guidance) (valuePlane Angle angles cuts) (length-plane Angle angles t u ∙ omega (arith, ok .guided-all (sym e))) nan b n h
       go false e = refl
 
   long-x : length (coordinatePlane points cuts 0) ≡ at .points
   unfolding coordinatePlane
-  long-x = length-tab _ _ ∙ omega (arith, cuts-length c u)
+  long-x = length-tab _ _ ∙ omega (arith, cuts-length t u)
 
   long-y : length (coordinatePlane points cuts 1) ≡ at .points
   unfolding coordinatePlane
-  long-y = length-tab _ _ ∙ omega (arith, cuts-length c u)
+  long-y = length-tab _ _ ∙ omega (arith, cuts-length t u)
 
   long-sizes : length (valuePlane Half sizes cuts) ≡ at .points
-  long-sizes = length-plane Half sizes c u ∙ omega arith
+  long-sizes = length-plane Half sizes t u ∙ omega arith
 
   xs-laid : region nan ready (l .x) (at .points) ≡ coordinatePlane points cuts 0
   unfolding pointsLaid layoutOf
@@ -159,7 +159,7 @@ module _ (at : Base) (guided : Bool) (points sizes angles : List Float) (c : Cut
   guidance-laid g = go guided refl
     where
       go : (b : Bool) → b ≡ guided → region nan (cond b (put placed (l .guidance) (valuePlane Angle angles cuts)) placed) (l .guidance) (at .points) ≡ moreAngles angles cuts
-      go true e = region-put placed (l .guidance) _ (length-plane Angle angles c u ∙ omega (arith, ok .guided-all g)) nan (omega (arith, ok .fits .reals-fit, placed-length)) ∙ angle-plane angles cuts
+      go true e = region-put placed (l .guidance) _ (length-plane Angle angles t u ∙ omega (arith, ok .guided-all g)) nan (omega (arith, ok .fits .reals-fit, placed-length)) ∙ angle-plane angles cuts
       go false e = let z : _≡_ {A = ℕ} 0 1 = cc in absurd (omega arith)
 
   guidance-same : (weight : Float) → guidanceOf guided weight (guidanceIn l ready) ≡ guidanceOf guided weight (moreAngles angles cuts)
@@ -179,32 +179,32 @@ module _ (at : Base) (guided : Bool) (points sizes angles : List Float) (c : Cut
 
 -- ---- the pass over it
 
-module _ (at : Base) (o : Options) (a : Asked) (points sizes angles : List Float) (c : Cuts) (w : List Float) (u : List ℕ)
-    (ok : LaidRoom at (a .guided) (length points) (length sizes) (length angles) c (length w) (length u)) where
+module _ (at : Base) (o : Options) (a : Asked) (points sizes angles : List Float) (t : Table) (w : List Float) (u : List ℕ)
+    (ok : LaidRoom at (a .guided) (length points) (length sizes) (length angles) t (length w) (length u)) where
   abbrev before : List Float
-  before = guidanceLaid (a .guided) angles (cutsIn c u) (layoutOf at) (pointsLaid points sizes (cutsIn c u) (layoutOf at) w)
+  before = guidanceLaid (a .guided) angles (cutsIn t u) (layoutOf at) (pointsLaid points sizes (cutsIn t u) (layoutOf at) w)
 
-  same-pass : passIn (layoutOf at) o a before u ≡ passAt at o a c points sizes angles u
+  same-pass : passIn (layoutOf at) o a before u ≡ passAt at o a t points sizes angles u
   unfolding passIn passOver
-  same-pass = rw (floor-laid at (a .guided) points sizes angles c w u ok, guidance-same at (a .guided) points sizes angles c w u ok (a .weight))
+  same-pass = rw (floor-laid at (a .guided) points sizes angles t w u ok, guidance-same at (a .guided) points sizes angles t w u ok (a .weight))
 
-  made-before : {w₃ : List Float} {u₃ : List ℕ} {r : Stage} → Finds (layoutOf at) (layoutOf at .wound) (passIn (layoutOf at) o a before u) before u w₃ u₃ r → Made at (passAt at o a c points sizes angles u) w w₃ u u₃ r
+  made-before : {w₃ : List Float} {u₃ : List ℕ} {r : Stage} → Finds (layoutOf at) (layoutOf at .wound) (passIn (layoutOf at) o a before u) before u w₃ u₃ r → Made at (passAt at o a t points sizes angles u) w w₃ u u₃ r
   unfolding layoutOf
   made-before f = record {
     answer = f .answer ∙ ap stageOf same-pass;
     found = λ alpha h. f .found alpha (same-pass ∙ h);
-    all-reals = f .all-reals ∙ ready-length at (a .guided) points sizes angles c w u ok;
+    all-reals = f .all-reals ∙ ready-length at (a .guided) points sizes angles t w u ok;
     all-words = f .all-words;
-    reals-below = λ j h. f .reals-below j h ∙ ready-below at (a .guided) points sizes angles c w u ok j h;
+    reals-below = λ j h. f .reals-below j h ∙ ready-below at (a .guided) points sizes angles t w u ok j h;
   }
 
-  pub fits-now : {w₁ w₂ : List Float} → w₁ ≡ pointsLaid points sizes (cutsIn c u) (layoutOf at) w → w₂ ≡ guidanceLaid (a .guided) angles (cutsIn c u) (layoutOf at) w₁ → Fits at (length w₂) (length u)
+  pub fits-now : {w₁ w₂ : List Float} → w₁ ≡ pointsLaid points sizes (cutsIn t u) (layoutOf at) w → w₂ ≡ guidanceLaid (a .guided) angles (cutsIn t u) (layoutOf at) w₁ → Fits at (length w₂) (length u)
   fits-now {w₁} {w₂} e₁ e₂ =
-      let k : length w₂ ≡ length w = ap length (e₂ ∙ ap (guidanceLaid (a .guided) angles (cutsIn c u) (layoutOf at)) e₁) ∙ ready-length at (a .guided) points sizes angles c w u ok in
+      let k : length w₂ ≡ length w = ap length (e₂ ∙ ap (guidanceLaid (a .guided) angles (cutsIn t u) (layoutOf at)) e₁) ∙ ready-length at (a .guided) points sizes angles t w u ok in
       subst (λ (n : ℕ). Fits at n (length u)) (sym k) (ok .fits)
 
-  pub made : {w₁ w₂ : List Float} → w₁ ≡ pointsLaid points sizes (cutsIn c u) (layoutOf at) w → w₂ ≡ guidanceLaid (a .guided) angles (cutsIn c u) (layoutOf at) w₁
+  pub made : {w₁ w₂ : List Float} → w₁ ≡ pointsLaid points sizes (cutsIn t u) (layoutOf at) w → w₂ ≡ guidanceLaid (a .guided) angles (cutsIn t u) (layoutOf at) w₁
       → {w₃ : List Float} {u₃ : List ℕ} {r : Stage} → Finds (layoutOf at) (layoutOf at .wound) (passIn (layoutOf at) o a w₂ u) w₂ u w₃ u₃ r
-      → Made at (passAt at o a c points sizes angles u) w w₃ u u₃ r
+      → Made at (passAt at o a t points sizes angles u) w w₃ u u₃ r
   made e₁ e₂ {w₃} {u₃} {r} f =
-      made-before (subst (λ (x : List Float). Finds (layoutOf at) (layoutOf at .wound) (passIn (layoutOf at) o a x u) x u w₃ u₃ r) (e₂ ∙ ap (guidanceLaid (a .guided) angles (cutsIn c u) (layoutOf at)) e₁) f)
+      made-before (subst (λ (x : List Float). Finds (layoutOf at) (layoutOf at .wound) (passIn (layoutOf at) o a x u) x u w₃ u₃ r) (e₂ ∙ ap (guidanceLaid (a .guided) angles (cutsIn t u) (layoutOf at)) e₁) f)

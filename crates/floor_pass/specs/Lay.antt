@@ -8,9 +8,10 @@ use lib.Ieee.{Float, nan}
 use Rattle.cells.specs.Region.{region, put}
 use Rattle.mesh.specs.Mesh.{Side, Tri}
 use Rattle.areas.specs.Points.{morePoints, moreSizes}
+use Rattle.edges.specs.declared.Table.{Table}
+use Rattle.edges.specs.Table.{endOf}
 use Rattle.edges.specs.Numbering.{trisFrom}
 use Rattle.refine_floor.specs.Guidance.{moreAngles}
-use Rattle.planes.specs.declared.Cuts.{Cuts}
 use Rattle.planes.specs.declared.Mean.the-variants.{Half, Angle}
 use Rattle.planes.specs.Planes.{cutsIn, coordinatePlane, valuePlane}
 use Rattle.layout.specs.declared.Base.{Base}
@@ -38,30 +39,30 @@ passOver o a points sizes angles cuts ts =
     passOf (floorOf (morePoints points cuts) ts (moreSizes sizes cuts)) o (guidanceOf (a .guided) (a .weight) (moreAngles angles cuts)) (a .iterations)
 
 -- the same, of the cut sides and the triangles that stand in the u32 work
-abbrev pub passAt : Base → Options → Asked → Cuts → List Float → List Float → List Float → List ℕ → Passed
-passAt at o a c points sizes angles u = passOver o a points sizes angles (cutsIn c u) (trisFrom (at .words) u (at .triangles))
+abbrev pub passAt : Base → Options → Asked → Table → List Float → List Float → List Float → List ℕ → Passed
+passAt at o a t points sizes angles u = passOver o a points sizes angles (cutsIn t u) (trisFrom (at .words) u (at .triangles))
 
 -- ---- lengths and offsets
 
-pub record LayRoom (points sizes : ℕ) (c : Cuts) (numbers : ℕ) (l : Layout) (work : ℕ) : Type 0 where
+pub record LayRoom (points sizes : ℕ) (t : Table) (numbers : ℕ) (l : Layout) (work : ℕ) : Type 0 where
   pub whole : points ≡ 3 * (points / 3)
   pub sized : sizes ≡ points / 3
-  pub ends-in : c .ends + 3 * c .sides ≤ numbers
-  pub x-in : l .x + (points / 3 + c .sides) ≤ work
-  pub y-in : l .y + (points / 3 + c .sides) ≤ work
-  pub sizes-in : l .sizes + (points / 3 + c .sides) ≤ work
+  pub table-in : endOf t ≤ numbers
+  pub x-in : l .x + (points / 3 + t .sides) ≤ work
+  pub y-in : l .y + (points / 3 + t .sides) ≤ work
+  pub sizes-in : l .sizes + (points / 3 + t .sides) ≤ work
 
-pub record GuidanceRoom (guided : Bool) (angles : ℕ) (c : Cuts) (numbers : ℕ) (l : Layout) (work : ℕ) : Type 0 where
-  pub ends-in : c .ends + 3 * c .sides ≤ numbers
-  pub guidance-in : guided ≡ true → l .guidance + (angles + c .sides) ≤ work
+pub record GuidanceRoom (guided : Bool) (angles : ℕ) (t : Table) (numbers : ℕ) (l : Layout) (work : ℕ) : Type 0 where
+  pub table-in : endOf t ≤ numbers
+  pub guidance-in : guided ≡ true → l .guidance + (angles + t .sides) ≤ work
 
 -- a floor of these points, sizes and cut sides, with that guidance, can be laid out and passed over where it begins at `at`
-pub record LaidRoom (at : Base) (guided : Bool) (points sizes angles : ℕ) (c : Cuts) (work numbers : ℕ) : Type 0 where
+pub record LaidRoom (at : Base) (guided : Bool) (points sizes angles : ℕ) (t : Table) (work numbers : ℕ) : Type 0 where
   pub whole : points ≡ 3 * (points / 3)
   pub sized : sizes ≡ points / 3
   pub guided-all : guided ≡ true → angles ≡ points / 3
-  pub ends-in : c .ends + 3 * c .sides ≤ numbers
-  pub all-points : at .points ≡ points / 3 + c .sides
+  pub table-in : endOf t ≤ numbers
+  pub all-points : at .points ≡ points / 3 + t .sides
   pub fits : Fits at work numbers
 
 -- ---- a pass that was made where it begins at `at`: its answer, and its angles where it has some; nothing before them has changed

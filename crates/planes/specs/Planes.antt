@@ -8,19 +8,19 @@ use Rattle.cells.specs.Region.{tab}
 use Rattle.mesh.specs.Mesh.{Side, side}
 use Rattle.areas.specs.Area.{halfway}
 use Rattle.areas.specs.Points.{morePoints}
-use Rattle.edges.specs.Table.{pairs}
+use Rattle.edges.specs.declared.Table.{Table}
+use Rattle.edges.specs.Table.{sidesIn, loOf, hiOf, endOf}
 use Rattle.guidance.specs.Guidance.{midAngle}
-use Rattle.planes.specs.declared.Cuts.{Cuts}
 use Rattle.planes.specs.declared.Mean.{Mean}
 use Rattle.planes.specs.declared.Mean.the-variants.{Half, Angle}
 
--- the cut sides
-unfoldable pub cutsIn : Cuts → List ℕ → List Side
-cutsIn c u = pairs (λ k. getD u (c .ends + 3 * k) 0) (λ k. getD u (c .ends + 3 * k + 1) 0) (c .sides)
+-- the cut sides, in a table
+unfoldable pub cutsIn : Table → List ℕ → List Side
+cutsIn t u = sidesIn (t .base) (t .buckets) u (t .sides)
 
 -- x of the midpoint of cut side j where k is 0, and y where it is 1
-unfoldable pub midwayAt : List Float → Cuts → List ℕ → ℕ → ℕ → Float
-midwayAt points c u k j = halfway (getD points (3 * getD u (c .ends + 3 * j) 0 + k) nan) (getD points (3 * getD u (c .ends + 3 * j + 1) 0 + k) nan)
+unfoldable pub midwayAt : List Float → Table → List ℕ → ℕ → ℕ → Float
+midwayAt points t u k j = halfway (getD points (3 * loOf (t .base) (t .buckets) u j + k) nan) (getD points (3 * hiOf (t .base) (t .buckets) u j + k) nan)
 
 -- the same of point v of the refined floor
 unfoldable pub coordinateAt : List Float → List Side → ℕ → ℕ → Float
@@ -38,8 +38,8 @@ meanOf Angle a b = midAngle a b
 abbrev pub meanOn : Mean → List Float → Side → Float
 meanOn kind values (side a b) = meanOf kind (getD values a nan) (getD values b nan)
 
-abbrev pub cutAt : Cuts → List ℕ → ℕ → Side
-cutAt c u j = side (getD u (c .ends + 3 * j) 0) (getD u (c .ends + 3 * j + 1) 0)
+abbrev pub cutAt : Table → List ℕ → ℕ → Side
+cutAt t u j = side (loOf (t .base) (t .buckets) u j) (hiOf (t .base) (t .buckets) u j)
 
 -- the values at the old points, and then those at the midpoints: crate areas' `moreSizes` of halves, and refine_floor's `moreAngles` of angles
 unfoldable pub valuePlane : Mean → List Float → List Side → List Float
@@ -47,15 +47,15 @@ valuePlane kind values cuts = values ++ map (meanOn kind values) cuts
 
 -- ---- lengths and offsets
 
-pub record PointsIn (points : ℕ) (c : Cuts) (k numbers : ℕ) : Type 0 where
+pub record PointsIn (points : ℕ) (t : Table) (k numbers : ℕ) : Type 0 where
   pub whole : points ≡ 3 * (points / 3)
   pub x-or-y : k < 2
-  pub ends-in : c .ends + 3 * c .sides ≤ numbers
+  pub table-in : endOf t ≤ numbers
 
-pub record PlaneRoom (points : ℕ) (c : Cuts) (k numbers at work : ℕ) : Type 0 where
-  pub points-in : PointsIn points c k numbers
-  pub plane-in : at + (points / 3 + c .sides) ≤ work
+pub record PlaneRoom (points : ℕ) (t : Table) (k numbers at work : ℕ) : Type 0 where
+  pub points-in : PointsIn points t k numbers
+  pub plane-in : at + (points / 3 + t .sides) ≤ work
 
-pub record ValueRoom (values : ℕ) (c : Cuts) (numbers at work : ℕ) : Type 0 where
-  pub ends-in : c .ends + 3 * c .sides ≤ numbers
-  pub values-in : at + (values + c .sides) ≤ work
+pub record ValueRoom (values : ℕ) (t : Table) (numbers at work : ℕ) : Type 0 where
+  pub table-in : endOf t ≤ numbers
+  pub values-in : at + (values + t .sides) ≤ work

@@ -2,34 +2,40 @@
 use Prim.Native.Nat.{ℕ, _+_, _*_, _/_, _≤_}
 use native.Mathlib.Omega.{arith}
 use mathlib.Core.Path.{_≡_, refl, sym, ap, _∙_, subst}
+use mathlib.Core.Logic.{_≢_}
 use mathlib.Core.Bool.{Bool, true, false, not, cond}
 use mathlib.Core.List.{List}
 use borrow.Author.Tests.{eqb-true, ltb-false, not-false}
 use lib.Dec.{eqb, ltb}
-use lib.ListN.{length, replicate, length-replicate, getD-replicate}
+use lib.ListN.{length, take}
+use lib.Seq.{sets, take-length}
 use lib.Ieee.{Float}
-use Rattle.mesh.specs.Mesh.{Tri, mid, cuts, refine, refined}
+use Rattle.mesh.specs.Mesh.{mid, cuts, refine, refined}
 use Rattle.areas.specs.Points.{morePoints, moreSizes}
-use Rattle.edges.specs.Table.{Held, sidesIn, loOf, hiOf, last, pairs}
-use Rattle.edges.proofs.Chain.{length-pairs}
+use Rattle.edges.specs.Table.{pairs}
+use Rattle.edges.specs.Apart.{loAt, hiAt, sidesAt}
+use Rattle.edges.proofs.Tree.{length-pairs}
 use Rattle.floor.specs.declared.Refusal.{Refusal}
 use Rattle.floor.specs.declared.Check.{Check}
 use Rattle.floor.specs.declared.Check.the-variants.{Sound, Refused}
 use Rattle.floor.specs.Checks.{row, wellFormed, notFiniteOrBelowZero, andThen, checkFloor}
 use Rattle.floor.proofs.Rows.{or-none, whole-slices}
+use Rattle.refinement.specs.declared.Cut.{Cut}
 use Rattle.refinement.specs.Flag.{flaggedTri}
-use Rattle.refinement.specs.Floor.{tris, trisOf, cornersOf, endsOf, Refined, refinementOf}
-use Rattle.refinement.specs.Steps.{CutTo}
+use Rattle.refinement.specs.Floor.{tris, trisOf, cornersOf, Refined, refinementOf}
 use Rattle.refinement.proofs.Runs.{front}
 use Rattle.refinement.proofs.Triangles.{tris-length, corners-length}
 use Rattle.refinement.proofs.Parts.{refined-most}
 use Rattle.areas.proofs.Points.{points-length, sizes-length}
 use Rattle.refine_floor.specs.Stored.{Stored}
-use Rattle.refine_floor.proofs.Parts.{ends-length}
+use Rattle.refine_floor.specs.Marks.{markedBy, MarksRoom, Marked}
+use Rattle.refine_floor.proofs.Splitting.{front-same}
 use Rattle.refine_call.specs.declared.Counts.{Counts}
 use Rattle.refine_call.specs.declared.Answer.{Answer}
 use Rattle.refine_call.specs.declared.Answer.the-variants.{Refinement}
-use Rattle.refine_call.specs.Call.{BUCKETS, TABLE, answerOf, Called, FilledFor, short, checkRest, checkCall, Filled, Roomy}
+use Rattle.refine_call.specs.Call.{answerOf, Called, short, checkRest, checkCall}
+use Rattle.refine_call.specs.Steps.{Marks, Pieces, Filled, Roomy}
+use Rattle.refine_call.proofs.Lists.{refined-none, corners-of-tris, ends-front}
 
 -- ---- tests
 
@@ -92,6 +98,7 @@ roomy points triangles sizes angles threshold newPoints newSizes newTriangles cu
     let l = rest-long (length points / 3) (length triangles / 3) angles threshold newPoints newSizes newTriangles cutEnds (b .1) in
     record {
       whole = f .points;
+      whole-corners = f .corners;
       few-points = f .few .0;
       few-triangles = f .few .1;
       sized = sizes-are points triangles sizes (b .0);
@@ -126,52 +133,77 @@ called-done c c′ e h g =
     let z : c′ ≡ Sound = sym e ∙ h in
     rw z (record { answer = ap Refinement (g .counts); points = g .points; sizes = g .sizes; triangles = g .triangles; ends = g .ends })
 
--- ---- an empty table
+-- ---- the pieces
 
-pub zeros-held : Held 0 BUCKETS (replicate {A = ℕ} TABLE 0) 0 × (length (replicate {A = ℕ} TABLE 0) ≡ TABLE)
-unfolding last pairs
-zeros-held = (
-  record {
-    buckets = omega arith;
-    narrow = omega arith;
-    room = omega (arith, length-replicate {A = ℕ} TABLE 0);
-    table = record { heads = λ h l. getD-replicate {A = ℕ} TABLE (0 + h) 0 0 (omega arith); links = λ k l. absurd (omega arith) };
-    numbered = λ k l. absurd (omega arith);
-  },
-  length-replicate {A = ℕ} TABLE 0,
-)
+module _ {n : ℕ} {cut : Cut} {l e w w′ : List ℕ} (h : Marks n cut l e w) where
+  -- where no side is cut the triangles stay
+  pub pieces-none : cut .flagged ≡ 0 → w′ ≡ sets w 0 l → Pieces n cut l e w w′ (length l / 3)
+  unfolding pairs
+  pieces-none z s =
+      let none : cut .sides ≡ 0 = h .no-sides z in
+      let stay : refined (mid n (sidesAt e (cut .sides))) (trisOf l) ≡ trisOf l = rw none (refined-none n (trisOf l)) in
+      let corners : cornersOf (trisOf l) ≡ l = corners-of-tris l (length l / 3) (omega (arith, h .whole)) ∙ ap (λ (k : ℕ). take k l) (sym (h .whole)) ∙ take-length l in
+      record {
+        stored = rw stay (record { stands = s ∙ ap (sets w 0) (sym corners); counted = omega (arith, tris-length l (length l / 3)) });
+        least = omega arith;
+      }
+
+  pub pieces-some : {k : ℕ} → cut .flagged ≢ 0 → Stored (refined (mid n (sidesAt e (cut .sides))) (tris l (length l / 3))) w 0 0 w′ k × (length l / 3 + 3 * length (markedBy w l (length l / 3)) ≤ k)
+      → Pieces n cut l e w w′ k
+  pieces-some q s = record { stored = s .0; least = omega (arith, s .1, h .as-many q) }
 
 -- ---- what is written
 
-module _ (threshold : Float) (angles points sizes : List Float) (l : List ℕ) where
-  f : Tri → Bool
-  f = flaggedTri threshold angles
+module _ (threshold : Float) (angles points sizes : List Float) (l : List ℕ) (newPoints newSizes : List Float) (newTriangles cutEnds : List ℕ)
+    (room : Roomy (length points) (length l) (length sizes) (length newPoints) (length newSizes) (length newTriangles) (length cutEnds)) where
+  pub marks-room : MarksRoom (length points / 3) (3 * (length l / 3)) (length l / 3) (length l) (length cutEnds) (length newTriangles)
+  marks-room = record {
+    corners-in = omega (arith, room .whole-corners);
+    ends-in = omega (arith, room .in-ends);
+    marks-in = omega (arith, room .in-triangles);
+    few = omega (arith, room .few-points, room .few-triangles);
+  }
 
-  n : ℕ
-  n = length points / 3
+  module _ {ends marks : List ℕ} {cut : Cut} (found : Marked (flaggedTri threshold angles) (length points / 3) l (length l / 3) cutEnds newTriangles ends marks cut) where
+    pub marks-made : Marks (length points / 3) cut l ends marks
+    marks-made = record {
+      whole = room .whole-corners;
+      room = omega (arith, room .in-triangles, found .same);
+      few = (omega (arith, room .few-points, room .few-triangles, found .few, found .seldom), omega (arith, room .few-triangles));
+      no-sides = λ z. omega (arith, found .few);
+      held = found .held;
+      as-many = found .as-many;
+      cut-marks = found .cut-marks;
+    }
 
-  t : ℕ
-  t = length l / 3
+    pub floor-room : (2 * cut .sides ≤ length ends) × ((length points + 3 * cut .sides ≤ length newPoints) × (length sizes + cut .sides ≤ length newSizes))
+    floor-room = (
+      omega (arith, room .in-ends, found .same-ends, found .few, found .seldom),
+      (omega (arith, room .whole, room .in-points, found .few, found .seldom), omega (arith, room .sized, room .in-sizes, found .few, found .seldom)),
+    )
 
-  pub filled : {w w′ : List ℕ} {m k c : ℕ} {newPoints newSizes newPoints′ newSizes′ : List Float} {newTriangles cutEnds newTriangles′ cutEnds′ : List ℕ}
-      → Roomy (length points) (length l) (length sizes) (length newPoints) (length newSizes) (length newTriangles) (length cutEnds)
-      → CutTo 0 BUCKETS (flaggedTri threshold angles) l (length l / 3) w w′ m c
-      → Stored (refined (mid (length points / 3) (sidesIn 0 BUCKETS w′ m)) (tris l (length l / 3))) newTriangles 0 0 newTriangles′ k
-      → FilledFor points sizes (sidesIn 0 BUCKETS w′ m) newPoints newSizes cutEnds newPoints′ newSizes′ cutEnds′
-      → Filled (refinementOf threshold angles points sizes (trisOf l)) newPoints newSizes newTriangles cutEnds (record { points = length points / 3 + m; triangles = k; flagged = c; cut = m }) newPoints′ newSizes′ newTriangles′ cutEnds′
-  unfolding f n t refinementOf refine
-  filled {w} {w′} {m} {k} {c} {newPoints} {newSizes} {newTriangles = newTriangles} {cutEnds} room cut tri put =
-      let L = cuts f (trisOf l) in
-      let s : sidesIn 0 BUCKETS w′ m ≡ cuts f (trisOf l) = cut .all-cut in
-      let len : m ≡ length (cuts f (trisOf l)) = sym (length-pairs (loOf 0 BUCKETS w′) (hiOf 0 BUCKETS w′) m) ∙ ap length s in
-      let new = refined (mid n L) (trisOf l) in
-      let many : length new ≤ 4 * t = subst (λ (z : ℕ). length new ≤ 4 * z) (tris-length l t) (refined-most (mid n L) (trisOf l)) in
-      let p = points-length points L in
-      let z = sizes-length sizes L in
-      record {
-        counts = counts-same (third (length (morePoints points L)) (n + m) (omega (arith, p, room .whole, len))) (rw s at (tri .counted) ∙ omega arith) (cut .counted) len;
-        points = rw s at (put .points) ∙ front newPoints (morePoints points L) (omega (arith, p, room .whole, len, room .in-points, cut .few));
-        sizes = rw s at (put .sizes) ∙ front newSizes (moreSizes sizes L) (omega (arith, z, room .sized, len, room .in-sizes, cut .few));
-        triangles = rw s at (tri .stands) ∙ front newTriangles (cornersOf new) (omega (arith, corners-length new, many, room .in-triangles));
-        ends = rw s at (put .ends) ∙ front cutEnds (endsOf L) (omega (arith, ends-length L, len, cut .few, room .in-ends));
-      }
+    pub filled : {newPoints′ newSizes′ : List Float} {newTriangles′ : List ℕ} {k : ℕ} → Pieces (length points / 3) cut l ends marks newTriangles′ k
+        → (newPoints′ ≡ sets newPoints 0 (morePoints points (sidesAt ends (cut .sides)))) × (newSizes′ ≡ sets newSizes 0 (moreSizes sizes (sidesAt ends (cut .sides))))
+        → Filled (refinementOf threshold angles points sizes (trisOf l)) newPoints newSizes newTriangles cutEnds
+        (record { points = length points / 3 + cut .sides; triangles = k; flagged = cut .flagged; cut = cut .sides }) newPoints′ newSizes′ newTriangles′ ends
+    unfolding refinementOf refine
+    filled {k = k} made put =
+        let n = length points / 3 in
+        let L = cuts (flaggedTri threshold angles) (trisOf l) in
+        let s : sidesAt ends (cut .sides) ≡ cuts (flaggedTri threshold angles) (trisOf l) = found .all-cut in
+        let len : cut .sides ≡ length (cuts (flaggedTri threshold angles) (trisOf l)) = sym (length-pairs (loAt ends) (hiAt ends) (cut .sides)) ∙ ap length s in
+        let new = refined (mid n L) (trisOf l) in
+        let stored : Stored new marks 0 0 _ k = rw s at (made .stored) in
+        let long = corners-length new in
+        let many : length new ≤ 4 * (length l / 3) = subst (λ (z : ℕ). length new ≤ 4 * z) (tris-length l (length l / 3)) (refined-most (mid n L) (trisOf l)) in
+        let p = points-length points L in
+        let z = sizes-length sizes L in
+        record {
+          counts = counts-same (third (length (morePoints points L)) (n + cut .sides) (omega (arith, p, room .whole, len))) (omega (arith, stored .counted)) (found .flagged) len;
+          points = rw s at (put .0) ∙ front newPoints (morePoints points L) (omega (arith, p, room .whole, len, room .in-points, found .few, found .seldom));
+          sizes = rw s at (put .1) ∙ front newSizes (moreSizes sizes L) (omega (arith, z, room .sized, len, room .in-sizes, found .few, found .seldom));
+          triangles = stored .stands
+              ∙ front-same (cornersOf new) marks newTriangles (omega (arith, long, many, room .in-triangles, found .same)) (found .same) (λ j g. found .behind j (omega (arith, long, stored .counted, made .least)))
+              ∙ front newTriangles (cornersOf new) (omega (arith, long, many, room .in-triangles));
+          ends = rw s at (ends-front cutEnds ends (cut .sides) (omega (arith, room .in-ends, found .same-ends, found .few, found .seldom)) (found .same-ends) (found .ends-behind));
+        }

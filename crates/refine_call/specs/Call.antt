@@ -6,24 +6,14 @@ use mathlib.Core.Bool.{Bool, not, cond, _||_}
 use mathlib.Core.List.{List}
 use lib.Dec.{eqb, ltb}
 use lib.ListN.{length}
-use lib.Seq.{sets}
 use lib.Ieee.{Float}
 use Rattle.floor.specs.declared.Check.{Check}
 use Rattle.floor.specs.declared.Check.the-variants.{Sound, Refused}
 use Rattle.floor.specs.Checks.{MOST-POINTS, MOST-TRIANGLES, row, wellFormed, notFiniteOrBelowZero, andThen, checkFloor}
-use Rattle.mesh.specs.Mesh.{Side}
-use Rattle.areas.specs.Points.{morePoints, moreSizes}
 use Rattle.refinement.specs.Floor.{Refined, refinementOf, trisOf, cornersOf, endsOf, over}
 use Rattle.refine_call.specs.declared.Counts.{Counts}
 use Rattle.refine_call.specs.declared.Answer.{Answer}
 use Rattle.refine_call.specs.declared.Answer.the-variants.{Refinement, Refusal}
-
--- the table of cut sides: its buckets, and its numbers with three sides of each of the most triangles, three numbers a side
-abbrev pub BUCKETS : ℕ
-BUCKETS = 65536
-
-abbrev pub TABLE : ℕ
-TABLE = 360448
 
 -- row 18, of n points, t triangles and the lengths of the four result slices: n' = n + 3 t points and sizes, t' = 4 t triangles, 4 t cut sides of two ends
 unfoldable pub short : ℕ → ℕ → ℕ → ℕ → ℕ → ℕ → Bool
@@ -67,28 +57,3 @@ pub record Called (c : Check) (r : Refined) (newPoints newSizes : List Float) (n
 abbrev pub CalledOn : List Float → List ℕ → List Float → List Float → Float → List Float → List Float → List ℕ → List ℕ → Answer → List Float → List Float → List ℕ → List ℕ → Type 0
 CalledOn points triangles sizes angles threshold newPoints newSizes newTriangles cutEnds =
     Called (checkCall points triangles sizes (length angles) threshold (length newPoints) (length newSizes) (length newTriangles) (length cutEnds)) (refinementOf threshold angles points sizes (trisOf triangles)) newPoints newSizes newTriangles cutEnds
-
--- the points, the sizes and the ends of the floor with points pts and sizes zs, refined at the cut sides l
-pub record FilledFor (pts zs : List Float) (l : List Side) (newPoints newSizes : List Float) (cutEnds : List ℕ) (newPoints′ newSizes′ : List Float) (cutEnds′ : List ℕ) : Type 0 where
-  pub points : newPoints′ ≡ sets newPoints 0 (morePoints pts l)
-  pub sizes : newSizes′ ≡ sets newSizes 0 (moreSizes zs l)
-  pub ends : cutEnds′ ≡ sets cutEnds 0 (endsOf l)
-
--- the four slices of an accepted call
-pub record Filled (r : Refined) (newPoints newSizes : List Float) (newTriangles cutEnds : List ℕ) (a : Counts) (newPoints′ newSizes′ : List Float) (newTriangles′ cutEnds′ : List ℕ) : Type 0 where
-  pub counts : a ≡ countsOf r
-  pub points : newPoints′ ≡ over (r .points) newPoints
-  pub sizes : newSizes′ ≡ over (r .sizes) newSizes
-  pub triangles : newTriangles′ ≡ over (cornersOf (r .triangles)) newTriangles
-  pub ends : cutEnds′ ≡ over (endsOf (r .cut)) cutEnds
-
--- there is room: what rows 1, 5 and 18 leave
-pub record Roomy (points corners sizes newPoints newSizes newTriangles cutEnds : ℕ) : Type 0 where
-  pub whole : points ≡ 3 * (points / 3)
-  pub few-points : points / 3 ≤ MOST-POINTS
-  pub few-triangles : corners / 3 ≤ MOST-TRIANGLES
-  pub sized : sizes ≡ points / 3
-  pub in-points : 3 * (points / 3 + 3 * (corners / 3)) ≤ newPoints
-  pub in-sizes : points / 3 + 3 * (corners / 3) ≤ newSizes
-  pub in-triangles : 12 * (corners / 3) ≤ newTriangles
-  pub in-ends : 8 * (corners / 3) ≤ cutEnds

@@ -1,13 +1,18 @@
 // Refinement as a call of its own, with the angles given: document 01's refusals, and refine_once's floor in four lent slices.
-// No work is lent to it: the table of the cut sides stands in an array of its own. specs/Call.antt says what it answers and writes, specs/Claim.antt
-// what holds of that.
+// No work is lent to it and it has none of its own: what it keeps until it is done stands where its results will (crate refine_floor, module marks), in no
+// place that they do not fill. specs/Call.antt says what it answers and writes, specs/Claim.antt what holds of that, specs/Steps.antt what its steps leave.
+use edges::Table;
+use refinement::Cut;
 ghost use mathlib.Core.Path.{_≡_};
-ghost use Prim.Native.Nat.{_+_, _*_, _/_, _<_, _≤_};
+ghost use Prim.Native.Nat.{_+_, _*_, _≤_};
 ghost use lib.ListN.{length};
-ghost use Rattle.edges.specs.Table.{Held, sidesIn};
+ghost use lib.Seq.{sets};
+ghost use Rattle.areas.specs.Points.{morePoints, moreSizes};
+ghost use Rattle.edges.specs.Apart.{sidesAt};
 ghost use Rattle.floor.specs.Checks.{MOST-POINTS, MOST-TRIANGLES};
 ghost use Rattle.refinement.specs.Floor.{refinementOf, trisOf};
-ghost use Rattle.refine_call.specs.Call.{BUCKETS, TABLE, short, checkRest, checkCall, CalledOn, FilledFor, Filled, Roomy};
+ghost use Rattle.refine_call.specs.Call.{short, checkRest, checkCall, CalledOn};
+ghost use Rattle.refine_call.specs.Steps.{Marks, Pieces, Filled, Roomy};
 
 // How many points and triangles the refined floor has, how many triangles were flagged, and how many sides cut.
 pub struct Counts {
@@ -30,11 +35,6 @@ struct ResultLengths {
     triangles: usize,
     ends: usize,
 }
-
-// The table of cut sides: its buckets, and its numbers for three sides of each of the most triangles.
-const BUCKETS: usize = 65536;
-
-const TABLE: usize = 360448;
 
 fn is_short(n: usize, t: usize, l: ResultLengths) -> bool
     requires { ⌜ (n ≤ MOST-POINTS) × (t ≤ MOST-TRIANGLES) ⌝ }
@@ -88,62 +88,60 @@ fn check_call(
     check_rest(points.len() / 3, triangles.len() / 3, angles, threshold, l)
 }
 
-// The points, the sizes and the ends of the m cut sides.
-fn put_floor(
-    points: &[f64],
-    sizes: &[f64],
-    w: &[u32],
-    m: usize,
-    new_points: &mut [f64],
-    new_sizes: &mut [f64],
-    cut_ends: &mut [u32],
-)
-    requires { ⌜ (BUCKETS + 3 * m ≤ length (now w)) × (length (now points) + 3 * m ≤ length (now «new_points»)) ⌝ }
-    requires { ⌜ (length (now sizes) + m ≤ length (now «new_sizes»)) × (2 * m ≤ length (now «cut_ends»)) ⌝ }
-    ensures { λ _. ⌜ FilledFor (now (points .entry)) (now (sizes .entry)) (sidesIn 0 BUCKETS (now (w .entry)) m)
-        (now («new_points» .entry)) (now («new_sizes» .entry)) (now («cut_ends» .entry))
-        (now («new_points» .exit)) (now («new_sizes» .exit)) (now («cut_ends» .exit)) ⌝ }
+// The corners of the triangles, where no side is cut.
+fn put_corners(triangles: &[u32], out: &mut [u32])
+    requires { ⌜ length (now triangles) ≤ length (now out) ⌝ }
+    ensures { λ _. ⌜ now (out .exit) ≡ sets (now (out .entry)) 0 (now (triangles .entry)) ⌝ }
 {
-    refine_floor::put_points(points, w, 0, BUCKETS, m, new_points);
-    refine_floor::put_sizes(sizes, w, 0, BUCKETS, m, new_sizes);
-    refine_floor::put_ends(w, 0, BUCKETS, m, cut_ends);
-}
-
-// The refinement of an accepted floor, over an empty table.
-fn refine_over(
-    points: &[f64],
-    triangles: &[u32],
-    sizes: &[f64],
-    angles: &[f64],
-    threshold: f64,
-    w: &mut [u32],
-    new_points: &mut [f64],
-    new_sizes: &mut [f64],
-    new_triangles: &mut [u32],
-    cut_ends: &mut [u32],
-) -> Counts
-    requires { ⌜ Held 0 BUCKETS (now w) 0 × (length (now w) ≡ TABLE) ⌝ }
-    requires { ⌜ Roomy (length (now points)) (length (now triangles)) (length (now sizes))
-        (length (now «new_points»)) (length (now «new_sizes»)) (length (now «new_triangles»)) (length (now «cut_ends»)) ⌝ }
-    ensures { λ r. ⌜ Filled (refinementOf threshold (now (angles .entry)) (now (points .entry)) (now (sizes .entry)) (trisOf (now (triangles .entry))))
-        (now («new_points» .entry)) (now («new_sizes» .entry)) (now («new_triangles» .entry)) (now («cut_ends» .entry)) r
-        (now («new_points» .exit)) (now («new_sizes» .exit)) (now («new_triangles» .exit)) (now («cut_ends» .exit)) ⌝ }
-{
-    let n = points.len() / 3;
-    let t = triangles.len() / 3;
-    let cut = refinement::cut_sides(triangles, t, angles, threshold, w, 0, BUCKETS);
-    let m = cut.sides;
-    let k = refine_floor::refine_triangles(triangles, t, n, w, 0, BUCKETS, m, new_triangles);
-    put_floor(points, sizes, w, m, new_points, new_sizes, cut_ends);
-    Counts {
-        points: n + m,
-        triangles: k,
-        flagged: cut.flagged,
-        cut: m,
+    let mut i = 0;
+    while i < triangles.len() {
+        out[i] = triangles[i];
+        i += 1;
     }
 }
 
-// The refinement of an accepted floor.
+// The pieces of the triangles whose sides are cut, over their marks. How many there are.
+fn put_pieces(
+    triangles: &[u32],
+    points: usize,
+    ends: &[u32],
+    new_triangles: &mut [u32],
+    cut: Cut,
+) -> usize
+    requires { ⌜ Marks points cut (now triangles) (now ends) (now «new_triangles») ⌝ }
+    ensures { λ r. ⌜ Pieces points cut (now (triangles .entry)) (now (ends .entry)) (now («new_triangles» .entry)) (now («new_triangles» .exit)) r ⌝ }
+{
+    let count = triangles.len() / 3;
+    if cut.flagged == 0 {
+        put_corners(triangles, new_triangles);
+        return count;
+    }
+    let table = Table {
+        base: 3 * count,
+        buckets: 3 * cut.flagged,
+        sides: cut.sides,
+    };
+    refine_floor::marks::refine_marked(triangles, count, points, ends, new_triangles, table)
+}
+
+// The points and the sizes of the refined floor.
+fn put_floor(
+    points: &[f64],
+    sizes: &[f64],
+    ends: &[u32],
+    count: usize,
+    new_points: &mut [f64],
+    new_sizes: &mut [f64],
+)
+    requires { ⌜ (2 * count ≤ length (now ends)) × ((length (now points) + 3 * count ≤ length (now «new_points»)) × (length (now sizes) + count ≤ length (now «new_sizes»))) ⌝ }
+    ensures { λ _. ⌜ (now («new_points» .exit) ≡ sets (now («new_points» .entry)) 0 (morePoints (now (points .entry)) (sidesAt (now (ends .entry)) count)))
+        × (now («new_sizes» .exit) ≡ sets (now («new_sizes» .entry)) 0 (moreSizes (now (sizes .entry)) (sidesAt (now (ends .entry)) count))) ⌝ }
+{
+    refine_floor::put_points(points, ends, count, new_points);
+    refine_floor::put_sizes(sizes, ends, count, new_sizes);
+}
+
+// The refinement of an accepted floor: cut sides, pieces, points and sizes. What it keeps in between stands where results will.
 fn refine_sound(
     points: &[f64],
     triangles: &[u32],
@@ -161,19 +159,25 @@ fn refine_sound(
         (now («new_points» .entry)) (now («new_sizes» .entry)) (now («new_triangles» .entry)) (now («cut_ends» .entry)) r
         (now («new_points» .exit)) (now («new_sizes» .exit)) (now («new_triangles» .exit)) (now («cut_ends» .exit)) ⌝ }
 {
-    let mut w = [0u32; TABLE];
-    refine_over(
-        points,
+    let n = points.len() / 3;
+    let count = triangles.len() / 3;
+    let cut = refine_floor::marks::cut_sides(
         triangles,
-        sizes,
+        count,
+        n,
         angles,
         threshold,
-        &mut w,
-        new_points,
-        new_sizes,
-        new_triangles,
         cut_ends,
-    )
+        new_triangles,
+    );
+    let pieces = put_pieces(triangles, n, cut_ends, new_triangles, cut);
+    put_floor(points, sizes, cut_ends, cut.sides, new_points, new_sizes);
+    Counts {
+        points: n + cut.sides,
+        triangles: pieces,
+        flagged: cut.flagged,
+        cut: cut.sides,
+    }
 }
 
 // Refinement with the angles given. The four slices at the end are its results: points, sizes, corners of triangles, ends of cut sides.

@@ -1,22 +1,24 @@
--- The pieces, ends and midpoints of a list with one more triangle or side, as runs of stores. Assumes nothing.
+-- The pieces and midpoints of a list with one more triangle or side, as runs of stores. Assumes nothing.
 use Prim.Native.Nat.{ℕ, _+_, _*_, _≤_, _<_}
 use native.Mathlib.Omega.{arith}
 use native.Mathlib.Numerals.{add-one}
 use mathlib.Core.Path.{_≡_, refl, sym, ap, _∙_}
-use mathlib.Core.List.{List, [], _∷_, _++_, append-nil, map}
+use mathlib.Core.List.{List, [], _∷_, _++_, append-nil, map-append}
 use mathlib.Core.Option.{Option}
 use lib.ListN.{length, length-append, length-map, getD, set, take}
 use lib.Seq.{sets, length-sets}
 use lib.Ieee.{Float}
 use Rattle.mesh.specs.Mesh.{Tri, Side, side, mid, pieces, refined}
 use Rattle.mesh.proofs.Theorem.{refined-append}
-use Rattle.areas.specs.Points.{midpoint, midpoints}
+use Rattle.areas.specs.Points.{midpoint, midpoints, midSize, midSizes}
 use Rattle.areas.proofs.Points.{mids-length}
-use Rattle.edges.specs.Table.{pairs, sidesIn, loOf, hiOf, Held}
-use Rattle.edges.proofs.Chain.{length-pairs}
+use Rattle.edges.specs.declared.Table.{Table}
+use Rattle.edges.specs.Table.{pairs, endOf}
+use Rattle.edges.specs.Apart.{loAt, hiAt, sidesAt}
+use Rattle.edges.proofs.Tree.{length-pairs}
 use Rattle.edges.proofs.Numbering.{held-within}
-use Rattle.refinement.specs.Floor.{tris, triAt, cornersOf, endsOf}
-use Rattle.refinement.specs.Steps.{Rows}
+use Rattle.refinement.specs.Floor.{tris, triAt, cornersOf}
+use Rattle.refinement.specs.Steps.{HeldIn, cutsIn, Rows}
 use Rattle.refine_floor.specs.Stored.{Stored}
 use Rattle.refinement.proofs.Triangles.{corners-length, corners-append}
 use Rattle.refinement.proofs.Parts.{take-rows, four}
@@ -42,7 +44,7 @@ pub stands-none : (m : ℕ → ℕ → Option ℕ) (l out : List ℕ) (at : ℕ)
 unfolding tris cornersOf
 stands-none m l out at = record { stored = record { stands = refl; counted = refl }; few = omega arith; same-length = refl }
 
-one-more : (m : ℕ → ℕ → Option ℕ) (l : List ℕ) (i : ℕ) → refined m (tris l (i + 1)) ≡ refined m (tris l i) ++ pieces m (triAt l i)
+pub one-more : (m : ℕ → ℕ → Option ℕ) (l : List ℕ) (i : ℕ) → refined m (tris l (i + 1)) ≡ refined m (tris l i) ++ pieces m (triAt l i)
 unfolding tris
 one-more m l i = rw (add-one i) (refined-append m (tris l i) (triAt l i ∷ []) ∙ ap (λ (r : List Tri). refined m (tris l i) ++ r) (append-nil (pieces m (triAt l i))))
 
@@ -65,92 +67,60 @@ stands-again {m} {l} {out₀} {out} {out′} {at} {i} {a} {k} {k′} z h s =
 -- ---- triangles in the slice that has the table
 
 -- the table stays where it is
-pub record Within (n o N m : ℕ) (l w₀ : List ℕ) (at i : ℕ) (w : List ℕ) (k : ℕ) : Type 0 where
-  pub stands : Stands (mid n (sidesIn o N w₀ m)) l w₀ at i w k
-  pub held : Held o N w m
+pub record Within (n : ℕ) (t : Table) (l w₀ : List ℕ) (at i : ℕ) (w : List ℕ) (k : ℕ) : Type 0 where
+  pub stands : Stands (mid n (cutsIn t w₀)) l w₀ at i w k
+  pub held : HeldIn t w
 
-pub within-none : (n o N m : ℕ) (l w : List ℕ) (at : ℕ) → Held o N w m → Within n o N m l w at 0 w 0
-within-none n o N m l w at h = record { stands = stands-none (mid n (sidesIn o N w m)) l w at; held = h }
+pub within-none : (n : ℕ) (t : Table) (l w : List ℕ) (at : ℕ) → HeldIn t w → Within n t l w at 0 w 0
+within-none n t l w at h = record { stands = stands-none (mid n (cutsIn t w)) l w at; held = h }
 
-pub within-again : {n o N m : ℕ} {l w₀ : List ℕ} {at i : ℕ} {w w′ : List ℕ} {k k′ : ℕ} → o + N + 3 * m ≤ at → Held o N w₀ m → Within n o N m l w₀ at i w k
-    → Stored (pieces (mid n (sidesIn o N w m)) (triAt l i)) w (at + 3 * k) k w′ k′ → Within n o N m l w₀ at (i + 1) w′ k′
-within-again {n} {o} {N} {m} {l} {w₀} {at} {i} {w} {w′} {k} {k′} behind h t s =
-    let old = held-within o N m at w₀ (cornersOf (refined (mid n (sidesIn o N w₀ m)) (tris l i))) behind (t .stands .stored .stands) h in
-    let new = stands-again refl (t .stands) (rw (old .1) at s) in
+pub within-again : {n : ℕ} {t : Table} {l w₀ : List ℕ} {at i : ℕ} {w w′ : List ℕ} {k k′ : ℕ} → endOf t ≤ at → HeldIn t w₀ → Within n t l w₀ at i w k
+    → Stored (pieces (mid n (cutsIn t w)) (triAt l i)) w (at + 3 * k) k w′ k′ → Within n t l w₀ at (i + 1) w′ k′
+within-again {n} {t} {l} {w₀} {at} {i} {w} {w′} {k} {k′} behind h so-far s =
+    let old = held-within (t .base) (t .buckets) (t .sides) at w₀ (cornersOf (refined (mid n (cutsIn t w₀)) (tris l i))) behind (so-far .stands .stored .stands) h in
+    let new = stands-again refl (so-far .stands) (rw (old .1) at s) in
     record {
       stands = new;
-      held = held-within o N m at w₀ (cornersOf (refined (mid n (sidesIn o N w₀ m)) (tris l (i + 1)))) behind (new .stored .stands) h .0;
+      held = held-within (t .base) (t .buckets) (t .sides) at w₀ (cornersOf (refined (mid n (cutsIn t w₀)) (tris l (i + 1)))) behind (new .stored .stands) h .0;
     }
 
--- ---- ends
+-- ---- a run of numbers for each side, as midpoints and sizes are
 
-ends-append : (s t : List Side) → endsOf (s ++ t) ≡ endsOf s ++ endsOf t
-unfolding endsOf
-ends-append [] t = refl
-ends-append (side a b ∷ s) t = ap (λ (l : List ℕ). a ∷ b ∷ l) (ends-append s t)
+sides-more : (e : List ℕ) (k : ℕ) → sidesAt e (k + 1) ≡ sidesAt e k ++ (side (loAt e k) (hiAt e k) ∷ [])
+unfolding pairs
+sides-more e k = rw (add-one k)
 
-pub ends-length : (s : List Side) → length (endsOf s) ≡ 2 * length s
-unfolding endsOf
-ends-length [] = refl
-ends-length (side a b ∷ s) = omega (arith, ends-length s)
-
-module _ (o N : ℕ) (w : List ℕ) where
-  sides-more : (k : ℕ) → sidesIn o N w (k + 1) ≡ sidesIn o N w k ++ (side (loOf o N w k) (hiOf o N w k) ∷ [])
-  unfolding pairs
-  sides-more k = rw (add-one k)
-
-  sides-length : (k : ℕ) → length (sidesIn o N w k) ≡ k
-  sides-length k = length-pairs (loOf o N w) (hiOf o N w) k
-
-  pub ends-none : (out : List ℕ) → out ≡ sets out 0 (endsOf (sidesIn o N w 0))
-  unfolding pairs endsOf
-  ends-none out = refl
-
-  pub ends-again : (out₀ : List ℕ) {out out′ : List ℕ} (k : ℕ) → out ≡ sets out₀ 0 (endsOf (sidesIn o N w k)) → out′ ≡ sets out (2 * k) (loOf o N w k ∷ hiOf o N w k ∷ [])
-      → out′ ≡ sets out₀ 0 (endsOf (sidesIn o N w (k + 1)))
-  unfolding endsOf
-  ends-again out₀ {out} {out′} k h s =
-      let at : 2 * k ≡ 0 + length (endsOf (sidesIn o N w k)) = omega (arith, ends-length (sidesIn o N w k), sides-length k) in
-      let e = side (loOf o N w k) (hiOf o N w k) ∷ [] in
-      s ∙ rw (at, h) (sets-append out₀ 0 (endsOf (sidesIn o N w k)) (endsOf e)) ∙ ap (sets out₀ 0) (sym (ends-append (sidesIn o N w k) e) ∙ ap endsOf (sym (sides-more k)))
-
--- ---- points
+-- h gives the run of a list of sides, and that of two lists is theirs, one behind the other
+module _ (h : List Side → List Float) (append : (s t : List Side) → h (s ++ t) ≡ h s ++ h t) (e : List ℕ) where
+  pub run-again : (out₀ : List Float) {out out′ : List Float} (at k place : ℕ) → place ≡ at + length (h (sidesAt e k)) → out ≡ sets out₀ at (h (sidesAt e k))
+      → out′ ≡ sets out place (h (side (loAt e k) (hiAt e k) ∷ [])) → out′ ≡ sets out₀ at (h (sidesAt e (k + 1)))
+  run-again out₀ at k place i so-far s =
+      let new = side (loAt e k) (hiAt e k) ∷ [] in
+      s ∙ rw (i, so-far) (sets-append out₀ at (h (sidesAt e k)) (h new)) ∙ ap (sets out₀ at) (sym (append (sidesAt e k) new) ∙ ap h (sym (sides-more e k)))
 
 mids-append : (pts : List Float) (s t : List Side) → midpoints pts (s ++ t) ≡ midpoints pts s ++ midpoints pts t
 unfolding midpoints
 mids-append pts [] t = refl
 mids-append pts (x ∷ s) t = ap (λ (l : List Float). midpoint pts x ++ l) (mids-append pts s t)
 
-module _ (pts : List Float) (o N : ℕ) (w : List ℕ) where
-  pub mids-none : (out : List Float) (at : ℕ) → out ≡ sets out at (midpoints pts (sidesIn o N w 0))
-  unfolding pairs midpoints
-  mids-none out at = refl
+pub mids-none : (pts : List Float) (e : List ℕ) (out : List Float) (at : ℕ) → out ≡ sets out at (midpoints pts (sidesAt e 0))
+unfolding pairs midpoints
+mids-none pts e out at = refl
 
-  pub mids-again : (out₀ : List Float) {out out′ : List Float} (at k : ℕ) → out ≡ sets out₀ at (midpoints pts (sidesIn o N w k))
-      → out′ ≡ sets out (at + 3 * k) (midpoint pts (side (loOf o N w k) (hiOf o N w k))) → out′ ≡ sets out₀ at (midpoints pts (sidesIn o N w (k + 1)))
-  unfolding midpoints
-  mids-again out₀ {out} {out′} at k h s =
-      let i : at + 3 * k ≡ at + length (midpoints pts (sidesIn o N w k)) = omega (arith, mids-length pts (sidesIn o N w k), sides-length o N w k) in
-      let e = side (loOf o N w k) (hiOf o N w k) ∷ [] in
-      s ∙ rw (i, h) (sets-append out₀ at (midpoints pts (sidesIn o N w k)) (midpoints pts e)) ∙ ap (sets out₀ at) (sym (mids-append pts (sidesIn o N w k) e) ∙ ap (midpoints pts) (sym (sides-more o N w k)))
+pub mids-again : (pts : List Float) (e : List ℕ) (out₀ : List Float) {out out′ : List Float} (at k : ℕ) → out ≡ sets out₀ at (midpoints pts (sidesAt e k))
+    → out′ ≡ sets out (at + 3 * k) (midpoint pts (side (loAt e k) (hiAt e k))) → out′ ≡ sets out₀ at (midpoints pts (sidesAt e (k + 1)))
+unfolding midpoints
+mids-again pts e out₀ at k = run-again (midpoints pts) (mids-append pts) e out₀ at k (at + 3 * k) (omega (arith, mids-length pts (sidesAt e k), length-pairs (loAt e) (hiAt e) k))
 
--- ---- one number for each side, as sizes and angles are
+pub sizes-none : (zs : List Float) (e : List ℕ) (out : List Float) (at : ℕ) → out ≡ sets out at (midSizes zs (sidesAt e 0))
+unfolding pairs midSizes
+sizes-none zs e out at = refl
 
-each-append : (g : Side → Float) (s t : List Side) → map g (s ++ t) ≡ map g s ++ map g t
-each-append g [] t = refl
-each-append g (x ∷ s) t = ap (λ (l : List Float). g x ∷ l) (each-append g s t)
-
-module _ (g : Side → Float) (o N : ℕ) (w : List ℕ) where
-  pub each-none : (out : List Float) (at : ℕ) → out ≡ sets out at (map g (sidesIn o N w 0))
-  unfolding pairs
-  each-none out at = refl
-
-  pub each-again : (out₀ : List Float) {out out′ : List Float} (at k : ℕ) → out ≡ sets out₀ at (map g (sidesIn o N w k)) → out′ ≡ sets out (at + k) (g (side (loOf o N w k) (hiOf o N w k)) ∷ [])
-      → out′ ≡ sets out₀ at (map g (sidesIn o N w (k + 1)))
-  each-again out₀ {out} {out′} at k h s =
-      let i : at + k ≡ at + length (map g (sidesIn o N w k)) = omega (arith, length-map (sidesIn o N w k) g, sides-length o N w k) in
-      let e = side (loOf o N w k) (hiOf o N w k) ∷ [] in
-      s ∙ rw (i, h) (sets-append out₀ at (map g (sidesIn o N w k)) (map g e)) ∙ ap (sets out₀ at) (sym (each-append g (sidesIn o N w k) e) ∙ ap (map g) (sym (sides-more o N w k)))
+pub sizes-again : (zs : List Float) (e : List ℕ) (out₀ : List Float) {out : List Float} (at k : ℕ) {x : Float} → out ≡ sets out₀ at (midSizes zs (sidesAt e k))
+    → x ≡ midSize zs (side (loAt e k) (hiAt e k)) → set out (at + k) x ≡ sets out₀ at (midSizes zs (sidesAt e (k + 1)))
+unfolding midSizes
+sizes-again zs e out₀ {out} at k so-far z =
+    run-again (midSizes zs) (map-append (midSize zs)) e out₀ at k (at + k) (omega (arith, length-map (sidesAt e k) (midSize zs), length-pairs (loAt e) (hiAt e) k)) so-far (ap (set out (at + k)) z)
 
 -- the old numbers, and then those of the cut sides
 pub more-done : (zs new out₀ : List Float) {out out′ : List Float} (n : ℕ) → n ≡ length zs → out ≡ sets out₀ 0 zs → out′ ≡ sets out n new → out′ ≡ sets out₀ 0 (zs ++ new)

@@ -1,2 +1,3 @@
 pub mod Guidance
+pub mod Marks
 pub mod Stored

@@ -1,135 +1,65 @@
-// The slices of a refined floor: its triangles, the ends of its cut sides, its points, sizes and guidance, each as a run of stores into a lent slice.
-// The refinement call (crate refine_call) puts them together.
+// The slices of a refined floor. For a solve, its triangles, behind the table of cut sides in one slice. For the refinement call (crate refine_call), its
+// points and sizes from the ends of the cut sides, and in module marks its cut sides and triangles, in no slices but those that take the results.
+pub mod marks;
+
+use edges::Table;
 ghost use mathlib.Core.Path.{_≡_};
-ghost use mathlib.Core.List.{[], _∷_};
 ghost use Prim.Native.Nat.{_+_, _*_, _<_, _≤_, _^_};
 ghost use lib.ListN.{length};
 ghost use lib.Seq.{sets};
 ghost use Rattle.mesh.specs.Mesh.{side, mid, pieces, refined};
 ghost use Rattle.areas.specs.Points.{xOf, yOf, midpoint, midpoints, midSize, midSizes, morePoints, moreSizes};
-ghost use Rattle.edges.specs.Table.{Held, sidesIn, loOf, hiOf};
-ghost use Rattle.refinement.specs.Floor.{tris, triAt, endsOf};
+ghost use Rattle.edges.specs.Table.{endOf};
+ghost use Rattle.edges.specs.Apart.{loAt, hiAt, sidesAt};
+ghost use Rattle.refinement.specs.Floor.{tris, triAt};
+ghost use Rattle.refinement.specs.Steps.{HeldIn, cutsIn};
 ghost use Rattle.refine_floor.specs.Stored.{Stored};
-ghost use Rattle.refine_floor.specs.Guidance.{midAngleOn, midAngles, moreAngles};
 
 // ---- triangles
 
-// The pieces of triangle i behind the first k triangles of `out`. How many there are then.
-fn refine_triangle(
-    l: &[u32],
-    i: usize,
-    n: usize,
-    w: &[u32],
-    base: usize,
-    nb: usize,
-    m: usize,
-    out: &mut [u32],
-    k: usize,
-) -> usize
-    requires { ⌜ Held base nb (now w) m ⌝ }
-    requires { ⌜ (3 * i + 3 ≤ length (now l)) × ((n + m < 2 ^ 32) × (3 * k + 12 ≤ length (now out))) ⌝ }
-    ensures { λ r. ⌜ Stored (pieces (mid n (sidesIn base nb (now (w .entry)) m)) (triAt (now (l .entry)) i)) (now (out .entry)) (3 * k) k (now (out .exit)) r ⌝ }
-{
-    let p = refinement::pieces_of(l, i, n, w, base, nb, m);
-    let rows = p.rows;
-    refinement::put_rows(out, 3 * k, rows, 3 * p.count);
-    k + p.count
-}
-
-// The pieces of the first t triangles of l, of n points, whose m cut sides are in the table. How many there are.
-pub fn refine_triangles(
-    l: &[u32],
-    t: usize,
-    n: usize,
-    w: &[u32],
-    base: usize,
-    nb: usize,
-    m: usize,
-    out: &mut [u32],
-) -> usize
-    requires { ⌜ Held base nb (now w) m ⌝ }
-    requires { ⌜ (3 * t ≤ length (now l)) × ((n + m < 2 ^ 32) × (12 * t ≤ length (now out))) ⌝ }
-    ensures { λ r. ⌜ Stored (refined (mid n (sidesIn base nb (now (w .entry)) m)) (tris (now (l .entry)) t)) (now (out .entry)) 0 0 (now (out .exit)) r ⌝ }
-{
-    let mut k = 0;
-    let mut i = 0;
-    while i < t {
-        k = refine_triangle(l, i, n, w, base, nb, m, out, k);
-        i += 1;
-    }
-    k
-}
-
-// The same where the slice that has the table takes the triangles too, from `at` on: those of triangle i.
+// The pieces of triangle i behind k others from `at` on, in the slice that has the table. How many there are then.
 fn refine_triangle_within(
-    l: &[u32],
+    triangles: &[u32],
     i: usize,
-    n: usize,
-    w: &mut [u32],
-    base: usize,
-    nb: usize,
-    m: usize,
+    points: usize,
+    numbers: &mut [u32],
+    table: Table,
     at: usize,
     k: usize,
 ) -> usize
-    requires { ⌜ Held base nb (now w) m ⌝ }
-    requires { ⌜ (3 * i + 3 ≤ length (now l)) × ((n + m < 2 ^ 32) × (at + 3 * k + 12 ≤ length (now w))) ⌝ }
-    ensures { λ r. ⌜ Stored (pieces (mid n (sidesIn base nb (now (w .entry)) m)) (triAt (now (l .entry)) i)) (now (w .entry)) (at + 3 * k) k (now (w .exit)) r ⌝ }
+    requires { ⌜ HeldIn table (now numbers) ⌝ }
+    requires { ⌜ (3 * i + 3 ≤ length (now triangles)) × ((points + table .sides < 2 ^ 32) × (at + 3 * k + 12 ≤ length (now numbers))) ⌝ }
+    ensures { λ r. ⌜ Stored (pieces (mid points (cutsIn table (now (numbers .entry)))) (triAt (now (triangles .entry)) i)) (now (numbers .entry)) (at + 3 * k) k (now (numbers .exit)) r ⌝ }
 {
-    let p = refinement::pieces_of(l, i, n, w, base, nb, m);
+    let p = refinement::pieces_of(triangles, i, points, numbers, table);
     let rows = p.rows;
-    refinement::put_rows(w, at + 3 * k, rows, 3 * p.count);
+    refinement::put_rows(numbers, at + 3 * k, rows, 3 * p.count);
     k + p.count
 }
 
-// The pieces of the first t triangles, in the slice that has the table, from `at` on. How many there are.
+// The pieces of the first `count` triangles, in the slice that has the table, from `at` on. How many there are.
 pub fn refine_triangles_within(
-    l: &[u32],
-    t: usize,
-    n: usize,
-    w: &mut [u32],
-    base: usize,
-    nb: usize,
-    m: usize,
+    triangles: &[u32],
+    count: usize,
+    points: usize,
+    numbers: &mut [u32],
+    table: Table,
     at: usize,
 ) -> usize
-    requires { ⌜ Held base nb (now w) m ⌝ }
-    requires { ⌜ ((3 * t ≤ length (now l)) × (n + m < 2 ^ 32)) × ((base + nb + 3 * m ≤ at) × (at + 12 * t ≤ length (now w))) ⌝ }
-    ensures { λ r. ⌜ Stored (refined (mid n (sidesIn base nb (now (w .entry)) m)) (tris (now (l .entry)) t)) (now (w .entry)) at 0 (now (w .exit)) r ⌝ }
+    requires { ⌜ HeldIn table (now numbers) ⌝ }
+    requires { ⌜ ((3 * count ≤ length (now triangles)) × (points + table .sides < 2 ^ 32)) × ((endOf table ≤ at) × (at + 12 * count ≤ length (now numbers))) ⌝ }
+    ensures { λ r. ⌜ Stored (refined (mid points (cutsIn table (now (numbers .entry)))) (tris (now (triangles .entry)) count)) (now (numbers .entry)) at 0 (now (numbers .exit)) r ⌝ }
 {
     let mut k = 0;
     let mut i = 0;
-    while i < t {
-        k = refine_triangle_within(l, i, n, w, base, nb, m, at, k);
+    while i < count {
+        k = refine_triangle_within(triangles, i, points, numbers, table, at, k);
         i += 1;
     }
     k
 }
 
-// ---- ends of cut sides
-
-fn put_end(w: &[u32], base: usize, nb: usize, m: usize, k: usize, out: &mut [u32])
-    requires { ⌜ (base + nb + 3 * m ≤ length (now w)) × ((k < m) × (2 * k + 2 ≤ length (now out))) ⌝ }
-    ensures { λ _. ⌜ now (out .exit) ≡ sets (now (out .entry)) (2 * k) (loOf base nb (now (w .entry)) k ∷ hiOf base nb (now (w .entry)) k ∷ []) ⌝ }
-{
-    let at = base + nb + 3 * k;
-    out[2 * k] = w[at];
-    out[2 * k + 1] = w[at + 1];
-}
-
-// The ends of the m sides of a table, in order.
-pub fn put_ends(w: &[u32], base: usize, nb: usize, m: usize, out: &mut [u32])
-    requires { ⌜ (base + nb + 3 * m ≤ length (now w)) × (2 * m ≤ length (now out)) ⌝ }
-    ensures { λ _. ⌜ now (out .exit) ≡ sets (now (out .entry)) 0 (endsOf (sidesIn base nb (now (w .entry)) m)) ⌝ }
-{
-    let mut k = 0;
-    while k < m {
-        put_end(w, base, nb, m, k, out);
-        k += 1;
-    }
-}
-
-// ---- points and sizes
+// ---- points and sizes, from the ends of the cut sides
 
 pub fn copy(from: &[f64], out: &mut [f64])
     requires { ⌜ length (now from) ≤ length (now out) ⌝ }
@@ -155,150 +85,67 @@ fn y_of(points: &[f64], v: u32) -> f64
 }
 
 // The midpoint of side k, from `at` on.
-fn put_midpoint(
-    points: &[f64],
-    w: &[u32],
-    base: usize,
-    nb: usize,
-    m: usize,
-    k: usize,
-    out: &mut [f64],
-    at: usize,
-)
-    requires { ⌜ (base + nb + 3 * m ≤ length (now w)) × ((k < m) × (at + 3 ≤ length (now out))) ⌝ }
-    ensures { λ _. ⌜ now (out .exit) ≡ sets (now (out .entry)) at (midpoint (now (points .entry)) (side (loOf base nb (now (w .entry)) k) (hiOf base nb (now (w .entry)) k))) ⌝ }
+fn put_midpoint(points: &[f64], ends: &[u32], k: usize, out: &mut [f64], at: usize)
+    requires { ⌜ (2 * k + 2 ≤ length (now ends)) × (at + 3 ≤ length (now out)) ⌝ }
+    ensures { λ _. ⌜ now (out .exit) ≡ sets (now (out .entry)) at (midpoint (now (points .entry)) (side (loAt (now (ends .entry)) k) (hiAt (now (ends .entry)) k))) ⌝ }
 {
-    let e = base + nb + 3 * k;
-    let x = areas::half_sum(x_of(points, w[e]), x_of(points, w[e + 1]));
-    let y = areas::half_sum(y_of(points, w[e]), y_of(points, w[e + 1]));
+    let u = ends[2 * k];
+    let v = ends[2 * k + 1];
+    let x = areas::half_sum(x_of(points, u), x_of(points, v));
+    let y = areas::half_sum(y_of(points, u), y_of(points, v));
     out[at] = x;
     out[at + 1] = y;
     out[at + 2] = 0.0;
 }
 
-// The midpoints of the m sides of a table, from `at` on.
-fn put_midpoints(
-    points: &[f64],
-    w: &[u32],
-    base: usize,
-    nb: usize,
-    m: usize,
-    out: &mut [f64],
-    at: usize,
-)
-    requires { ⌜ (base + nb + 3 * m ≤ length (now w)) × (at + 3 * m ≤ length (now out)) ⌝ }
-    ensures { λ _. ⌜ now (out .exit) ≡ sets (now (out .entry)) at (midpoints (now (points .entry)) (sidesIn base nb (now (w .entry)) m)) ⌝ }
+// The midpoints of the first `count` sides, from `at` on.
+fn put_midpoints(points: &[f64], ends: &[u32], count: usize, out: &mut [f64], at: usize)
+    requires { ⌜ (2 * count ≤ length (now ends)) × (at + 3 * count ≤ length (now out)) ⌝ }
+    ensures { λ _. ⌜ now (out .exit) ≡ sets (now (out .entry)) at (midpoints (now (points .entry)) (sidesAt (now (ends .entry)) count)) ⌝ }
 {
     let mut k = 0;
-    while k < m {
-        put_midpoint(points, w, base, nb, m, k, out, at + 3 * k);
+    while k < count {
+        put_midpoint(points, ends, k, out, at + 3 * k);
         k += 1;
     }
 }
 
 // The points of the refined floor.
-pub fn put_points(points: &[f64], w: &[u32], base: usize, nb: usize, m: usize, out: &mut [f64])
-    requires { ⌜ (base + nb + 3 * m ≤ length (now w)) × (length (now points) + 3 * m ≤ length (now out)) ⌝ }
-    ensures { λ _. ⌜ now (out .exit) ≡ sets (now (out .entry)) 0 (morePoints (now (points .entry)) (sidesIn base nb (now (w .entry)) m)) ⌝ }
+pub fn put_points(points: &[f64], ends: &[u32], count: usize, out: &mut [f64])
+    requires { ⌜ (2 * count ≤ length (now ends)) × (length (now points) + 3 * count ≤ length (now out)) ⌝ }
+    ensures { λ _. ⌜ now (out .exit) ≡ sets (now (out .entry)) 0 (morePoints (now (points .entry)) (sidesAt (now (ends .entry)) count)) ⌝ }
 {
     copy(points, out);
-    put_midpoints(points, w, base, nb, m, out, points.len());
+    put_midpoints(points, ends, count, out, points.len());
 }
 
 // The size at the midpoint of side k.
-fn put_mid_size(
-    sizes: &[f64],
-    w: &[u32],
-    base: usize,
-    nb: usize,
-    m: usize,
-    k: usize,
-    out: &mut [f64],
-    at: usize,
-)
-    requires { ⌜ (base + nb + 3 * m ≤ length (now w)) × ((k < m) × (at < length (now out))) ⌝ }
-    ensures { λ _. ⌜ now (out .exit) ≡ sets (now (out .entry)) at (midSize (now (sizes .entry)) (side (loOf base nb (now (w .entry)) k) (hiOf base nb (now (w .entry)) k)) ∷ []) ⌝ }
+fn mid_size(sizes: &[f64], ends: &[u32], k: usize) -> f64
+    requires { ⌜ 2 * k + 2 ≤ length (now ends) ⌝ }
+    ensures { λ r. ⌜ r ≡ midSize (now (sizes .entry)) (side (loAt (now (ends .entry)) k) (hiAt (now (ends .entry)) k)) ⌝ }
 {
-    let e = base + nb + 3 * k;
-    let u = floor::read(sizes, mesh::index(w[e]));
-    let v = floor::read(sizes, mesh::index(w[e + 1]));
-    out[at] = areas::half_sum(u, v);
+    let u = floor::read(sizes, mesh::index(ends[2 * k]));
+    let v = floor::read(sizes, mesh::index(ends[2 * k + 1]));
+    areas::half_sum(u, v)
 }
 
-fn put_mid_sizes(
-    sizes: &[f64],
-    w: &[u32],
-    base: usize,
-    nb: usize,
-    m: usize,
-    out: &mut [f64],
-    at: usize,
-)
-    requires { ⌜ (base + nb + 3 * m ≤ length (now w)) × (at + m ≤ length (now out)) ⌝ }
-    ensures { λ _. ⌜ now (out .exit) ≡ sets (now (out .entry)) at (midSizes (now (sizes .entry)) (sidesIn base nb (now (w .entry)) m)) ⌝ }
+// The sizes at the midpoints of the first `count` sides, from `at` on.
+fn put_mid_sizes(sizes: &[f64], ends: &[u32], count: usize, out: &mut [f64], at: usize)
+    requires { ⌜ (2 * count ≤ length (now ends)) × (at + count ≤ length (now out)) ⌝ }
+    ensures { λ _. ⌜ now (out .exit) ≡ sets (now (out .entry)) at (midSizes (now (sizes .entry)) (sidesAt (now (ends .entry)) count)) ⌝ }
 {
     let mut k = 0;
-    while k < m {
-        put_mid_size(sizes, w, base, nb, m, k, out, at + k);
+    while k < count {
+        out[at + k] = mid_size(sizes, ends, k);
         k += 1;
     }
 }
 
 // The sizes of the refined floor.
-pub fn put_sizes(sizes: &[f64], w: &[u32], base: usize, nb: usize, m: usize, out: &mut [f64])
-    requires { ⌜ (base + nb + 3 * m ≤ length (now w)) × (length (now sizes) + m ≤ length (now out)) ⌝ }
-    ensures { λ _. ⌜ now (out .exit) ≡ sets (now (out .entry)) 0 (moreSizes (now (sizes .entry)) (sidesIn base nb (now (w .entry)) m)) ⌝ }
+pub fn put_sizes(sizes: &[f64], ends: &[u32], count: usize, out: &mut [f64])
+    requires { ⌜ (2 * count ≤ length (now ends)) × (length (now sizes) + count ≤ length (now out)) ⌝ }
+    ensures { λ _. ⌜ now (out .exit) ≡ sets (now (out .entry)) 0 (moreSizes (now (sizes .entry)) (sidesAt (now (ends .entry)) count)) ⌝ }
 {
     copy(sizes, out);
-    put_mid_sizes(sizes, w, base, nb, m, out, sizes.len());
-}
-
-// ---- guidance
-
-// The angle at the midpoint of side k.
-fn put_mid_angle(
-    angles: &[f64],
-    w: &[u32],
-    base: usize,
-    nb: usize,
-    m: usize,
-    k: usize,
-    out: &mut [f64],
-    at: usize,
-)
-    requires { ⌜ (base + nb + 3 * m ≤ length (now w)) × ((k < m) × (at < length (now out))) ⌝ }
-    ensures { λ _. ⌜ now (out .exit) ≡ sets (now (out .entry)) at (midAngleOn (now (angles .entry)) (side (loOf base nb (now (w .entry)) k) (hiOf base nb (now (w .entry)) k)) ∷ []) ⌝ }
-{
-    let e = base + nb + 3 * k;
-    let u = floor::read(angles, mesh::index(w[e]));
-    let v = floor::read(angles, mesh::index(w[e + 1]));
-    out[at] = guidance::mid_angle(u, v);
-}
-
-fn put_mid_angles(
-    angles: &[f64],
-    w: &[u32],
-    base: usize,
-    nb: usize,
-    m: usize,
-    out: &mut [f64],
-    at: usize,
-)
-    requires { ⌜ (base + nb + 3 * m ≤ length (now w)) × (at + m ≤ length (now out)) ⌝ }
-    ensures { λ _. ⌜ now (out .exit) ≡ sets (now (out .entry)) at (midAngles (now (angles .entry)) (sidesIn base nb (now (w .entry)) m)) ⌝ }
-{
-    let mut k = 0;
-    while k < m {
-        put_mid_angle(angles, w, base, nb, m, k, out, at + k);
-        k += 1;
-    }
-}
-
-// The guidance of the refined floor: the Rust's extend_guidance.
-pub fn extend_guidance(angles: &[f64], w: &[u32], base: usize, nb: usize, m: usize, out: &mut [f64])
-    requires { ⌜ (base + nb + 3 * m ≤ length (now w)) × (length (now angles) + m ≤ length (now out)) ⌝ }
-    ensures { λ _. ⌜ now (out .exit) ≡ sets (now (out .entry)) 0 (moreAngles (now (angles .entry)) (sidesIn base nb (now (w .entry)) m)) ⌝ }
-{
-    copy(angles, out);
-    put_mid_angles(angles, w, base, nb, m, out, angles.len());
+    put_mid_sizes(sizes, ends, count, out, sizes.len());
 }

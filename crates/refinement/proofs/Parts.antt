@@ -11,10 +11,11 @@ use mathlib.Core.Option.{Option, none, some}
 use lib.ListN.{length, take, replicate, length-append}
 use lib.Seq.{take-append-seam}
 use Rattle.mesh.specs.Mesh.{Tri, tri, Side, sides, metAll, above, sidesAfter, cuts, marked, one, split, pieces, refined}
-use Rattle.edges.specs.Table.{Held, MetTri, pairs, oneMore, oneLess}
+use Rattle.edges.specs.declared.Table.{Table}
+use Rattle.edges.specs.Table.{MetTri, pairs, oneMore, oneLess}
 use Rattle.refinement.specs.declared.Cut.{Cut}
 use Rattle.refinement.specs.Floor.{tris, triAt, cornersOf}
-use Rattle.refinement.specs.Steps.{CutStep, CutTo, rowsOf, Rows}
+use Rattle.refinement.specs.Steps.{having, HeldIn, CutStep, CutTo, rowsOf, Rows}
 use Rattle.refinement.proofs.Triangles.{corners-length}
 
 -- ---- one more triangle
@@ -29,7 +30,7 @@ marked-more f (s ∷ ts) t = go (f s) (marked-more f ts t)
     go true e = ap (λ (l : List Tri). s ∷ l) e
     go false e = e
 
-after-more : (l : List Side) (ts : List Tri) (t : Tri) → sidesAfter l (ts ++ (t ∷ [])) ≡ metAll (sidesAfter l ts) (sides t)
+pub after-more : (l : List Side) (ts : List Tri) (t : Tri) → sidesAfter l (ts ++ (t ∷ [])) ≡ metAll (sidesAfter l ts) (sides t)
 unfolding sidesAfter
 after-more l [] t = refl
 after-more l (s ∷ ts) t = after-more (metAll l (sides s)) ts t
@@ -42,22 +43,22 @@ cuts-more f ts t = rw (marked-more f ts t) (go (f t))
     go true = after-more [] (marked f ts) t
     go false = ap (sidesAfter []) (append-nil (marked f ts))
 
-count-more : (f : Tri → Bool) (ts : List Tri) (t : Tri) → length (marked f (ts ++ (t ∷ []))) ≡ one (f t) + length (marked f ts)
+pub count-more : (f : Tri → Bool) (ts : List Tri) (t : Tri) → length (marked f (ts ++ (t ∷ []))) ≡ one (f t) + length (marked f ts)
 count-more f ts t = ap length (marked-more f ts t) ∙ length-append (marked f ts) (cond (f t) (t ∷ []) []) ∙ go (f t)
   where
     go : (b : Bool) → length (marked f ts) + length (cond b (t ∷ []) []) ≡ one b + length (marked f ts)
     go true = omega arith
     go false = omega arith
 
-one-most : (b : Bool) → one b ≤ 1
+pub one-most : (b : Bool) → one b ≤ 1
 one-most true = omega arith
 one-most false = omega arith
 
 -- ---- the cut sides: a step, and the loop
 
-pub step-flagged : {o N : ℕ} {f : Tri → Bool} {w w′ : List ℕ} {m′ p q r : ℕ} {cut : Cut} {t : Tri} → f t ≡ true → MetTri o N w (cut .sides) w′ m′ p q r t
-    → CutStep o N f t w cut w′ (record { sides = m′; flagged = cut .flagged + 1 })
-step-flagged e s = record {
+pub step-flagged : (t : Table) {f : Tri → Bool} {w w′ : List ℕ} {m′ p q r : ℕ} {cut : Cut} {x : Tri} → f x ≡ true → MetTri (t .base) (t .buckets) w (cut .sides) w′ m′ p q r x
+    → CutStep t f x w cut w′ (record { sides = m′; flagged = cut .flagged + 1 })
+step-flagged t e s = record {
   held = s .held;
   now-cut = rw e (s .now-met);
   counted = rw e (omega arith);
@@ -66,8 +67,8 @@ step-flagged e s = record {
   outside = s .outside;
 }
 
-pub step-passed : {o N : ℕ} {f : Tri → Bool} {w : List ℕ} {cut : Cut} {t : Tri} → f t ≡ false → Held o N w (cut .sides) → CutStep o N f t w cut w cut
-step-passed e h = record {
+pub step-passed : (t : Table) {f : Tri → Bool} {w : List ℕ} {cut : Cut} {x : Tri} → f x ≡ false → HeldIn (having t (cut .sides)) w → CutStep t f x w cut w cut
+step-passed t e h = record {
   held = h;
   now-cut = rw e refl;
   counted = rw e (omega arith);
@@ -76,9 +77,9 @@ step-passed e h = record {
   outside = record { same = refl; before = λ j l. refl; behind = λ j l. refl };
 }
 
-pub cut-none : {o N : ℕ} {w : List ℕ} (f : Tri → Bool) (l : List ℕ) → Held o N w 0 → CutTo o N f l 0 w w 0 0
+pub cut-none : (t : Table) {w : List ℕ} (f : Tri → Bool) (l : List ℕ) → HeldIn (having t 0) w → CutTo t f l 0 w w (record { sides = 0; flagged = 0 })
 unfolding tris pairs cuts sidesAfter marked
-cut-none f l h = record {
+cut-none t f l h = record {
   held = h;
   all-cut = refl;
   counted = refl;
@@ -87,8 +88,8 @@ cut-none f l h = record {
   outside = record { same = refl; before = λ j q. refl; behind = λ j q. refl };
 }
 
-pub cut-again : {o N : ℕ} {f : Tri → Bool} {l : List ℕ} {i : ℕ} {w w₁ w₂ : List ℕ} {cut₁ cut₂ : Cut} → CutTo o N f l i w w₁ (cut₁ .sides) (cut₁ .flagged)
-    → CutStep o N f (triAt l i) w₁ cut₁ w₂ cut₂ → CutTo o N f l (i + 1) w w₂ (cut₂ .sides) (cut₂ .flagged)
+pub cut-again : {t : Table} {f : Tri → Bool} {l : List ℕ} {i : ℕ} {w w₁ w₂ : List ℕ} {cut₁ cut₂ : Cut} → CutTo t f l i w w₁ cut₁
+    → CutStep t f (triAt l i) w₁ cut₁ w₂ cut₂ → CutTo t f l (i + 1) w w₂ cut₂
 unfolding tris
 cut-again {f = f} {l} {i} h s =
     rw (add-one i) (record {
@@ -113,7 +114,7 @@ pub one-less-some : (p : ℕ) → p ≢ 0 → oneLess p ≡ some (p - 1)
 one-less-some zero h = absurd (h refl)
 one-less-some (suc p) h = let e : suc p - 1 ≡ p = omega arith in rw e
 
-one-less-one-more : (o : Option ℕ) → oneLess (oneMore o) ≡ o
+pub one-less-one-more : (o : Option ℕ) → oneLess (oneMore o) ≡ o
 one-less-one-more none = refl
 one-less-one-more (some k) = refl
 

@@ -1,15 +1,16 @@
-// Refinement of a floor, the Rust's refine_once step by step: which triangles are flagged, the cut sides in the order first met, the pieces of each
-// triangle, and the midpoints. Cut sides stand in a table of crate edges, in the slice w from `base` on, with nb buckets.
+// Refinement of a floor, the Rust's refine_once step by step: which triangles are flagged, the cut sides in the order first met, and the pieces of each
+// triangle. Cut sides stand in a table of crate edges, in the slice `numbers`.
 // specs/Floor.antt has the whole as one definition; specs/Flag.antt says which triangles are flagged.
+use edges::Table;
 ghost use mathlib.Core.Path.{_≡_};
 ghost use Prim.Native.Nat.{_+_, _*_, _<_, _≤_, _^_};
 ghost use lib.ListN.{length, take};
 ghost use lib.Seq.{sets};
 ghost use Rattle.mesh.specs.Mesh.{tri, mid, split, pieces};
-ghost use Rattle.edges.specs.Table.{Held, sidesIn, oneMore, oneLess};
+ghost use Rattle.edges.specs.Table.{endOf, oneMore, oneLess};
 ghost use Rattle.refinement.specs.Flag.{turnAlong, variation, angle, flaggedTri};
 ghost use Rattle.refinement.specs.Floor.{triAt};
-ghost use Rattle.refinement.specs.Steps.{CutStep, CutTo, Rows};
+ghost use Rattle.refinement.specs.Steps.{having, HeldIn, cutsIn, CutStep, CutTo, Rows};
 
 // How far the field turns along a side, from the angles at its ends.
 pub fn turn_along(a: f64, b: f64) -> f64
@@ -51,31 +52,30 @@ pub struct Cut {
     pub flagged: usize,
 }
 
-// Triangle i is looked at: if it is flagged, its sides are cut.
+// Triangle i is looked at: if it is flagged, its sides are cut. The table has the sides cut so far.
 fn cut_triangle(
-    l: &[u32],
+    triangles: &[u32],
     i: usize,
-    alpha: &[f64],
+    angles: &[f64],
     threshold: f64,
-    w: &mut [u32],
-    base: usize,
-    nb: usize,
+    numbers: &mut [u32],
+    table: Table,
     cut: Cut,
 ) -> Cut
-    requires { ⌜ Held base nb (now w) (cut .sides) ⌝ }
-    requires { ⌜ (3 * i + 3 ≤ length (now l)) × ((base + nb + 3 * (cut .sides + 3) ≤ length (now w)) × ((cut .sides + 3 < 2 ^ 32) × (cut .flagged < 2 ^ 32))) ⌝ }
-    ensures { λ r. ⌜ CutStep base nb (flaggedTri threshold (now (alpha .entry))) (triAt (now (l .entry)) i) (now (w .entry)) cut (now (w .exit)) r ⌝ }
+    requires { ⌜ HeldIn (having table (cut .sides)) (now numbers) ⌝ }
+    requires { ⌜ (3 * i + 3 ≤ length (now triangles)) × ((endOf (having table (cut .sides + 3)) ≤ length (now numbers)) × ((cut .sides + 3 < 2 ^ 32) × (cut .flagged < 2 ^ 32))) ⌝ }
+    ensures { λ r. ⌜ CutStep table (flaggedTri threshold (now (angles .entry))) (triAt (now (triangles .entry)) i) (now (numbers .entry)) cut (now (numbers .exit)) r ⌝ }
 {
-    let a = l[3 * i];
-    let b = l[3 * i + 1];
-    let c = l[3 * i + 2];
-    if is_flagged(alpha, threshold, a, b, c) {
-        let t = edges::Table {
-            base,
-            buckets: nb,
+    let a = triangles[3 * i];
+    let b = triangles[3 * i + 1];
+    let c = triangles[3 * i + 2];
+    if is_flagged(angles, threshold, a, b, c) {
+        let before = Table {
+            base: table.base,
+            buckets: table.buckets,
             sides: cut.sides,
         };
-        let met = edges::meet_triangle(w, t, a, b, c);
+        let met = edges::meet_triangle(numbers, before, a, b, c);
         return Cut {
             sides: met.sides,
             flagged: cut.flagged + 1,
@@ -84,48 +84,42 @@ fn cut_triangle(
     cut
 }
 
-// The sides of the flagged triangles among the first t of l, in the order first met.
+// The sides of the flagged triangles among the first `count`, in the order first met, in an empty table.
 pub fn cut_sides(
-    l: &[u32],
-    t: usize,
-    alpha: &[f64],
+    triangles: &[u32],
+    count: usize,
+    angles: &[f64],
     threshold: f64,
-    w: &mut [u32],
-    base: usize,
-    nb: usize,
+    numbers: &mut [u32],
+    table: Table,
 ) -> Cut
-    requires { ⌜ Held base nb (now w) 0 ⌝ }
-    requires { ⌜ (3 * t ≤ length (now l)) × ((base + nb + 9 * t ≤ length (now w)) × (3 * t < 2 ^ 32)) ⌝ }
-    ensures { λ r. ⌜ CutTo base nb (flaggedTri threshold (now (alpha .entry))) (now (l .entry)) t (now (w .entry)) (now (w .exit)) (r .sides) (r .flagged) ⌝ }
+    requires { ⌜ HeldIn (having table 0) (now numbers) ⌝ }
+    requires { ⌜ (3 * count ≤ length (now triangles)) × ((endOf (having table (3 * count)) ≤ length (now numbers)) × (3 * count < 2 ^ 32)) ⌝ }
+    ensures { λ r. ⌜ CutTo table (flaggedTri threshold (now (angles .entry))) (now (triangles .entry)) count (now (numbers .entry)) (now (numbers .exit)) r ⌝ }
 {
     let mut cut = Cut {
         sides: 0,
         flagged: 0,
     };
     let mut i = 0;
-    while i < t {
-        cut = cut_triangle(l, i, alpha, threshold, w, base, nb, cut);
+    while i < count {
+        cut = cut_triangle(triangles, i, angles, threshold, numbers, table, cut);
         i += 1;
     }
     cut
 }
 
-// One more than the midpoint of the side of u and v, or 0 if it is not cut. There are n points and m cut sides.
-pub fn middle(w: &[u32], base: usize, nb: usize, m: usize, n: usize, u: u32, v: u32) -> u32
-    requires { ⌜ Held base nb (now w) m ⌝ }
-    requires { ⌜ n + m < 2 ^ 32 ⌝ }
-    ensures { λ r. ⌜ r ≡ oneMore (mid n (sidesIn base nb (now (w .entry)) m) u v) ⌝ }
+// One more than the midpoint of the side of u and v, or 0 if it is not cut. There are `points` points, and the cut sides are in the table.
+pub fn middle(numbers: &[u32], table: Table, points: usize, u: u32, v: u32) -> u32
+    requires { ⌜ HeldIn table (now numbers) ⌝ }
+    requires { ⌜ points + table .sides < 2 ^ 32 ⌝ }
+    ensures { λ r. ⌜ r ≡ oneMore (mid points (cutsIn table (now (numbers .entry))) u v) ⌝ }
 {
-    let t = edges::Table {
-        base,
-        buckets: nb,
-        sides: m,
-    };
-    let r = edges::find_side(w, t, u, v);
-    if r == 0 {
+    let number = edges::find_side(numbers, table, u, v);
+    if number == 0 {
         return 0;
     }
-    (n + r) as u32
+    (points + number) as u32
 }
 
 // The pieces of a triangle: how many, and their corners in list order, with 0 behind them.
@@ -201,24 +195,22 @@ pub fn split_triangle(a: u32, b: u32, c: u32, p: u32, q: u32, r: u32) -> Pieces
 
 // The pieces of triangle i.
 pub fn pieces_of(
-    l: &[u32],
+    triangles: &[u32],
     i: usize,
-    n: usize,
-    w: &[u32],
-    base: usize,
-    nb: usize,
-    m: usize,
+    points: usize,
+    numbers: &[u32],
+    table: Table,
 ) -> Pieces
-    requires { ⌜ Held base nb (now w) m ⌝ }
-    requires { ⌜ (3 * i + 3 ≤ length (now l)) × (n + m < 2 ^ 32) ⌝ }
-    ensures { λ z. ⌜ Rows (pieces (mid n (sidesIn base nb (now (w .entry)) m)) (triAt (now (l .entry)) i)) (z .count) (z .rows) ⌝ }
+    requires { ⌜ HeldIn table (now numbers) ⌝ }
+    requires { ⌜ (3 * i + 3 ≤ length (now triangles)) × (points + table .sides < 2 ^ 32) ⌝ }
+    ensures { λ z. ⌜ Rows (pieces (mid points (cutsIn table (now (numbers .entry)))) (triAt (now (triangles .entry)) i)) (z .count) (z .rows) ⌝ }
 {
-    let a = l[3 * i];
-    let b = l[3 * i + 1];
-    let c = l[3 * i + 2];
-    let p = middle(w, base, nb, m, n, a, b);
-    let q = middle(w, base, nb, m, n, b, c);
-    let r = middle(w, base, nb, m, n, c, a);
+    let a = triangles[3 * i];
+    let b = triangles[3 * i + 1];
+    let c = triangles[3 * i + 2];
+    let p = middle(numbers, table, points, a, b);
+    let q = middle(numbers, table, points, b, c);
+    let r = middle(numbers, table, points, c, a);
     split_triangle(a, b, c, p, q, r)
 }
 

@@ -19,8 +19,8 @@ pub part-is : (w : List Float) (b e k : ℕ) → e ≡ b + k → e ≤ length w 
 part-is w b e k z h = let y : e - b ≡ k = omega arith in ap (λ (j : ℕ). take j (drop b w)) y ∙ part-region nan w b k (omega arith)
 
 pub cuts-by : (corners : List ℕ) (n : ℕ) (threshold : Float) (w : List Float) (u : List ℕ) → CutRoom (length corners) n (length w) (length u) → {u₁ u′ : List ℕ} {r : Cut}
-    → u₁ ≡ sets u 0 (replicate (2 * (length corners / 3)) 0)
-    → CutTo 0 (2 * (length corners / 3)) (flaggedTri threshold (take (n - 0) (drop 0 w))) corners (length corners / 3) u₁ u′ (r .sides) (r .flagged)
+    → u₁ ≡ sets u 0 (replicate n 0)
+    → CutTo (record { base = 0; buckets = n; sides = 0 }) (flaggedTri threshold (take (n - 0) (drop 0 w))) corners (length corners / 3) u₁ u′ r
     → CutsBy corners n threshold w u u′ r
 cuts-by corners n threshold w u room e done =
     let z = part-is w 0 n n (omega arith) (room .angles-in) in
@@ -29,5 +29,5 @@ cuts-by corners n threshold w u room e done =
       cut = rw z at (done .all-cut);
       flagged = rw z at (done .counted);
       few = done .few;
-      same-length = done .outside .same ∙ ap length e ∙ length-sets u 0 (replicate (2 * (length corners / 3)) 0);
+      same-length = done .outside .same ∙ ap length e ∙ length-sets u 0 (replicate n 0);
     }

@@ -15,9 +15,10 @@ use Rattle.mesh.specs.Claim.{InRange}
 use Rattle.mesh.proofs.Whole.{All-map, good-in-range}
 use Rattle.mesh.proofs.Good.{refined-good}
 use Rattle.runs.proofs.Runs.{sets-before}
-use Rattle.edges.specs.Table.{pairs, sidesIn}
+use Rattle.edges.specs.declared.Table.{Table}
+use Rattle.edges.specs.Table.{sidesIn, endOf}
 use Rattle.edges.specs.Numbering.{trisFrom, Below}
-use Rattle.edges.proofs.Chain.{length-pairs}
+use Rattle.edges.proofs.Tree.{length-pairs}
 use Rattle.edges.proofs.Numbering.{sides-same}
 use Rattle.refinement.specs.declared.Cut.{Cut}
 use Rattle.refinement.specs.Flag.{flaggedTri}
@@ -26,7 +27,6 @@ use Rattle.refinement.proofs.Parts.{refined-most}
 use Rattle.refinement.proofs.Triangles.{tris-length}
 use Rattle.refine_floor.specs.Guidance.{moreAngles}
 use Rattle.refine_floor.specs.Stored.{Stored}
-use Rattle.planes.specs.declared.Cuts.{Cuts}
 use Rattle.planes.specs.Planes.{cutsIn}
 use Rattle.layout.specs.declared.Base.{Base}
 use Rattle.options.specs.declared.Options.{Options}
@@ -61,10 +61,10 @@ extended-is true weight angles l = go (lt (lit 0) weight)
 
 -- where the refined floor begins, and its cut sides
 abbrev pub baseAt : List Float → List ℕ → ℕ → ℕ → Base
-baseAt points corners m k = record { reals = length points / 3; words = 11 * (length corners / 3); points = length points / 3 + m; triangles = k }
+baseAt points corners m k = record { reals = length points / 3; words = length points / 3 + 12 * (length corners / 3); points = length points / 3 + m; triangles = k }
 
-abbrev pub cutsAt : List ℕ → ℕ → Cuts
-cutsAt corners m = record { ends = 2 * (length corners / 3); sides = m }
+abbrev pub tableAt : List Float → ℕ → Table
+tableAt points m = record { base = 0; buckets = length points / 3; sides = m }
 
 module _ (points : List Float) (corners : List ℕ) (sizes angles : List Float) (o : Options) (a : Asked) (w : List Float) (u : List ℕ)
     (ready : ReadyFor (callFor points corners sizes angles o a) w u) (stands : FirstStands (callFor points corners sizes angles o a) w) where
@@ -77,7 +77,7 @@ module _ (points : List Float) (corners : List ℕ) (sizes angles : List Float) 
   reals-room = rw (stands .above) at (ready .reals-room)
 
   pub cut-room : CutRoom (length corners) (length points / 3) (length w) (length u)
-  cut-room = record { some = ready .some-triangles; few = ready .few-triangles; angles-in = omega (arith, reals-room); table-in = omega (arith, words-room) }
+  cut-room = record { some = ready .some-points; few-buckets = omega (arith, ready .few-points); few = ready .few-triangles; angles-in = omega (arith, reals-room); table-in = omega (arith, words-room) }
 
   good : All (Good (length points / 3)) (trisOf corners)
   good =
@@ -88,17 +88,17 @@ module _ (points : List Float) (corners : List ℕ) (sizes angles : List Float) 
 
   module _ {u₂ : List ℕ} {cut : Cut} (found : CutsBy corners (length points / 3) (o .adaptive) w u u₂ cut) where
     pub refine-room : ((3 * (length corners / 3) ≤ length corners) × (length points / 3 + cut .sides < 2 ^ 32))
-        × ((0 + 2 * (length corners / 3) + 3 * cut .sides ≤ 11 * (length corners / 3)) × (11 * (length corners / 3) + 12 * (length corners / 3) ≤ length u₂))
+        × ((endOf (tableAt points (cut .sides)) ≤ (length points / 3 + 12 * (length corners / 3))) × ((length points / 3 + 12 * (length corners / 3)) + 12 * (length corners / 3) ≤ length u₂))
     refine-room = ((omega (arith, ready .whole-corners), omega (arith, found .few, ready .few-points, ready .few-triangles)), (omega (arith, found .few), omega (arith, found .same-length, words-room)))
 
     abbrev newTris : List Tri
-    newTris = refined (mid (length points / 3) (sidesIn 0 (2 * (length corners / 3)) u₂ (cut .sides))) (trisOf corners)
+    newTris = refined (mid (length points / 3) (sidesIn 0 (length points / 3) u₂ (cut .sides))) (trisOf corners)
 
     same-tris : newTris ≡ refinedBy (callFor points corners sizes angles o a) (firstIn (length points / 3) w) .triangles
     unfolding refinementOf refine
     same-tris = ap (λ (l : List Side). refined (mid (length points / 3) l) (trisOf corners)) (found .cut)
 
-    same-cut : sidesIn 0 (2 * (length corners / 3)) u₂ (cut .sides) ≡ refinedBy (callFor points corners sizes angles o a) (firstIn (length points / 3) w) .cut
+    same-cut : sidesIn 0 (length points / 3) u₂ (cut .sides) ≡ refinedBy (callFor points corners sizes angles o a) (firstIn (length points / 3) w) .cut
     unfolding refinementOf
     same-cut = found .cut
 
@@ -126,7 +126,7 @@ module _ (points : List Float) (corners : List ℕ) (sizes angles : List Float) 
     }
 
     most : length newTris ≤ 4 * (length corners / 3)
-    most = omega (arith, refined-most (mid (length points / 3) (sidesIn 0 (2 * (length corners / 3)) u₂ (cut .sides))) (trisOf corners), tris-length corners (length corners / 3))
+    most = omega (arith, refined-most (mid (length points / 3) (sidesIn 0 (length points / 3) u₂ (cut .sides))) (trisOf corners), tris-length corners (length corners / 3))
 
     new-in-range : All (InRange (length points / 3 + cut .sides)) newTris
     unfolding refine
@@ -136,35 +136,32 @@ module _ (points : List Float) (corners : List ℕ) (sizes angles : List Float) 
         let g = All-map (Good (length points / 3 + length (cuts f (trisOf corners)))) (InRange (length points / 3 + length (cuts f (trisOf corners)))) (good-in-range _) (refine (length points / 3) f (trisOf corners)) (refined-good (length points / 3) f (trisOf corners) good) in
         rw (found .cut, ← e) g
 
-    module _ {u₃ : List ℕ} {k : ℕ} (stored : Stored newTris u₂ (11 * (length corners / 3)) 0 u₃ k) where
+    module _ {u₃ : List ℕ} {k : ℕ} (stored : Stored newTris u₂ (length points / 3 + 12 * (length corners / 3)) 0 u₃ k) where
       many : k ≡ length newTris
       many = omega (arith, stored .counted)
 
-      room : 11 * (length corners / 3) + 3 * length newTris ≤ length u₂
+      room : (length points / 3 + 12 * (length corners / 3)) + 3 * length newTris ≤ length u₂
       room = omega (arith, most, found .same-length, words-room)
 
       pub long : length u₃ ≡ length u
-      long = ap length (stored .stands) ∙ length-sets u₂ (11 * (length corners / 3)) (cornersOf newTris) ∙ found .same-length
+      long = ap length (stored .stands) ∙ length-sets u₂ (length points / 3 + 12 * (length corners / 3)) (cornersOf newTris) ∙ found .same-length
 
-      tris-there : trisFrom (11 * (length corners / 3)) u₃ k ≡ newTris
-      tris-there = rw many (stored-tris u₂ (11 * (length corners / 3)) newTris room (stored .stands))
+      tris-there : trisFrom (length points / 3 + 12 * (length corners / 3)) u₃ k ≡ newTris
+      tris-there = rw many (stored-tris u₂ (length points / 3 + 12 * (length corners / 3)) newTris room (stored .stands))
 
-      pub corners-below : Below (length points / 3 + cut .sides) (11 * (length corners / 3)) u₃ (3 * k)
-      corners-below = rw many (stored-below u₂ (11 * (length corners / 3)) newTris room (stored .stands) (length points / 3 + cut .sides) new-in-range)
+      pub corners-below : Below (length points / 3 + cut .sides) (length points / 3 + 12 * (length corners / 3)) u₃ (3 * k)
+      corners-below = rw many (stored-below u₂ (length points / 3 + 12 * (length corners / 3)) newTris room (stored .stands) (length points / 3 + cut .sides) new-in-range)
 
-      cuts-there : cutsIn (cutsAt corners (cut .sides)) u₃ ≡ sidesIn 0 (2 * (length corners / 3)) u₂ (cut .sides)
+      cuts-there : cutsIn (tableAt points (cut .sides)) u₃ ≡ sidesIn 0 (length points / 3) u₂ (cut .sides)
       unfolding cutsIn
-      cuts-there =
-          let z : 0 + 2 * (length corners / 3) ≡ 2 * (length corners / 3) = omega arith in
-          sym (ap (λ (b : ℕ). pairs (λ j. getD u₃ (b + 3 * j) 0) (λ j. getD u₃ (b + 3 * j + 1) 0) (cut .sides)) z)
-          ∙ sides-same 0 (2 * (length corners / 3)) u₂ u₃ (cut .sides) (λ j _ h. ap (λ (x : List ℕ). getD x j 0) (stored .stands) ∙ sets-before u₂ (11 * (length corners / 3)) (cornersOf newTris) j 0 (omega (arith, found .few)))
+      cuts-there = sides-same 0 (length points / 3) u₂ u₃ (cut .sides) (λ j _ h. ap (λ (x : List ℕ). getD x j 0) (stored .stands) ∙ sets-before u₂ (length points / 3 + 12 * (length corners / 3)) (cornersOf newTris) j 0 (omega (arith, found .few)))
 
-      pub laid-room : {a′ : Asked} → a′ ≡ again a → LaidRoom (baseAt points corners (cut .sides) k) (a′ .guided) (length points) (length sizes) (length angles) (cutsAt corners (cut .sides)) (length w) (length u₃)
+      pub laid-room : {a′ : Asked} → a′ ≡ again a → LaidRoom (baseAt points corners (cut .sides) k) (a′ .guided) (length points) (length sizes) (length angles) (tableAt points (cut .sides)) (length w) (length u₃)
       laid-room e = rw e (record {
         whole = ready .whole;
         sized = ready .sized;
         guided-all = λ h. ready .guided-all (a .weight) angles (ap (λ (b : Bool). guidanceOf b (a .weight) angles) (both-true (a .guided) (lt (lit 0) (a .weight)) h));
-        ends-in = omega (arith, found .few, long, words-room);
+        table-in = omega (arith, found .few, long, words-room);
         all-points = refl;
         fits = record {
           small = record {
@@ -178,19 +175,19 @@ module _ (points : List Float) (corners : List ℕ) (sizes angles : List Float) 
         };
       })
 
-      second-as : passAt (baseAt points corners (cut .sides) k) (withoutThreshold o) (again a) (cutsAt corners (cut .sides)) points sizes angles u₃
+      second-as : passAt (baseAt points corners (cut .sides) k) (withoutThreshold o) (again a) (tableAt points (cut .sides)) points sizes angles u₃
           ≡ secondPass passOf (callFor points corners sizes angles o a) (firstIn (length points / 3) w)
       unfolding passOver refinementOf refine
       second-as =
           rw (cuts-there, tris-there, found .cut, extended-is (a .guided) (a .weight) angles (cuts (flaggedTri (o .adaptive) (firstIn (length points / 3) w)) (trisOf corners))) refl
 
       second-is : {o′ : Options} {a′ : Asked} → o′ ≡ withoutThreshold o → a′ ≡ again a
-          → passAt (baseAt points corners (cut .sides) k) o′ a′ (cutsAt corners (cut .sides)) points sizes angles u₃ ≡ secondPass passOf (callFor points corners sizes angles o a) (firstIn (length points / 3) w)
+          → passAt (baseAt points corners (cut .sides) k) o′ a′ (tableAt points (cut .sides)) points sizes angles u₃ ≡ secondPass passOf (callFor points corners sizes angles o a) (firstIn (length points / 3) w)
       second-is e g = rw (e, g) second-as
 
       -- the pass over the refined floor was made
       module _ (some : ¬ (cut .flagged ≡ 0)) {o′ : Options} {a′ : Asked} (e : o′ ≡ withoutThreshold o) (g : a′ ≡ again a) {w′ : List Float} {u′ : List ℕ} {s : Stage}
-          (made : Made (baseAt points corners (cut .sides) k) (passAt (baseAt points corners (cut .sides) k) o′ a′ (cutsAt corners (cut .sides)) points sizes angles u₃) w w′ u₃ u′ s) where
+          (made : Made (baseAt points corners (cut .sides) k) (passAt (baseAt points corners (cut .sides) k) o′ a′ (tableAt points (cut .sides)) points sizes angles u₃) w w′ u₃ u′ s) where
         answered : s ≡ stageOf (secondPass passOf (callFor points corners sizes angles o a) (firstIn (length points / 3) w))
         answered = made .answer ∙ ap stageOf (second-is e g)
 

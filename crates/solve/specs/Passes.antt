@@ -1,6 +1,6 @@
 -- What the passes of a call find, where they leave it in the work slices, and how it gets from there to the angle slices. `solveOf` of crate calls is
 -- put together from these in proofs/Whole. Definitions only.
-use Prim.Native.Nat.{ℕ, _+_, _*_, _/_, _≤_, _<_}
+use Prim.Native.Nat.{ℕ, _+_, _*_, _/_, _^_, _≤_, _<_}
 use mathlib.Core.Path.{_≡_}
 use mathlib.Core.Bool.{true, cond, _&&_}
 use mathlib.Core.List.{List}
@@ -91,19 +91,20 @@ pub record SameLengths (w w′ : List Float) (u u′ : List ℕ) : Type 0 where
   pub all-reals : length w′ ≡ length w
   pub all-words : length u′ ≡ length u
 
--- ---- the cut sides, in a table at the front of the u32 work: two buckets a triangle, and room for three sides a triangle behind them
+-- ---- the cut sides, in a table at the front of the u32 work: a bucket a point, and room for three sides a triangle behind them
 
 -- of the lengths of the triangle and the work slices, with n points
 pub record CutRoom (corners n work numbers : ℕ) : Type 0 where
-  pub some : 0 < corners / 3
+  pub some : 0 < n
+  pub few-buckets : n ≤ 2 ^ 32
   pub few : corners / 3 ≤ 32768
   pub angles-in : n ≤ work
-  pub table-in : 11 * (corners / 3) ≤ numbers
+  pub table-in : n + 12 * (corners / 3) ≤ numbers
 
 -- the sides that the angles at the front of w cut stand in the table; all behind it is as it was
 pub record CutsBy (corners : List ℕ) (n : ℕ) (threshold : Float) (w : List Float) (u u′ : List ℕ) (r : Cut) : Type 0 where
-  pub held : Held 0 (2 * (length corners / 3)) u′ (r .sides)
-  pub cut : sidesIn 0 (2 * (length corners / 3)) u′ (r .sides) ≡ cuts (flaggedTri threshold (firstIn n w)) (trisOf corners)
+  pub held : Held 0 n u′ (r .sides)
+  pub cut : sidesIn 0 n u′ (r .sides) ≡ cuts (flaggedTri threshold (firstIn n w)) (trisOf corners)
   pub flagged : r .flagged ≡ length (marked (flaggedTri threshold (firstIn n w)) (trisOf corners))
   pub few : r .sides ≤ 3 * (length corners / 3)
   pub same-length : length u′ ≡ length u

@@ -101,7 +101,7 @@ impl Refined {
 }
 
 /// Splits the triangles on which the field `angles` turns by more than `threshold` radians, and their neighbours along the cut sides, so
-/// that no side is cracked. The call uses about 1.4 MB of stack; on a thread with less it ends the program, as any stack overflow does.
+/// that no side is cracked.
 ///
 /// ```
 /// let floor = godf::Floor {

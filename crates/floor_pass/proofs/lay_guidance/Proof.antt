@@ -6,7 +6,7 @@ use Rattle.floor_pass.proofs.lay_guidance.Statement.{statement}
 use Rattle.floor_pass.proofs.lay_guidance.Tie as tie
 
 put-values-requires : tie.Need-put-values-requires
-put-values-requires c κs = record { ends-in = c .before .before .before .before .before .pre .ends-in; values-in = c .before .before .before .before .before .pre .guidance-in (c .before .if1 .taken) }
+put-values-requires c κs = record { table-in = c .before .before .before .before .before .pre .table-in; values-in = c .before .before .before .before .before .pre .guidance-in (c .before .if1 .taken) }
 
 same-length : tie.Need-same-length
 same-length c = search needs

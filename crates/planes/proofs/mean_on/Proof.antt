@@ -4,11 +4,8 @@ use borrow.Author.Needs.{needs}
 use Rattle.planes.proofs.mean_on.Statement.{statement}
 use Rattle.planes.proofs.mean_on.Tie as tie
 
-mul-at : tie.Need-mul-at
-mul-at c = search needs
-
-add-at : tie.Need-add-at
-add-at c = search needs
+row-requires : tie.Need-row-requires
+row-requires c κs = search needs
 
 mul-index : tie.Need-mul-index
 mul-index c = search needs
@@ -41,14 +38,13 @@ between-requires : tie.Need-between-requires
 between-requires c κs = search needs
 
 returns : tie.Need-returns
-returns c = c .between .ensures ∙ rw (c .before .read2 .ensures, c .before .before .index2 .ensures, c .before .before .before .before .read .ensures, c .before .before .before .before .before .index .ensures)
+returns c = c .between .ensures ∙ rw (c .before .read2 .ensures, c .before .before .index2 .ensures, c .before .before .before .before .read .ensures, c .before .before .before .before .before .index .ensures, c .before .before .before .before .before .before .before .row .ensures)
 
 pub mean-on-spec : {M : Type 1} → statement M
 mean-on-spec =
     tie.close
     (tie.spec
-    mul-at
-    add-at
+    row-requires
     mul-index
     shared-slice-read-index
     index-requires

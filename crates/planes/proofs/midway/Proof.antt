@@ -5,11 +5,8 @@ use borrow.Author.Needs.{needs}
 use Rattle.planes.proofs.midway.Statement.{statement}
 use Rattle.planes.proofs.midway.Tie as tie
 
-mul-at : tie.Need-mul-at
-mul-at c = search needs
-
-add-at : tie.Need-add-at
-add-at c = search needs
+row-requires : tie.Need-row-requires
+row-requires c κs = search needs
 
 mul-given : tie.Need-mul-given
 mul-given c = search needs
@@ -37,14 +34,13 @@ half-sum-requires c κs = search needs
 
 returns : tie.Need-returns
 unfolding midwayAt
-returns c = c .half-sum .ensures ∙ rw (c .before .given2 .ensures, c .before .before .before .given .ensures)
+returns c = c .half-sum .ensures ∙ rw (c .before .given2 .ensures, c .before .before .before .given .ensures, c .before .before .before .before .before .row .ensures)
 
 pub midway-spec : {M : Type 1} → statement M
 midway-spec =
     tie.close
     (tie.spec
-    mul-at
-    add-at
+    row-requires
     mul-given
     shared-slice-read-given
     given-requires

@@ -12,11 +12,11 @@ use Rattle.planes.proofs.put_plane.Statement.{statement}
 use Rattle.planes.proofs.put_plane.Tie as tie
 
 abbrev Inv-loop : tie.InvT-loop
-Inv-loop points numbers c k work₀ at count v₀ work v =
-    (v ≤ count) × (length work ≡ length work₀) × (count ≡ length points / 3 + c .sides) × (work ≡ put work₀ at (writeTo nan work₀ at count (coordinateAt points (cutsIn c numbers) k) v))
+Inv-loop points numbers table k work₀ at count v₀ work v =
+    (v ≤ count) × (length work ≡ length work₀) × (count ≡ length points / 3 + table .sides) × (work ≡ put work₀ at (writeTo nan work₀ at count (coordinateAt points (cutsIn table numbers) k) v))
 
 abbrev μ-loop : tie.MeasureT-loop
-μ-loop points numbers c k work₀ at count v₀ work v = count - v
+μ-loop points numbers table k work₀ at count v₀ work v = count - v
 
 add-count : tie.Need-add-count Inv-loop μ-loop
 add-count c = search needs

@@ -12,11 +12,11 @@ use Rattle.planes.proofs.put_values.Statement.{statement}
 use Rattle.planes.proofs.put_values.Tie as tie
 
 abbrev Inv-loop : tie.InvT-loop
-Inv-loop values numbers c kind work₀ at count v₀ work v =
-    (v ≤ count) × (length work ≡ length work₀) × (count ≡ length values + c .sides) × (work ≡ put work₀ at (writeTo nan work₀ at count (λ i. getD (valuePlane kind values (cutsIn c numbers)) i nan) v))
+Inv-loop values numbers table kind work₀ at count v₀ work v =
+    (v ≤ count) × (length work ≡ length work₀) × (count ≡ length values + table .sides) × (work ≡ put work₀ at (writeTo nan work₀ at count (λ i. getD (valuePlane kind values (cutsIn table numbers)) i nan) v))
 
 abbrev μ-loop : tie.MeasureT-loop
-μ-loop values numbers c kind work₀ at count v₀ work v = count - v
+μ-loop values numbers table kind work₀ at count v₀ work v = count - v
 
 add-count : tie.Need-add-count Inv-loop μ-loop
 add-count c = search needs

@@ -1,31 +1,36 @@
--- `refine_floor::put_mid_sizes` meets its contract: the loop keeps what `Inv-loop` says, and what is left to do falls at each turn; the laws are in proofs/Parts.
-use borrow.Author.Needs.{needs}
+-- `refine_floor::put_mid_sizes` meets its contract: after k turns the sizes of the first k sides are stored; the laws are in proofs/Parts.
 use Prim.Native.Nat.{_-_, _≤_}
-use mathlib.Core.Path.{_≡_, refl, ap, _∙_}
 use native.Mathlib.Omega.{arith}
+use mathlib.Core.Path.{_≡_, refl}
 use lib.ListN.{length, length-set}
 use lib.Seq.{sets}
-use Rattle.refine_floor.proofs.Parts.{each-none, each-again}
-use Rattle.edges.specs.Table.{sidesIn}
-use Rattle.areas.specs.Points.{midSize, midSizes}
+use Rattle.areas.specs.Points.{midSizes}
+use Rattle.edges.specs.Apart.{sidesAt}
+use Rattle.refine_floor.proofs.Parts.{sizes-none, sizes-again}
+use borrow.Author.Needs.{needs}
 use Rattle.refine_floor.proofs.put_mid_sizes.Statement.{statement}
 use Rattle.refine_floor.proofs.put_mid_sizes.Tie as tie
 
 abbrev Inv-loop : tie.InvT-loop
-Inv-loop sizes w base nb m out₀ at k₀ out k = (k ≤ m) × ((length out ≡ length out₀) × (out ≡ sets out₀ at (midSizes sizes (sidesIn base nb w k))))
+Inv-loop sizes ends count out₀ at k₀ out k = (k ≤ count) × ((length out ≡ length out₀) × (out ≡ sets out₀ at (midSizes sizes (sidesAt ends k))))
 
 abbrev μ-loop : tie.MeasureT-loop
-μ-loop sizes w base nb m out₀ at k₀ out k = m - k
+μ-loop sizes ends count out₀ at k₀ out k = count - k
 
 loop-holds : tie.Need-loop-holds Inv-loop μ-loop
-unfolding midSizes
-loop-holds c = (omega arith, (refl, each-none (midSize (c .before .before .before .args .sizes .now)) (c .before .before .before .args .base) (c .before .before .before .args .nb) (c .before .before .before .args .w .now) (c .before .before .before .args .out .now) (c .before .before .before .args .at)))
+loop-holds c = (omega arith, (refl, sizes-none (c .before .before .before .args .sizes .now) (c .before .before .before .args .ends .now) (c .before .before .before .args .out .now) (c .before .before .before .args .at)))
 
-add-put-mid-size : tie.Need-add-put-mid-size Inv-loop μ-loop
-add-put-mid-size c = search needs
+mid-size-requires : tie.Need-mid-size-requires Inv-loop μ-loop
+mid-size-requires c κs = search needs
 
-put-mid-size-requires : tie.Need-put-mid-size-requires Inv-loop μ-loop
-put-mid-size-requires c κs = search needs
+add-out : tie.Need-add-out Inv-loop μ-loop
+add-out c = search needs
+
+mul-out : tie.Need-mul-out Inv-loop μ-loop
+mul-out c = search needs
+
+slice-write-out : tie.Need-slice-write-out Inv-loop μ-loop
+slice-write-out c = omega (arith, c .before .before .loop .inv .1 .0)
 
 add-k : tie.Need-add-k Inv-loop μ-loop
 add-k c = search needs
@@ -34,14 +39,13 @@ loop-less : tie.Need-loop-less Inv-loop μ-loop
 loop-less c = search needs
 
 loop-again : tie.Need-loop-again Inv-loop μ-loop
-unfolding midSizes
-loop-again c = let e = each-again (midSize (c .before .before .before .before .before .before .before .before .before .args .sizes .now)) (c .before .before .before .before .before .before .before .before .before .args .base) (c .before .before .before .before .before .before .before .before .before .args .nb) (c .before .before .before .before .before .before .before .before .before .args .w .now) (c .before .before .before .before .before .before .before .before .before .args .out .now) (c .before .before .before .before .before .before .before .before .before .args .at) (c .before .before .before .before .before .loop .k) (c .before .before .before .before .before .loop .inv .1 .1) (c .before .before .put-mid-size .ensures) in (omega arith, (ap length (c .before .before .put-mid-size .ensures) ∙ simp length-set (c .before .before .before .before .before .loop .inv .1 .0), e))
+loop-again c = (omega arith, (simp length-set (c .before .before .loop .inv .1 .0), sizes-again (c .before .before .before .before .before .before .args .sizes .now) (c .before .before .before .before .before .before .args .ends .now) (c .before .before .before .before .before .before .args .out .now) (c .before .before .before .before .before .before .args .at) (c .before .before .loop .k) (c .before .before .loop .inv .1 .1) (c .mid-size .ensures)))
 
 same-length : tie.Need-same-length Inv-loop μ-loop
 same-length c = c .before .loop .inv .1 .0
 
 returns : tie.Need-returns Inv-loop μ-loop
-returns c = let e : c .before .loop .k ≡ c .before .before .before .before .before .args .m = omega arith in rw e at (c .before .loop .inv .1 .1)
+returns c = let e : c .before .loop .k ≡ c .before .before .before .before .before .args .count = omega arith in rw e at (c .before .loop .inv .1 .1)
 
 pub put-mid-sizes-spec : {M : Type 1} → statement M
 put-mid-sizes-spec =
@@ -50,8 +54,10 @@ put-mid-sizes-spec =
     Inv-loop
     μ-loop
     loop-holds
-    add-put-mid-size
-    put-mid-size-requires
+    mid-size-requires
+    add-out
+    mul-out
+    slice-write-out
     add-k
     loop-less
     loop-again

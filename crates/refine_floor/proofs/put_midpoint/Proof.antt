@@ -1,39 +1,36 @@
--- `refine_floor::put_midpoint` meets its contract: each return opens the definition and rewrites it by the tests and the calls on its way.
-use borrow.Author.Needs.{needs}
-use Prim.Native.Nat.{_+_}
-use mathlib.Core.Path.{_≡_}
+-- `refine_floor::put_midpoint` meets its contract: what its calls ensure, stored one behind the other.
 use native.Mathlib.Omega.{arith}
+use mathlib.Core.Path.{_≡_}
+use Prim.Native.Nat.{_+_}
 use native.Mathlib.Numerals.{add-one}
 use lib.ListN.{length-set}
+use borrow.Author.Needs.{needs}
 use Rattle.refine_floor.proofs.put_midpoint.Statement.{statement}
 use Rattle.refine_floor.proofs.put_midpoint.Tie as tie
 
-add-e : tie.Need-add-e
-add-e c = search needs
+mul-u : tie.Need-mul-u
+mul-u c = search needs
 
-mul-e : tie.Need-mul-e
-mul-e c = search needs
+mul-u-2 : tie.Need-mul-u-2
+mul-u-2 c = search needs
 
-add-e-2 : tie.Need-add-e-2
-add-e-2 c = search needs
+shared-slice-read-u : tie.Need-shared-slice-read-u
+shared-slice-read-u c = search needs
 
-mul-x-of : tie.Need-mul-x-of
-mul-x-of c = search needs
+mul-v : tie.Need-mul-v
+mul-v c = search needs
 
-shared-slice-read-x-of : tie.Need-shared-slice-read-x-of
-shared-slice-read-x-of c = search needs
+add-v : tie.Need-add-v
+add-v c = search needs
+
+mul-v-2 : tie.Need-mul-v-2
+mul-v-2 c = search needs
+
+shared-slice-read-v : tie.Need-shared-slice-read-v
+shared-slice-read-v c = search needs
 
 x-of-requires : tie.Need-x-of-requires
 x-of-requires c κs = search needs
-
-add-x-of : tie.Need-add-x-of
-add-x-of c = search needs
-
-mul-x-of-2 : tie.Need-mul-x-of-2
-mul-x-of-2 c = search needs
-
-shared-slice-read-x-of-2 : tie.Need-shared-slice-read-x-of-2
-shared-slice-read-x-of-2 c = search needs
 
 x-of-requires-2 : tie.Need-x-of-requires-2
 x-of-requires-2 c κs = search needs
@@ -41,23 +38,8 @@ x-of-requires-2 c κs = search needs
 half-sum-requires : tie.Need-half-sum-requires
 half-sum-requires c κs = search needs
 
-mul-y-of : tie.Need-mul-y-of
-mul-y-of c = search needs
-
-shared-slice-read-y-of : tie.Need-shared-slice-read-y-of
-shared-slice-read-y-of c = search needs
-
 y-of-requires : tie.Need-y-of-requires
 y-of-requires c κs = search needs
-
-add-y-of : tie.Need-add-y-of
-add-y-of c = search needs
-
-mul-y-of-2 : tie.Need-mul-y-of-2
-mul-y-of-2 c = search needs
-
-shared-slice-read-y-of-2 : tie.Need-shared-slice-read-y-of-2
-shared-slice-read-y-of-2 c = search needs
 
 y-of-requires-2 : tie.Need-y-of-requires-2
 y-of-requires-2 c κs = search needs
@@ -93,29 +75,23 @@ same-length : tie.Need-same-length
 same-length c = search needs
 
 returns : tie.Need-returns
-returns c = let e : c .before .before .before .before .before .before .before .before .before .before .before .before .before .args .at + 2 ≡ c .before .before .before .before .before .before .before .before .before .before .before .before .before .args .at + 1 + 1 = omega arith in rw (e, c .half-sum2 .ensures, c .before .before .before .before .before .half-sum .ensures, c .before .y-of2 .ensures, c .before .before .before .y-of .ensures, c .before .before .before .before .before .before .x-of2 .ensures, c .before .before .before .before .before .before .before .before .x-of .ensures) (simp add-one)
+returns c = let e : c .before .before .before .before .before .before .before .before .before .before .before .args .at + 2 ≡ c .before .before .before .before .before .before .before .before .before .before .before .args .at + 1 + 1 = omega arith in rw (e, c .half-sum2 .ensures, c .before .before .before .half-sum .ensures, c .before .y-of2 .ensures, c .before .before .y-of .ensures, c .before .before .before .before .x-of2 .ensures, c .before .before .before .before .before .x-of .ensures) (simp add-one)
 
 pub put-midpoint-spec : {M : Type 1} → statement M
 put-midpoint-spec =
     tie.close
     (tie.spec
-    add-e
-    mul-e
-    add-e-2
-    mul-x-of
-    shared-slice-read-x-of
+    mul-u
+    mul-u-2
+    shared-slice-read-u
+    mul-v
+    add-v
+    mul-v-2
+    shared-slice-read-v
     x-of-requires
-    add-x-of
-    mul-x-of-2
-    shared-slice-read-x-of-2
     x-of-requires-2
     half-sum-requires
-    mul-y-of
-    shared-slice-read-y-of
     y-of-requires
-    add-y-of
-    mul-y-of-2
-    shared-slice-read-y-of-2
     y-of-requires-2
     half-sum-requires-2
     mul-out

@@ -1,24 +1,24 @@
--- `refine_floor::put_midpoints` meets its contract: the loop keeps what `Inv-loop` says, and what is left to do falls at each turn; the laws are in proofs/Parts.
-use borrow.Author.Needs.{needs}
+-- `refine_floor::put_midpoints` meets its contract: after k turns the midpoints of the first k sides are stored; the laws are in proofs/Parts.
 use Prim.Native.Nat.{_-_, _≤_}
-use mathlib.Core.Path.{_≡_, refl, ap, _∙_}
 use native.Mathlib.Omega.{arith}
+use mathlib.Core.Path.{_≡_, refl, ap, _∙_}
 use lib.ListN.{length, length-set}
 use lib.Seq.{sets}
-use Rattle.refine_floor.proofs.Parts.{mids-none, mids-again}
-use Rattle.edges.specs.Table.{sidesIn}
 use Rattle.areas.specs.Points.{midpoints}
+use Rattle.edges.specs.Apart.{sidesAt}
+use Rattle.refine_floor.proofs.Parts.{mids-none, mids-again}
+use borrow.Author.Needs.{needs}
 use Rattle.refine_floor.proofs.put_midpoints.Statement.{statement}
 use Rattle.refine_floor.proofs.put_midpoints.Tie as tie
 
 abbrev Inv-loop : tie.InvT-loop
-Inv-loop points w base nb m out₀ at k₀ out k = (k ≤ m) × ((length out ≡ length out₀) × (out ≡ sets out₀ at (midpoints points (sidesIn base nb w k))))
+Inv-loop points ends count out₀ at k₀ out k = (k ≤ count) × ((length out ≡ length out₀) × (out ≡ sets out₀ at (midpoints points (sidesAt ends k))))
 
 abbrev μ-loop : tie.MeasureT-loop
-μ-loop points w base nb m out₀ at k₀ out k = m - k
+μ-loop points ends count out₀ at k₀ out k = count - k
 
 loop-holds : tie.Need-loop-holds Inv-loop μ-loop
-loop-holds c = (omega arith, (refl, mids-none (c .before .before .before .args .points .now) (c .before .before .before .args .base) (c .before .before .before .args .nb) (c .before .before .before .args .w .now) (c .before .before .before .args .out .now) (c .before .before .before .args .at)))
+loop-holds c = (omega arith, (refl, mids-none (c .before .before .before .args .points .now) (c .before .before .before .args .ends .now) (c .before .before .before .args .out .now) (c .before .before .before .args .at)))
 
 mul-put-midpoint : tie.Need-mul-put-midpoint Inv-loop μ-loop
 mul-put-midpoint c = search needs
@@ -36,13 +36,13 @@ loop-less : tie.Need-loop-less Inv-loop μ-loop
 loop-less c = search needs
 
 loop-again : tie.Need-loop-again Inv-loop μ-loop
-loop-again c = let e = mids-again (c .before .before .before .before .before .before .before .before .before .args .points .now) (c .before .before .before .before .before .before .before .before .before .args .base) (c .before .before .before .before .before .before .before .before .before .args .nb) (c .before .before .before .before .before .before .before .before .before .args .w .now) (c .before .before .before .before .before .before .before .before .before .args .out .now) (c .before .before .before .before .before .before .before .before .before .args .at) (c .before .before .before .before .before .loop .k) (c .before .before .before .before .before .loop .inv .1 .1) (c .before .before .put-midpoint .ensures) in (omega arith, (ap length (c .before .before .put-midpoint .ensures) ∙ simp length-set (c .before .before .before .before .before .loop .inv .1 .0), e))
+loop-again c = (omega arith, (ap length (c .before .before .put-midpoint .ensures) ∙ simp length-set (c .before .before .before .before .before .loop .inv .1 .0), mids-again (c .before .before .before .before .before .before .before .before .before .args .points .now) (c .before .before .before .before .before .before .before .before .before .args .ends .now) (c .before .before .before .before .before .before .before .before .before .args .out .now) (c .before .before .before .before .before .before .before .before .before .args .at) (c .before .before .before .before .before .loop .k) (c .before .before .before .before .before .loop .inv .1 .1) (c .before .before .put-midpoint .ensures)))
 
 same-length : tie.Need-same-length Inv-loop μ-loop
 same-length c = c .before .loop .inv .1 .0
 
 returns : tie.Need-returns Inv-loop μ-loop
-returns c = let e : c .before .loop .k ≡ c .before .before .before .before .before .args .m = omega arith in rw e at (c .before .loop .inv .1 .1)
+returns c = let e : c .before .loop .k ≡ c .before .before .before .before .before .args .count = omega arith in rw e at (c .before .loop .inv .1 .1)
 
 pub put-midpoints-spec : {M : Type 1} → statement M
 put-midpoints-spec =

@@ -26,7 +26,7 @@ same-length : tie.Need-same-length
 same-length c = search needs
 
 returns : tie.Need-returns
-returns c = pieces-put (c .before .before .before .before .before .before .before .before .before .before .before .args .w .now) _ (c .before .before .before .before .before .before .before .before .before .before .before .args .k) (c .before .before .before .before .before .before .before .pieces-of .ensures) (c .before .before .before .put-rows .ensures)
+returns c = pieces-put (c .before .before .before .before .before .before .before .before .before .before .before .args .numbers .now) _ (c .before .before .before .before .before .before .before .before .before .before .before .args .k) (c .before .before .before .before .before .before .before .pieces-of .ensures) (c .before .before .before .put-rows .ensures)
 
 pub refine-triangle-within-spec : {M : Type 1} → statement M
 refine-triangle-within-spec =

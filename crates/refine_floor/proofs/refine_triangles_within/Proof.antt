@@ -8,13 +8,13 @@ use Rattle.refine_floor.proofs.refine_triangles_within.Statement.{state
 use Rattle.refine_floor.proofs.refine_triangles_within.Tie as tie
 
 abbrev Inv-loop : tie.InvT-loop
-Inv-loop l t n w₀ base nb m at k₀ i₀ w k i = (i ≤ t) × Within n base nb m l w₀ at i w k
+Inv-loop triangles count points numbers₀ table at k₀ i₀ numbers k i = (i ≤ count) × Within points table triangles numbers₀ at i numbers k
 
 abbrev μ-loop : tie.MeasureT-loop
-μ-loop l t n w₀ base nb m at k₀ i₀ w k i = t - i
+μ-loop triangles count points numbers₀ table at k₀ i₀ numbers k i = count - i
 
 loop-holds : tie.Need-loop-holds Inv-loop μ-loop
-loop-holds c = (omega arith, within-none _ _ _ _ _ _ _ (c .before .before .pre .0))
+loop-holds c = (omega arith, within-none _ _ _ _ _ (c .before .before .pre .0))
 
 refine-triangle-within-requires : tie.Need-refine-triangle-within-requires Inv-loop μ-loop
 refine-triangle-within-requires c κs = (c .before .before .loop .inv .1 .held, (omega arith, (c .before .before .before .before .before .pre .1 .0 .1, omega (arith, c .before .before .loop .inv .1 .stands .few, c .before .before .loop .inv .1 .stands .same-length))))
@@ -32,7 +32,7 @@ same-length : tie.Need-same-length Inv-loop μ-loop
 same-length c = c .before .loop .inv .1 .stands .same-length
 
 returns : tie.Need-returns Inv-loop μ-loop
-returns c = let e : c .before .loop .i ≡ c .before .before .before .before .args .t = omega arith in rw e at (c .before .loop .inv .1 .stands .stored)
+returns c = let e : c .before .loop .i ≡ c .before .before .before .before .args .count = omega arith in rw e at (c .before .loop .inv .1 .stands .stored)
 
 pub refine-triangles-within-spec : {M : Type 1} → statement M
 refine-triangles-within-spec =

@@ -10,13 +10,13 @@ use Rattle.refinement.proofs.cut_sides.Statement.{statement}
 use Rattle.refinement.proofs.cut_sides.Tie as tie
 
 abbrev Inv-loop : tie.InvT-loop
-Inv-loop l t alpha threshold w₀ base nb cut₀ i₀ w cut i = (i ≤ t) × CutTo base nb (flaggedTri threshold alpha) l i w₀ w (cut .sides) (cut .flagged)
+Inv-loop triangles count angles threshold numbers₀ table cut₀ i₀ numbers cut i = (i ≤ count) × CutTo table (flaggedTri threshold angles) triangles i numbers₀ numbers cut
 
 abbrev μ-loop : tie.MeasureT-loop
-μ-loop l t alpha threshold w₀ base nb cut₀ i₀ w cut i = t - i
+μ-loop triangles count angles threshold numbers₀ table cut₀ i₀ numbers cut i = count - i
 
 loop-holds : tie.Need-loop-holds Inv-loop μ-loop
-loop-holds c = (omega arith, cut-none _ _ (c .before .before .before .pre .0))
+loop-holds c = (omega arith, cut-none _ _ _ (c .before .before .before .pre .0))
 
 cut-triangle-requires : tie.Need-cut-triangle-requires Inv-loop μ-loop
 cut-triangle-requires c κs = search needs
@@ -34,7 +34,7 @@ same-length : tie.Need-same-length Inv-loop μ-loop
 same-length c = c .before .loop .inv .1 .outside .same
 
 returns : tie.Need-returns Inv-loop μ-loop
-returns c = let e : c .before .loop .i ≡ c .before .before .before .before .before .args .t = omega arith in rw e at (c .before .loop .inv .1)
+returns c = let e : c .before .loop .i ≡ c .before .before .before .before .before .args .count = omega arith in rw e at (c .before .loop .inv .1)
 
 pub cut-sides-spec : {M : Type 1} → statement M
 cut-sides-spec =

@@ -44,17 +44,17 @@ is-flagged-requires c κs = search needs
 meet-triangle-requires : tie.Need-meet-triangle-requires
 meet-triangle-requires c κs = search needs
 
-add-t24 : tie.Need-add-t24
-add-t24 c = search needs
+add-t23 : tie.Need-add-t23
+add-t23 c = search needs
 
 same-length : tie.Need-same-length
 same-length c = search needs
 
 returns : tie.Need-returns
-returns c = step-flagged (sym (c .before .before .before .before .before .before .is-flagged .ensures) ∙ c .before .before .before .before .before .if1 .taken) (c .before .before .before .meet-triangle .ensures)
+returns c = step-flagged _ (sym (c .before .before .before .before .before .before .is-flagged .ensures) ∙ c .before .before .before .before .before .if1 .taken) (c .before .before .before .meet-triangle .ensures)
 
 returns-2 : tie.Need-returns-2
-returns-2 c = step-passed (sym (c .before .is-flagged .ensures) ∙ c .if1 .left) (c .before .before .before .before .before .before .before .before .pre .0)
+returns-2 c = step-passed _ (sym (c .before .is-flagged .ensures) ∙ c .if1 .left) (c .before .before .before .before .before .before .before .before .pre .0)
 
 pub cut-triangle-spec : {M : Type 1} → statement M
 cut-triangle-spec =
@@ -73,7 +73,7 @@ cut-triangle-spec =
     shared-slice-read-c
     is-flagged-requires
     meet-triangle-requires
-    add-t24
+    add-t23
     same-length
     returns
     returns-2)

@@ -1,6 +1,6 @@
 -- `refinement::pieces_of` meets its contract: each return opens the definition and rewrites it by the tests and the calls on its way; the laws are in proofs/Parts.
 use Rattle.mesh.specs.Mesh.{mid}
-use Rattle.edges.specs.Table.{sidesIn}
+use Rattle.refinement.specs.Steps.{cutsIn}
 use borrow.Author.Needs.{needs}
 use Rattle.refinement.proofs.Parts.{rows-of}
 use Rattle.refinement.proofs.pieces_of.Statement.{statement}
@@ -52,7 +52,7 @@ split-triangle-requires : tie.Need-split-triangle-requires
 split-triangle-requires c κs = search needs
 
 returns : tie.Need-returns
-returns c = rows-of (mid (c .before .before .before .before .before .before .before .before .before .args .n) (sidesIn (c .before .before .before .before .before .before .before .before .before .args .base) (c .before .before .before .before .before .before .before .before .before .args .nb) (c .before .before .before .before .before .before .before .before .before .args .w .now) (c .before .before .before .before .before .before .before .before .before .args .m))) _ _ _ (c .before .before .before .middle .ensures) (c .before .before .middle2 .ensures) (c .before .middle3 .ensures) (c .split-triangle .ensures)
+returns c = rows-of (mid (c .before .before .before .before .before .before .before .before .before .args .points) (cutsIn (c .before .before .before .before .before .before .before .before .before .args .table) (c .before .before .before .before .before .before .before .before .before .args .numbers .now))) _ _ _ (c .before .before .before .middle .ensures) (c .before .before .middle2 .ensures) (c .before .middle3 .ensures) (c .split-triangle .ensures)
 
 pub pieces-of-spec : {M : Type 1} → statement M
 pieces-of-spec =

@@ -1,0 +1,42 @@
+-- `edges::apart::meet_side` meets its contract: the side is met with the lower end first; the laws are in proofs/TwoSlices.
+use Rattle.edges.proofs.TwoSlices.{met-key, met-key′}
+use borrow.Author.Needs.{needs}
+use Rattle.edges.proofs.apart.meet_side.Statement.{statement}
+use Rattle.edges.proofs.apart.meet_side.Tie as tie
+
+find-or-insert-requires : tie.Need-find-or-insert-requires
+find-or-insert-requires c κs = search needs
+
+same-length : tie.Need-same-length
+same-length c = search needs
+
+same-length-2 : tie.Need-same-length-2
+same-length-2 c = search needs
+
+returns : tie.Need-returns
+returns c = met-key _ _ (c .before .before .before .before .before .before .before .if1 .taken) (c .before .before .before .before .find-or-insert .ensures)
+
+find-or-insert-requires-2 : tie.Need-find-or-insert-requires-2
+find-or-insert-requires-2 c κs = search needs
+
+same-length-3 : tie.Need-same-length-3
+same-length-3 c = search needs
+
+same-length-4 : tie.Need-same-length-4
+same-length-4 c = search needs
+
+returns-2 : tie.Need-returns-2
+returns-2 c = met-key′ _ _ (c .before .before .before .before .before .before .before .if1 .left) (c .before .before .before .before .find-or-insert2 .ensures)
+
+pub meet-side-spec : {M : Type 1} → statement M
+meet-side-spec =
+    tie.close
+    (tie.spec
+    find-or-insert-requires
+    same-length
+    same-length-2
+    returns
+    find-or-insert-requires-2
+    same-length-3
+    same-length-4
+    returns-2)
