@@ -1,5 +1,5 @@
 //! Records the reference's refine_once on small floors, and extend_guidance on pairs of angles, over the proved leaves.
-//! crates/refinements replays the lists; data/README.md there says what a row holds.
+//! crates/replay_refinements replays the lists; data/README.md there says what a row holds.
 
 use crate::{
     random::Random,

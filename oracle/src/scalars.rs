@@ -1,5 +1,5 @@
 //! Records the reference's integrals, angles, geometry, probes and counts of singularities, over the proved leaves.
-//! crates/scalars replays the lists; data/README.md there says what a row holds.
+//! crates/replay_scalars replays the lists; data/README.md there says what a row holds.
 
 use crate::random::Random;
 use crate::reference::Reference;

@@ -1,5 +1,5 @@
-//! Records whole solves on small floors, for crates/solves to replay: `passes`, calls with threshold 0, which come to one pass or to
-//! a refusal, and `solves`, calls with any other. crates/solves/data/README.md says what a row holds.
+//! Records whole solves on small floors, for crates/replay_solves to replay: `passes`, calls with threshold 0, which come to one pass or to
+//! a refusal, and `solves`, calls with any other. crates/replay_solves/data/README.md says what a row holds.
 
 use crate::{
     case::{Boundary, Case},

@@ -1,5 +1,5 @@
 //! Records texts of refine.in, good and damaged, with what they must print: a strict reader and a writer of their own over the
-//! reference's refine_once. crates/texts replays the list; data/README.md there says what an entry holds.
+//! reference's refine_once. crates/replay_texts replays the list; data/README.md there says what an entry holds.
 
 mod damage;
 

@@ -11,7 +11,7 @@ use Rattle.float.specs.Double.{lit}
 use Rattle.floor.specs.declared.Check.{Check}
 use Rattle.floor.specs.declared.Check.the-variants as check
 use Rattle.refinement.specs.Floor.{over}
-use Rattle.options.specs.Pass.{Pass, Passed, field, faulty, PassFacts}
+use Rattle.pass_options.specs.Pass.{Pass, Passed, field, faulty, PassFacts}
 use Rattle.calls.specs.declared.Lengths.{Lengths}
 use Rattle.calls.specs.Checks.{Call, Lent, lengthsOf, pointsIn, trianglesIn, isAdaptive, mostPoints, checkSolve}
 use Rattle.calls.specs.Solve.{firstFloor, firstPass, refinedBy, secondFloor, secondPass, withoutThreshold, extended, wiped, solvedOnce, afterSecond, afterFirst, afterChecks, solveOf}

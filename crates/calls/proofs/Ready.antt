@@ -17,9 +17,9 @@ use Rattle.mesh.specs.Mesh.{All}
 use Rattle.mesh.specs.Claim.{InRange}
 use Rattle.refinement.specs.Floor.{trisOf}
 use Rattle.refinement.proofs.Triangles.{in-range}
-use Rattle.options.specs.Table.{no-row}
-use Rattle.options.specs.Options.{Guidance, guided, badCount}
-use Rattle.options.proofs.Table.{first-sound}
+use Rattle.pass_options.specs.Table.{no-row}
+use Rattle.pass_options.specs.Options.{Guidance, guided, badCount}
+use Rattle.pass_options.proofs.Table.{first-sound}
 use Rattle.calls.specs.declared.Lengths.{Lengths}
 use Rattle.calls.specs.Checks.{Call, pointsIn, trianglesIn, isAdaptive, mostPoints, mostTriangles, short, table, checkSolve, Ready}
 

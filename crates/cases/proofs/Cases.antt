@@ -11,7 +11,7 @@ use Rattle.areas.specs.Area.{halfway}
 use Rattle.areas.specs.Points.{morePoints, midpoints}
 use Rattle.refinement.specs.Flag.{turnAlong, variation, flagged, flaggedTri}
 use Rattle.refinement.specs.Floor.{refinementOf}
-use Rattle.refine_text.proofs.Listing.{listing}
+use Rattle.text_answer.proofs.Listing.{listing}
 use Rattle.singularities.specs.Charge.{winding, turns, charge}
 use Rattle.root.specs.Root.{rootIn, rootBits, rootOf}
 use Rattle.cases.specs.Cases.{Cases, square, angles, ones, two, seven, refined}

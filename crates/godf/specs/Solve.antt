@@ -8,9 +8,9 @@ use lib.Dec.{eqb, ltb}
 use lib.ListN.{length, getD, take}
 use lib.Ieee.{Float, nan, eq, ne, lt}
 use Rattle.float.specs.Double.{lit}
-use Rattle.options.specs.declared.Options.{Options}
-use Rattle.options.specs.declared.BoundaryMode.{BoundaryMode}
-use Rattle.options.specs.declared.BoundaryMode.the-variants.{None, Tangent, Weak}
+use Rattle.pass_options.specs.declared.Options.{Options}
+use Rattle.pass_options.specs.declared.BoundaryMode.{BoundaryMode}
+use Rattle.pass_options.specs.declared.BoundaryMode.the-variants.{None, Tangent, Weak}
 use Rattle.pass.specs.declared.Asked.{Asked}
 use Rattle.calls.specs.declared.Outcome.{Outcome}
 use Rattle.calls.specs.declared.Outcome.the-variants.{Solved, Refused}

@@ -7,9 +7,9 @@ ghost use Rattle.calls.specs.Solve.{solveOf, numberOf};
 ghost use Rattle.solve.specs.Passes.{callFor, lent};
 ghost use Rattle.godf.specs.Solve.{boundaryOf, optionsOf, askedOf, reportOf, SolveTold, mostOf, fineCount, workReals, workWords, AnswerTold};
 use calls::Outcome;
-use options::BoundaryMode;
-use options::Options;
 use pass::Asked;
+use pass_options::BoundaryMode;
+use pass_options::Options;
 
 // Row 1's limits.
 const MOST_POINTS: usize = 16384;

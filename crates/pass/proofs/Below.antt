@@ -4,9 +4,9 @@ use native.Mathlib.Omega.{arith}
 use mathlib.Core.Path.{_≡_, sym, ap, _∙_, subst}
 use mathlib.Core.List.{List}
 use lib.ListN.{getD}
-use Rattle.cells.specs.Region.{region}
-use Rattle.cells.proofs.Loops.{tab-ext}
-use Rattle.cells.proofs.Regions.{getD-region}
+use Rattle.linear_cells.specs.Region.{region}
+use Rattle.linear_cells.proofs.Loops.{tab-ext}
+use Rattle.linear_cells.proofs.Regions.{getD-region}
 
 module _ {A : Type 0} (d : A) (k : ℕ) (xs ys : List A) where
   pub region-below : ((j : ℕ) → j < k → getD ys j d ≡ getD xs j d) → (b n : ℕ) → b + n ≤ k → region d ys b n ≡ region d xs b n

@@ -11,17 +11,17 @@ use Rattle.mesh.specs.Mesh.{Tri, tri, Good, All}
 use Rattle.mesh.specs.Claim.{InRange}
 use Rattle.floor.specs.Floor.{Floor, pointsOf}
 use Rattle.float.specs.Double.{notPositive}
-use Rattle.shift.specs.declared.Traces.{Traces}
-use Rattle.refusal.specs.Refusal.{gaveUp}
-use Rattle.options.specs.declared.Options.{Options}
-use Rattle.options.specs.Options.{Guidance}
-use Rattle.options.specs.Pass.{Passed, field, faulty, ThreeCorners, PassFacts}
-use Rattle.setup.specs.declared.Setup.{Setup}
-use Rattle.setup.specs.declared.Setup.the-variants.{Edges, Refused}
-use Rattle.setup.specs.Setup.{setupOf}
-use Rattle.setup.proofs.Floors.{setup-good}
-use Rattle.branches.specs.Branches.{branchOf}
-use Rattle.branches.proofs.Fields.{branch-field}
+use Rattle.pass_shift.specs.declared.Traces.{Traces}
+use Rattle.pass_refusal.specs.Refusal.{gaveUp}
+use Rattle.pass_options.specs.declared.Options.{Options}
+use Rattle.pass_options.specs.Options.{Guidance}
+use Rattle.pass_options.specs.Pass.{Passed, field, faulty, ThreeCorners, PassFacts}
+use Rattle.pass_setup.specs.declared.Setup.{Setup}
+use Rattle.pass_setup.specs.declared.Setup.the-variants.{Edges, Refused}
+use Rattle.pass_setup.specs.Setup.{setupOf}
+use Rattle.pass_setup.proofs.Floors.{setup-good}
+use Rattle.pass_branches.specs.Branches.{branchOf}
+use Rattle.pass_branches.proofs.Fields.{branch-field}
 use Rattle.pass.specs.Pass.{tracesIn, builtOf, afterTraces, afterSetup, fieldOver, passOf}
 
 -- an accepted pass had its floor set up, and its traces passed

@@ -6,32 +6,32 @@ use mathlib.Core.Path.{_≡_, refl, sym, ap, _∙_, subst}
 use mathlib.Core.List.{List}
 use lib.ListN.{length, length-append, getD}
 use lib.Ieee.{Float, nan}
-use Rattle.cells.specs.Region.{region}
-use Rattle.cells.proofs.Loops.{apart}
-use Rattle.cells.proofs.Regions.{length-region}
+use Rattle.linear_cells.specs.Region.{region}
+use Rattle.linear_cells.proofs.Loops.{apart}
+use Rattle.linear_cells.proofs.Regions.{length-region}
 use Rattle.edges.specs.Numbering.{triFrom, trisFrom}
 use Rattle.floor.specs.Floor.{Floor, pointsOf, trianglesOf}
-use Rattle.hermitian.specs.Hermitian.{Matrix}
-use Rattle.hermitian.specs.Work.{matrix, shiftMatrix, ShiftRoom}
-use Rattle.assembly.specs.Assembly as assembly
-use Rattle.assembly.specs.Work.{assembledTo, Indexed}
-use Rattle.assembly.specs.Work as work
-use Rattle.assembly.proofs.Lists as lists
-use Rattle.assembly.proofs.Matrices.{assembled-length, assembled-below}
-use Rattle.shift.specs.declared.Traces.{Traces}
-use Rattle.shift.specs.Shift.{tracesOf, shiftOf, shiftedEnergy, TraceRoom}
-use Rattle.terms.specs.declared.Mode.{Mode}
-use Rattle.hermitian.proofs.Elsewhere.{shift-else-real, mass-shifted}
-use Rattle.shift.proofs.Energy.{energy-shifted}
-use Rattle.options.specs.declared.Options.{Options}
-use Rattle.layout.specs.declared.Layout.{Layout}
-use Rattle.layout.specs.Layout.{Ordered}
-use Rattle.layout.specs.Matrices.{massAt, energyAt}
-use Rattle.layout.specs.Work.{floorIn, fromIn, toIn}
-use Rattle.setup.specs.Setup.{woundOf, areasOf, edgesOf, lowersOf, uppersOf, transportsOf}
-use Rattle.setup.specs.Work.{Stands}
-use Rattle.branches.specs.Branches.{Built}
-use Rattle.branches.specs.Work.{builtIn}
+use Rattle.linear_hermitian.specs.Hermitian.{Matrix}
+use Rattle.linear_hermitian.specs.Work.{matrix, shiftMatrix, ShiftRoom}
+use Rattle.pass_assembly.specs.Assembly as assembly
+use Rattle.pass_assembly.specs.Work.{assembledTo, Indexed}
+use Rattle.pass_assembly.specs.Work as work
+use Rattle.pass_assembly.proofs.Lists as lists
+use Rattle.pass_assembly.proofs.Matrices.{assembled-length, assembled-below}
+use Rattle.pass_shift.specs.declared.Traces.{Traces}
+use Rattle.pass_shift.specs.Shift.{tracesOf, shiftOf, shiftedEnergy, TraceRoom}
+use Rattle.pass_terms.specs.declared.Mode.{Mode}
+use Rattle.linear_hermitian.proofs.Elsewhere.{shift-else-real, mass-shifted}
+use Rattle.pass_shift.proofs.Energy.{energy-shifted}
+use Rattle.pass_options.specs.declared.Options.{Options}
+use Rattle.pass_layout.specs.declared.Layout.{Layout}
+use Rattle.pass_layout.specs.Layout.{Ordered}
+use Rattle.pass_layout.specs.Matrices.{massAt, energyAt}
+use Rattle.pass_layout.specs.Work.{floorIn, fromIn, toIn}
+use Rattle.pass_setup.specs.Setup.{woundOf, areasOf, edgesOf, lowersOf, uppersOf, transportsOf}
+use Rattle.pass_setup.specs.Work.{Stands}
+use Rattle.pass_branches.specs.Branches.{Built}
+use Rattle.pass_branches.specs.Work.{builtIn}
 use Rattle.pass.specs.Pass.{modeOf, assembledFloor, massOf, energyOf, tracesIn, builtOf}
 use Rattle.pass.specs.Work.{planAt}
 use Rattle.pass.proofs.Below.{below-regions}

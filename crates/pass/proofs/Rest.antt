@@ -7,28 +7,28 @@ use mathlib.Core.Bool.{Bool, true, false, cond}
 use mathlib.Core.List.{List}
 use lib.ListN.{length, getD}
 use lib.Ieee.{Float, nan}
-use Rattle.cells.proofs.Regions.{length-put}
-use Rattle.cells.proofs.Cells.{length-putC}
-use Rattle.hermitian.specs.Work.{shiftMatrix, ShiftRoom}
+use Rattle.linear_cells.proofs.Regions.{length-put}
+use Rattle.linear_cells.proofs.Cells.{length-putC}
+use Rattle.linear_hermitian.specs.Work.{shiftMatrix, ShiftRoom}
 use Rattle.float.specs.Double.{notPositive}
-use Rattle.refusal.specs.declared.Fault.{Fault}
-use Rattle.refusal.specs.declared.Stage.{Stage}
-use Rattle.refusal.specs.declared.Stage.the-variants.{Done, Refused}
-use Rattle.refusal.specs.Refusal.{gaveUp}
-use Rattle.shift.specs.declared.Traces.{Traces}
-use Rattle.shift.specs.Shift.{shiftOf, tracesStage}
-use Rattle.options.specs.declared.Options.{Options}
-use Rattle.options.specs.Options.{guidanceOf}
-use Rattle.options.specs.Pass.{Passed, field, faulty, stageOf}
-use Rattle.layout.specs.declared.Layout.{Layout}
-use Rattle.layout.specs.Layout.{Ordered}
-use Rattle.layout.specs.Matrices.{massAt, energyAt}
-use Rattle.layout.specs.Work.{floorIn, guidanceIn}
-use Rattle.layout.proofs.Regions.{floor-stays}
-use Rattle.setup.specs.Work.{Stands}
-use Rattle.branches.specs.declared.Search.{Search}
-use Rattle.branches.specs.Branches.{Built, branchOf}
-use Rattle.branches.specs.Work.{builtIn, soughtIn, Finds}
+use Rattle.pass_refusal.specs.declared.Fault.{Fault}
+use Rattle.pass_refusal.specs.declared.Stage.{Stage}
+use Rattle.pass_refusal.specs.declared.Stage.the-variants.{Done, Refused}
+use Rattle.pass_refusal.specs.Refusal.{gaveUp}
+use Rattle.pass_shift.specs.declared.Traces.{Traces}
+use Rattle.pass_shift.specs.Shift.{shiftOf, tracesStage}
+use Rattle.pass_options.specs.declared.Options.{Options}
+use Rattle.pass_options.specs.Options.{guidanceOf}
+use Rattle.pass_options.specs.Pass.{Passed, field, faulty, stageOf}
+use Rattle.pass_layout.specs.declared.Layout.{Layout}
+use Rattle.pass_layout.specs.Layout.{Ordered}
+use Rattle.pass_layout.specs.Matrices.{massAt, energyAt}
+use Rattle.pass_layout.specs.Work.{floorIn, guidanceIn}
+use Rattle.pass_layout.proofs.Regions.{floor-stays}
+use Rattle.pass_setup.specs.Work.{Stands}
+use Rattle.pass_branches.specs.declared.Search.{Search}
+use Rattle.pass_branches.specs.Branches.{Built, branchOf}
+use Rattle.pass_branches.specs.Work.{builtIn, soughtIn, Finds}
 use Rattle.pass.specs.declared.Asked.{Asked}
 use Rattle.pass.specs.Pass.{modeOf, tracesIn, builtOf, afterTraces, fieldOver}
 use Rattle.pass.specs.Work.{guidanceAt, fieldIn, Builds}

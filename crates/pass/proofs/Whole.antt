@@ -6,20 +6,20 @@ use mathlib.Core.List.{List}
 use lib.ListN.{length, getD}
 use lib.Ieee.{Float, nan}
 use Rattle.floor.specs.Floor.{Floor}
-use Rattle.refusal.specs.declared.Fault.{Fault}
-use Rattle.refusal.specs.declared.Stage.{Stage}
-use Rattle.refusal.specs.declared.Stage.the-variants.{Refused}
-use Rattle.options.specs.declared.Options.{Options}
+use Rattle.pass_refusal.specs.declared.Fault.{Fault}
+use Rattle.pass_refusal.specs.declared.Stage.{Stage}
+use Rattle.pass_refusal.specs.declared.Stage.the-variants.{Refused}
+use Rattle.pass_options.specs.declared.Options.{Options}
 use Rattle.edges.specs.Numbering.{Below}
-use Rattle.layout.specs.declared.Base.{Base}
-use Rattle.layout.specs.declared.Layout.{Layout}
-use Rattle.layout.specs.Layout.{Fits, Ordered, layoutOf}
-use Rattle.layout.specs.Work.{floorIn, guidanceIn}
-use Rattle.layout.proofs.Regions.{fits-ordered, floor-stays}
-use Rattle.setup.specs.declared.Setup.{Setup}
-use Rattle.setup.specs.declared.Setup.the-variants as setup
-use Rattle.setup.specs.Work.{Stands, SetUp}
-use Rattle.branches.specs.Work.{Finds}
+use Rattle.pass_layout.specs.declared.Base.{Base}
+use Rattle.pass_layout.specs.declared.Layout.{Layout}
+use Rattle.pass_layout.specs.Layout.{Fits, Ordered, layoutOf}
+use Rattle.pass_layout.specs.Work.{floorIn, guidanceIn}
+use Rattle.pass_layout.proofs.Regions.{fits-ordered, floor-stays}
+use Rattle.pass_setup.specs.declared.Setup.{Setup}
+use Rattle.pass_setup.specs.declared.Setup.the-variants as setup
+use Rattle.pass_setup.specs.Work.{Stands, SetUp}
+use Rattle.pass_branches.specs.Work.{Finds}
 use Rattle.pass.specs.declared.Asked.{Asked}
 use Rattle.pass.specs.Pass.{fieldOver, afterSetup, passOf}
 use Rattle.pass.specs.Work.{guidanceAt, passIn, fieldIn}

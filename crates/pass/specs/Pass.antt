@@ -4,21 +4,21 @@ use Prim.Native.Nat.{ℕ}
 use mathlib.Core.Bool.{cond}
 use lib.Ieee.{Float}
 use Rattle.floor.specs.Floor.{Floor, pointsOf, trianglesOf}
-use Rattle.hermitian.specs.Hermitian.{Matrix}
-use Rattle.terms.specs.declared.Mode.{Mode}
-use Rattle.assembly.specs.Assembly as assembly
-use Rattle.assembly.specs.Lists.{floorOf}
-use Rattle.shift.specs.declared.Traces.{Traces}
-use Rattle.shift.specs.Shift.{tracesOf, shiftedEnergy}
+use Rattle.linear_hermitian.specs.Hermitian.{Matrix}
+use Rattle.pass_terms.specs.declared.Mode.{Mode}
+use Rattle.pass_assembly.specs.Assembly as assembly
+use Rattle.pass_assembly.specs.Lists.{floorOf}
+use Rattle.pass_shift.specs.declared.Traces.{Traces}
+use Rattle.pass_shift.specs.Shift.{tracesOf, shiftedEnergy}
 use Rattle.float.specs.Double.{notPositive}
-use Rattle.refusal.specs.Refusal.{gaveUp}
-use Rattle.options.specs.declared.Options.{Options}
-use Rattle.options.specs.Options.{Guidance}
-use Rattle.options.specs.Pass.{Passed, faulty}
-use Rattle.setup.specs.declared.Setup.{Setup}
-use Rattle.setup.specs.declared.Setup.the-variants.{Edges, Refused}
-use Rattle.setup.specs.Setup.{woundOf, areasOf, edgesOf, lowersOf, uppersOf, transportsOf, setupOf}
-use Rattle.branches.specs.Branches.{Built, branchOf}
+use Rattle.pass_refusal.specs.Refusal.{gaveUp}
+use Rattle.pass_options.specs.declared.Options.{Options}
+use Rattle.pass_options.specs.Options.{Guidance}
+use Rattle.pass_options.specs.Pass.{Passed, faulty}
+use Rattle.pass_setup.specs.declared.Setup.{Setup}
+use Rattle.pass_setup.specs.declared.Setup.the-variants.{Edges, Refused}
+use Rattle.pass_setup.specs.Setup.{woundOf, areasOf, edgesOf, lowersOf, uppersOf, transportsOf, setupOf}
+use Rattle.pass_branches.specs.Branches.{Built, branchOf}
 
 -- ---- the matrices, lines 1293 to 1418
 

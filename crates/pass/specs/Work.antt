@@ -1,21 +1,21 @@
--- What a pass reads from the work slices, and what its parts leave there. What it leaves itself is `Finds` of crate branches: the angles where it found
+-- What a pass reads from the work slices, and what its parts leave there. What it leaves itself is `Finds` of crate pass_branches: the angles where it found
 -- them, and all before them as it was; the rest of the regions that it takes is scratch. Definitions only.
 use Prim.Native.Nat.{ℕ}
 use mathlib.Core.Path.{_≡_}
 use mathlib.Core.List.{List}
 use lib.Ieee.{Float, nan}
-use Rattle.cells.specs.Region.{region}
-use Rattle.terms.specs.declared.Mode.{Mode}
-use Rattle.assembly.specs.declared.Plan.{Plan}
-use Rattle.assembly.specs.Work.{assembledTo}
-use Rattle.shift.specs.declared.Traces.{Traces}
-use Rattle.shift.specs.Shift.{tracesOf}
-use Rattle.options.specs.declared.Options.{Options}
-use Rattle.options.specs.Options.{Guidance, guidanceOf}
-use Rattle.options.specs.Pass.{Passed}
-use Rattle.layout.specs.declared.Layout.{Layout}
-use Rattle.layout.specs.Matrices.{massAt, energyAt}
-use Rattle.layout.specs.Work.{floorIn, guidanceIn}
+use Rattle.linear_cells.specs.Region.{region}
+use Rattle.pass_terms.specs.declared.Mode.{Mode}
+use Rattle.pass_assembly.specs.declared.Plan.{Plan}
+use Rattle.pass_assembly.specs.Work.{assembledTo}
+use Rattle.pass_shift.specs.declared.Traces.{Traces}
+use Rattle.pass_shift.specs.Shift.{tracesOf}
+use Rattle.pass_options.specs.declared.Options.{Options}
+use Rattle.pass_options.specs.Options.{Guidance, guidanceOf}
+use Rattle.pass_options.specs.Pass.{Passed}
+use Rattle.pass_layout.specs.declared.Layout.{Layout}
+use Rattle.pass_layout.specs.Matrices.{massAt, energyAt}
+use Rattle.pass_layout.specs.Work.{floorIn, guidanceIn}
 use Rattle.pass.specs.declared.Asked.{Asked}
 use Rattle.pass.specs.Pass.{fieldOver, passOf}
 

@@ -1,26 +1,26 @@
 // One pass: the Rust's solve_mesh, from a floor in the work slices to the angles of its field, or a refusal by rows 19 to 24.
 // specs/Pass.antt says what it finds, as one function of lists, and specs/Work.antt where it reads and writes.
-use assembly::Plan;
-use branches::Search;
-use layout::Base;
-use layout::Layout;
-use options::Options;
-use refusal::Stage;
-use setup::Setup;
-use shift::Traces;
-use terms::Mode;
+use pass_assembly::Plan;
+use pass_branches::Search;
+use pass_layout::Base;
+use pass_layout::Layout;
+use pass_options::Options;
+use pass_refusal::Stage;
+use pass_setup::Setup;
+use pass_shift::Traces;
+use pass_terms::Mode;
 ghost use mathlib.Core.Path.{_≡_};
 ghost use Prim.Native.Nat.{_*_, _≤_};
 ghost use lib.ListN.{length};
 ghost use Rattle.edges.specs.Numbering.{Below};
-ghost use Rattle.assembly.specs.Work.{Indexed};
-ghost use Rattle.hermitian.specs.Work.{shiftMatrix, ShiftRoom};
-ghost use Rattle.shift.specs.Shift.{shiftOf};
-ghost use Rattle.layout.specs.Layout.{Fits, Ordered, layoutOf};
-ghost use Rattle.layout.specs.Matrices.{massAt, energyAt};
-ghost use Rattle.layout.specs.Work.{floorIn};
-ghost use Rattle.setup.specs.Work.{Stands};
-ghost use Rattle.branches.specs.Work.{Finds};
+ghost use Rattle.pass_assembly.specs.Work.{Indexed};
+ghost use Rattle.linear_hermitian.specs.Work.{shiftMatrix, ShiftRoom};
+ghost use Rattle.pass_shift.specs.Shift.{shiftOf};
+ghost use Rattle.pass_layout.specs.Layout.{Fits, Ordered, layoutOf};
+ghost use Rattle.pass_layout.specs.Matrices.{massAt, energyAt};
+ghost use Rattle.pass_layout.specs.Work.{floorIn};
+ghost use Rattle.pass_setup.specs.Work.{Stands};
+ghost use Rattle.pass_branches.specs.Work.{Finds};
 ghost use Rattle.pass.specs.Work.{passIn, fieldIn, planAt, Builds};
 
 // What is asked beside the floor and the options: whether guidance is given, and its weight; how many outer iterations there may be.
@@ -50,10 +50,10 @@ fn build(w: &mut [f64], u: &[u32], l: Layout, edges: usize, m: Mode) -> Traces
     requires { ⌜ Indexed (now u) (planAt l) (l .points) edges × (edges ≤ 3 * l .triangles) ⌝ }
     ensures { λ r. ⌜ Builds l edges m (now (w .entry)) (now (u .entry)) (now (w .exit)) r ⌝ }
 {
-    let mass = layout::mass_at(l, edges);
-    let energy = layout::energy_at(l, edges);
-    assembly::assemble(w, u, plan_at(l), mass, energy, m);
-    shift::traces_of(w, mass, energy)
+    let mass = pass_layout::mass_at(l, edges);
+    let energy = pass_layout::energy_at(l, edges);
+    pass_assembly::assemble(w, u, plan_at(l), mass, energy, m);
+    pass_shift::traces_of(w, mass, energy)
 }
 
 // The energy matrix gets its shift.
@@ -61,9 +61,9 @@ fn shift_energy(w: &mut [f64], l: Layout, edges: usize, t: Traces)
     requires { ⌜ ShiftRoom (length (now w)) (energyAt l edges) (massAt l edges) ⌝ }
     ensures { λ _. ⌜ now (w .exit) ≡ shiftMatrix (now (w .entry)) (energyAt l edges) (shiftOf t) (massAt l edges) ⌝ }
 {
-    let mass = layout::mass_at(l, edges);
-    let energy = layout::energy_at(l, edges);
-    shift::shift_energy(w, energy, mass, t);
+    let mass = pass_layout::mass_at(l, edges);
+    let energy = pass_layout::energy_at(l, edges);
+    pass_shift::shift_energy(w, energy, mass, t);
 }
 
 // The rest of a pass, once its floor is set up.
@@ -77,7 +77,7 @@ fn field_over(w: &mut [f64], u: &mut [u32], l: Layout, edges: usize, o: Options,
         holomorphic: o.holomorphic,
     };
     let t = build(w, u, l, edges, mode);
-    let s = shift::check(t);
+    let s = pass_shift::check(t);
     let Stage::Done = s else {
         return s;
     };
@@ -88,7 +88,7 @@ fn field_over(w: &mut [f64], u: &mut [u32], l: Layout, edges: usize, o: Options,
         trace: t.energy,
         iterations: a.iterations,
     };
-    branches::find_field(w, u, l, edges, o, search)
+    pass_branches::find_field(w, u, l, edges, o, search)
 }
 
 // The pass over the floor that begins at `at`.
@@ -97,8 +97,8 @@ pub fn pass(w: &mut [f64], u: &mut [u32], at: Base, o: Options, a: Asked) -> Sta
     requires { ⌜ Below (at .points) (at .words) (now u) (3 * at .triangles) ⌝ }
     ensures { λ r. ⌜ Finds (layoutOf at) (layoutOf at .wound) (passIn (layoutOf at) o a (now (w .entry)) (now (u .entry))) (now (w .entry)) (now (u .entry)) (now (w .exit)) (now (u .exit)) r ⌝ }
 {
-    let l = layout::layout_at(at);
-    let found = setup::set_up(w, u, l);
+    let l = pass_layout::layout_at(at);
+    let found = pass_setup::set_up(w, u, l);
     match found {
         Setup::Edges(edges) => field_over(w, u, l, edges, o, a),
         Setup::Refused(fault) => Stage::Refused(fault),

@@ -1,9 +1,9 @@
 // The refinement program of document 01: reads refine.in in the folder that it runs in, and prints the refined floor, or `refused`.
-// What is printed is `refine_text::answer` of the bytes read.
+// What is printed is `text_answer::answer` of the bytes read.
 
 fn print(text: &[u8]) {
     let mut out = [0u8; 29465];
-    let n = refine_text::answer(text, &mut out);
+    let n = text_answer::answer(text, &mut out);
     if !io::write_all(libc::STDOUT_FILENO, &out[..n]) {
         os::fail(b"standard output");
     }

@@ -6,11 +6,11 @@ use mathlib.Core.Bool.{Bool, true, false, _&&_}
 use mathlib.Core.List.{List}
 use lib.ListN.{getD}
 use lib.Ieee.{Float, nan}
-use Rattle.cells.specs.Region.{region}
-use Rattle.cells.proofs.Loops.{tab-ext}
-use Rattle.refusal.specs.declared.Fault.{Fault}
-use Rattle.refusal.specs.declared.Stage.the-variants as stage
-use Rattle.options.specs.Pass.{Passed, field, faulty, stageOf}
+use Rattle.linear_cells.specs.Region.{region}
+use Rattle.linear_cells.proofs.Loops.{tab-ext}
+use Rattle.pass_refusal.specs.declared.Fault.{Fault}
+use Rattle.pass_refusal.specs.declared.Stage.the-variants as stage
+use Rattle.pass_options.specs.Pass.{Passed, field, faulty, stageOf}
 use Rattle.calls.specs.declared.Outcome.{Outcome}
 use Rattle.solve.specs.declared.Found.{Found}
 use Rattle.solve.specs.Passes.{firstIn, Finished, outcomeOf, coarseLeft, fineLeft}

@@ -7,8 +7,8 @@ use mathlib.Core.List.{List}
 use lib.ListN.{length, take, drop, replicate}
 use lib.Seq.{sets, length-sets}
 use lib.Ieee.{Float, nan}
-use Rattle.cells.specs.Region.{region}
-use Rattle.cells.proofs.Changes.{part-region}
+use Rattle.linear_cells.specs.Region.{region}
+use Rattle.linear_cells.proofs.Changes.{part-region}
 use Rattle.refinement.specs.declared.Cut.{Cut}
 use Rattle.refinement.specs.Flag.{flaggedTri}
 use Rattle.refinement.specs.Steps.{CutTo}

@@ -7,16 +7,16 @@ use mathlib.Core.List.{List}
 use lib.ListN.{length}
 use lib.Ieee.{Float}
 use Rattle.edges.specs.Numbering.{Below}
-use Rattle.refusal.specs.declared.Fault.{Fault}
-use Rattle.refusal.specs.declared.Stage.{Stage}
-use Rattle.refusal.specs.declared.Stage.the-variants as stage
-use Rattle.options.specs.declared.Options.{Options}
-use Rattle.options.specs.Options.{guidanceOf}
-use Rattle.options.specs.Pass.{Passed, field, faulty}
+use Rattle.pass_refusal.specs.declared.Fault.{Fault}
+use Rattle.pass_refusal.specs.declared.Stage.{Stage}
+use Rattle.pass_refusal.specs.declared.Stage.the-variants as stage
+use Rattle.pass_options.specs.declared.Options.{Options}
+use Rattle.pass_options.specs.Options.{guidanceOf}
+use Rattle.pass_options.specs.Pass.{Passed, field, faulty}
 use Rattle.pass.specs.declared.Asked.{Asked}
 use Rattle.pass.specs.Pass.{passOf}
-use Rattle.floor_pass.specs.Lay.{Made}
-use Rattle.floor_pass.specs.First.{firstBase, firstOver, FirstRoom}
+use Rattle.pass_floor.specs.Lay.{Made}
+use Rattle.pass_floor.specs.First.{firstBase, firstOver, FirstRoom}
 use Rattle.calls.specs.Checks.{isAdaptive, mostPoints, mostTriangles}
 use Rattle.calls.specs.Solve.{firstPass, inPass}
 use Rattle.solve.specs.declared.Found.{Found}

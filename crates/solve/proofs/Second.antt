@@ -27,18 +27,18 @@ use Rattle.refinement.proofs.Parts.{refined-most}
 use Rattle.refinement.proofs.Triangles.{tris-length}
 use Rattle.refine_floor.specs.Guidance.{moreAngles}
 use Rattle.refine_floor.specs.Stored.{Stored}
-use Rattle.planes.specs.Planes.{cutsIn}
-use Rattle.layout.specs.declared.Base.{Base}
-use Rattle.options.specs.declared.Options.{Options}
-use Rattle.options.specs.Options.{guided, unguided, guidanceOf}
-use Rattle.options.specs.Pass.{stageOf}
+use Rattle.pass_planes.specs.Planes.{cutsIn}
+use Rattle.pass_layout.specs.declared.Base.{Base}
+use Rattle.pass_options.specs.declared.Options.{Options}
+use Rattle.pass_options.specs.Options.{guided, unguided, guidanceOf}
+use Rattle.pass_options.specs.Pass.{stageOf}
 use Rattle.pass.specs.declared.Asked.{Asked}
 use Rattle.pass.specs.Pass.{passOf}
 use Rattle.pass.proofs.Facts.{pass-facts}
-use Rattle.refusal.specs.declared.Fault.{Fault}
-use Rattle.refusal.specs.declared.Stage.{Stage}
-use Rattle.refusal.specs.declared.Stage.the-variants as stage
-use Rattle.floor_pass.specs.Lay.{passOver, passAt, LaidRoom, Made}
+use Rattle.pass_refusal.specs.declared.Fault.{Fault}
+use Rattle.pass_refusal.specs.declared.Stage.{Stage}
+use Rattle.pass_refusal.specs.declared.Stage.the-variants as stage
+use Rattle.pass_floor.specs.Lay.{passOver, passAt, LaidRoom, Made}
 use Rattle.calls.specs.Checks.{mostPoints, mostTriangles}
 use Rattle.calls.specs.Solve.{firstFloor, secondPass, refinedBy, refines, inPass, extended, withoutThreshold}
 use Rattle.calls.proofs.Lists.{both-good}

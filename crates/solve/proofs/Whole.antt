@@ -11,7 +11,7 @@ use Rattle.float.specs.Double.{lit}
 use Rattle.floor.specs.declared.Refusal.{Refusal as Early}
 use Rattle.floor.specs.declared.Check.the-variants as check
 use Rattle.refinement.specs.Floor.{over}
-use Rattle.options.specs.Pass.{Passed, field, faulty}
+use Rattle.pass_options.specs.Pass.{Passed, field, faulty}
 use Rattle.pass.specs.Pass.{passOf}
 use Rattle.calls.specs.declared.Counts.{Counts}
 use Rattle.calls.specs.declared.Outcome.{Outcome}

@@ -9,7 +9,7 @@ use lib.Ieee.{Float, lt}
 use mathlib.Core.Bool.{true}
 use Rattle.float.specs.Double.{lit}
 use Rattle.mesh.specs.Mesh.{Tri}
-use Rattle.options.specs.Pass.{field}
+use Rattle.pass_options.specs.Pass.{field}
 use Rattle.pass.specs.Pass.{passOf}
 use Rattle.calls.specs.declared.Refusal.{Refusal}
 use Rattle.calls.specs.declared.Counts.{Counts}

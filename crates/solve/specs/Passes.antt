@@ -7,14 +7,14 @@ use mathlib.Core.List.{List}
 use lib.ListN.{length}
 use lib.Ieee.{Float, nan, lt}
 use Rattle.float.specs.Double.{lit}
-use Rattle.cells.specs.Region.{region}
+use Rattle.linear_cells.specs.Region.{region}
 use Rattle.mesh.specs.Mesh.{cuts, marked}
 use Rattle.edges.specs.Table.{Held, sidesIn}
 use Rattle.refinement.specs.declared.Cut.{Cut}
 use Rattle.refinement.specs.Flag.{flaggedTri}
 use Rattle.refinement.specs.Floor.{trisOf, over}
-use Rattle.options.specs.declared.Options.{Options}
-use Rattle.options.specs.Pass.{Passed, field, faulty}
+use Rattle.pass_options.specs.declared.Options.{Options}
+use Rattle.pass_options.specs.Pass.{Passed, field, faulty}
 use Rattle.pass.specs.declared.Asked.{Asked}
 use Rattle.pass.specs.Pass.{passOf}
 use Rattle.calls.specs.declared.Counts.{Counts}

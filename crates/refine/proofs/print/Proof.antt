@@ -5,7 +5,7 @@ use Prim.Native.Nat.{ℕ}
 use mathlib.Core.Path.{sym}
 use lib.ListN.{replicate, length-replicate}
 use lib.Seq.{length-take-le}
-use Rattle.refine_text.proofs.Whole.{count-fits}
+use Rattle.text_answer.proofs.Whole.{count-fits}
 use Rattle.refine.proofs.print.Statement.{statement}
 use Rattle.refine.proofs.print.Tie as tie
 

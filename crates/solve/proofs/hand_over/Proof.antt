@@ -5,8 +5,8 @@ use mathlib.Core.List.{List}
 use lib.Seq.{sets}
 use Prim.Native.Nat.{_+_}
 use lib.Ieee.{Float, nan}
-use Rattle.cells.specs.Region.{region}
-use Rattle.cells.proofs.Regions.{length-region}
+use Rattle.linear_cells.specs.Region.{region}
+use Rattle.linear_cells.proofs.Regions.{length-region}
 use Rattle.refinement.proofs.Runs.{front}
 use Rattle.solve.proofs.Cuts.{part-is}
 use borrow.Author.Needs.{needs}

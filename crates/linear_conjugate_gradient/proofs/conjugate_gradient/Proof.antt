@@ -1,0 +1,67 @@
+-- `linear_conjugate_gradient::conjugate_gradient` meets its contract: each return opens the definition and rewrites it by the tests and the calls on its way; the laws are in proofs/Lays, proofs/Runs.
+use Rattle.linear_conjugate_gradient.proofs.Lays.{same-room}
+use Rattle.linear_conjugate_gradient.proofs.Runs.{solve-norm, solve-diagonal, solve-first, solve-run}
+use borrow.Author.Needs.{needs}
+use Rattle.linear_conjugate_gradient.proofs.conjugate_gradient.Statement.{statement}
+use Rattle.linear_conjugate_gradient.proofs.conjugate_gradient.Tie as tie
+
+euclidean-norm-requires : tie.Need-euclidean-norm-requires
+euclidean-norm-requires c κs = search needs
+
+not-positive-requires : tie.Need-not-positive-requires
+not-positive-requires c κs = search needs
+
+same-length : tie.Need-same-length
+same-length c = search needs
+
+returns : tie.Need-returns
+returns c = solve-norm _ _ _ _ _ _ _ (c .before .before .euclidean-norm .ensures) (c .before .not-positive .ensures) (c .if1 .taken)
+
+first-not-positive-requires : tie.Need-first-not-positive-requires
+first-not-positive-requires c κs = search needs
+
+same-length-2 : tie.Need-same-length-2
+same-length-2 c = search needs
+
+returns-2 : tie.Need-returns-2
+returns-2 c = solve-diagonal _ _ _ _ _ _ _ (c .before .before .before .before .before .before .euclidean-norm .ensures) (c .before .before .before .before .before .not-positive .ensures) (c .before .before .before .before .if1 .left) (c .before .before .first-not-positive .ensures) (c .if2 .taken)
+
+begin-requires : tie.Need-begin-requires
+begin-requires c κs = search needs
+
+not-positive-requires-2 : tie.Need-not-positive-requires-2
+not-positive-requires-2 c κs = search needs
+
+same-length-3 : tie.Need-same-length-3
+same-length-3 c = search needs
+
+returns-3 : tie.Need-returns-3
+returns-3 c = solve-first _ _ _ _ _ _ _ (c .before .before .before .before .before .before .before .before .before .before .before .before .euclidean-norm .ensures) (c .before .before .before .before .before .before .before .before .before .before .before .not-positive .ensures) (c .before .before .before .before .before .before .before .before .before .before .if1 .left) (c .before .before .before .before .before .before .before .before .first-not-positive .ensures) (c .before .before .before .before .before .before .before .before .before .before .before .before .before .before .before .before .before .pre .0) (c .before .before .before .before .before .before .if2 .left) (c .before .before .before .before .begin .ensures) (c .before .not-positive2 .ensures) (c .if3 .taken)
+
+iterate-requires : tie.Need-iterate-requires
+iterate-requires c κs = (same-room (search needs) _ _ (c .before .before .before .before .before .before .before .before .before .before .before .before .before .before .before .before .before .before .pre .0), search needs)
+
+same-length-4 : tie.Need-same-length-4
+same-length-4 c = search needs
+
+returns-4 : tie.Need-returns-4
+returns-4 c = solve-run _ _ _ _ _ _ _ (c .before .before .before .before .before .before .before .before .before .before .before .before .before .before .before .before .euclidean-norm .ensures) (c .before .before .before .before .before .before .before .before .before .before .before .before .before .before .before .not-positive .ensures) (c .before .before .before .before .before .before .before .before .before .before .before .before .before .before .if1 .left) (c .before .before .before .before .before .before .before .before .before .before .before .before .first-not-positive .ensures) (c .before .before .before .before .before .before .before .before .before .before .before .before .before .before .before .before .before .before .before .before .before .pre .0) (c .before .before .before .before .before .before .before .before .before .before .if2 .left) (c .before .before .before .before .before .before .before .before .begin .ensures) (c .before .before .before .before .before .not-positive2 .ensures) (c .before .before .before .before .if3 .left) (c .before .before .iterate .ensures)
+
+pub conjugate-gradient-spec : {M : Type 1} → statement M
+conjugate-gradient-spec =
+    tie.close
+    (tie.spec
+    euclidean-norm-requires
+    not-positive-requires
+    same-length
+    returns
+    first-not-positive-requires
+    same-length-2
+    returns-2
+    begin-requires
+    not-positive-requires-2
+    same-length-3
+    returns-3
+    iterate-requires
+    same-length-4
+    returns-4)

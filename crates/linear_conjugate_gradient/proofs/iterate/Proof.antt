@@ -1,0 +1,78 @@
+-- `linear_conjugate_gradient::iterate` meets its contract: the loop keeps what `Inv-loop` says, and what is left to do falls at each iteration; the laws are in proofs/Runs.
+use native.Mathlib.Omega.{arith}
+use mathlib.Core.Logic.{⊎-elim}
+use Prim.Native.Nat.{ℕ}
+use Rattle.linear_conjugate_gradient.proofs.Runs.{RunAt, run-none, run-again, run-ended, run-done}
+use mathlib.Core.Path.{_≡_}
+use Prim.Native.Nat.{_≤_, _-_}
+use lib.ListN.{length}
+use borrow.Author.Needs.{needs}
+use Rattle.linear_conjugate_gradient.proofs.iterate.Statement.{statement}
+use Rattle.linear_conjugate_gradient.proofs.iterate.Tie as tie
+
+abbrev Inv-loop : tie.InvT-loop
+Inv-loop work₀ h l from to limit first most dot₀ i₀ work dot i = (i ≤ most) × (length work ≡ length work₀) × RunAt work₀ h l from to limit first most work i dot
+
+abbrev μ-loop : tie.MeasureT-loop
+μ-loop work₀ h l from to limit first most dot₀ i₀ work dot i = most - i
+
+loop-holds : tie.Need-loop-holds Inv-loop μ-loop
+loop-holds c = (search needs, search needs, run-none _ _ _ _ _ _ _ _)
+
+iterate-once-requires : tie.Need-iterate-once-requires Inv-loop μ-loop
+iterate-once-requires c κs = search needs
+
+enum-known-t : tie.Need-enum-known-t Inv-loop μ-loop
+enum-known-t c = search needs
+
+add-answer-of : tie.Need-add-answer-of Inv-loop μ-loop
+add-answer-of c = search needs
+
+answer-of-requires : tie.Need-answer-of-requires Inv-loop μ-loop
+answer-of-requires c κs = search needs
+
+same-length : tie.Need-same-length Inv-loop μ-loop
+same-length c = search needs
+
+returns : tie.Need-returns Inv-loop μ-loop
+returns c = run-ended _ _ _ _ _ _ _ _ (c .before .before .before .before .before .before .before .before .before .before .before .pre .0) _ (c .before .before .before .before .before .before .loop-test .taken) (c .before .before .before .before .before .before .before .loop .inv .2) (c .before .before .before .before .iterate-once .ensures)
+    (λ next e.
+    ⊎-elim
+    (λ k. let z : _≡_ {A = ℕ} 0 1 = rw e at k in omega arith)
+    (λ k. let z : _≡_ {A = ℕ} 0 2 = rw e at k in omega arith)
+    (c .before .match .keys2))
+    (c .answer-of .ensures)
+
+add-i : tie.Need-add-i Inv-loop μ-loop
+add-i c = search needs
+
+loop-less : tie.Need-loop-less Inv-loop μ-loop
+loop-less c = search needs
+
+loop-again : tie.Need-loop-again Inv-loop μ-loop
+loop-again c = (search needs, search needs, run-again _ _ _ _ _ _ _ _ (c .before .before .before .before .before .before .before .before .before .before .before .before .pre .0) _ (c .before .before .before .before .before .before .before .loop-test .taken) (c .before .before .before .before .before .before .before .before .loop .inv .2) (c .before .before .before .before .before .iterate-once .ensures) (c .before .t .given .1))
+
+same-length-2 : tie.Need-same-length-2 Inv-loop μ-loop
+same-length-2 c = search needs
+
+returns-2 : tie.Need-returns-2 Inv-loop μ-loop
+returns-2 c = run-done _ _ _ _ _ _ _ _ (c .before .loop .inv .0) (c .loop-test .left) (c .before .loop .inv .2)
+
+pub iterate-spec : {M : Type 1} → statement M
+iterate-spec =
+    tie.close
+    (tie.spec
+    Inv-loop
+    μ-loop
+    loop-holds
+    iterate-once-requires
+    enum-known-t
+    add-answer-of
+    answer-of-requires
+    same-length
+    returns
+    add-i
+    loop-less
+    loop-again
+    same-length-2
+    returns-2)

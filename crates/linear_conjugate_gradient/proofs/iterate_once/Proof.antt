@@ -1,0 +1,38 @@
+-- `linear_conjugate_gradient::iterate_once` meets its contract: each return opens the definition and rewrites it by the tests and the calls on its way; the laws are in proofs/Iterations.
+use Rattle.linear_conjugate_gradient.proofs.Iterations.{iteration-broken, iteration-stepped}
+use borrow.Author.Needs.{needs}
+use Rattle.linear_conjugate_gradient.proofs.iterate_once.Statement.{statement}
+use Rattle.linear_conjugate_gradient.proofs.iterate_once.Tie as tie
+
+multiply-requires : tie.Need-multiply-requires
+multiply-requires c κs = search needs
+
+not-positive-requires : tie.Need-not-positive-requires
+not-positive-requires c κs = search needs
+
+same-length : tie.Need-same-length
+same-length c = search needs
+
+returns : tie.Need-returns
+returns c = iteration-broken _ _ _ _ _ _ _ (c .before .before .before .before .multiply .ensures) (c .before .not-positive .ensures) (c .if1 .taken)
+
+step-requires : tie.Need-step-requires
+step-requires c κs = search needs
+
+same-length-2 : tie.Need-same-length-2
+same-length-2 c = search needs
+
+returns-2 : tie.Need-returns-2
+returns-2 c = iteration-stepped _ _ _ _ _ _ _ (c .before .before .before .before .before .before .before .before .before .before .before .before .before .pre .0) (c .before .before .before .before .before .before .before .before .multiply .ensures) (c .before .before .before .before .before .not-positive .ensures) (c .before .before .before .before .if1 .left) (c .before .before .step .ensures)
+
+pub iterate-once-spec : {M : Type 1} → statement M
+iterate-once-spec =
+    tie.close
+    (tie.spec
+    multiply-requires
+    not-positive-requires
+    same-length
+    returns
+    step-requires
+    same-length-2
+    returns-2)

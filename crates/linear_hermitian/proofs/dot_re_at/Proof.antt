@@ -1,0 +1,18 @@
+-- `linear_hermitian::dot_re_at` meets its contract: each return opens the definition and rewrites it by the tests and the calls on its way.
+use Rattle.linear_hermitian.specs.Work.{reTerm}
+use borrow.Author.Needs.{needs}
+use Rattle.linear_hermitian.proofs.dot_re_at.Statement.{statement}
+use Rattle.linear_hermitian.proofs.dot_re_at.Tie as tie
+
+load-requires : tie.Need-load-requires
+load-requires c κs = search needs
+
+load-requires-2 : tie.Need-load-requires-2
+load-requires-2 c κs = search needs
+
+returns : tie.Need-returns
+unfolding reTerm
+returns c = cc
+
+pub dot-re-at-spec : {M : Type 1} → statement M
+dot-re-at-spec = tie.close (tie.spec load-requires load-requires-2 returns)

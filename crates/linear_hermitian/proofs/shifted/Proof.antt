@@ -1,0 +1,20 @@
+-- `linear_hermitian::shifted` meets its contract: each return opens the definition and rewrites it by the tests and the calls on its way; the laws are in proofs/Shift.
+use Rattle.linear_hermitian.proofs.Shift.{shifted-all}
+use borrow.Author.Needs.{needs}
+use Rattle.linear_hermitian.proofs.shifted.Statement.{statement}
+use Rattle.linear_hermitian.proofs.shifted.Tie as tie
+
+shift-diagonal-requires : tie.Need-shift-diagonal-requires
+shift-diagonal-requires c κs = search needs
+
+shift-off-requires : tie.Need-shift-off-requires
+shift-off-requires c κs = search needs
+
+same-length : tie.Need-same-length
+same-length c = search needs
+
+returns : tie.Need-returns
+returns c = search shifted-all
+
+pub shifted-spec : {M : Type 1} → statement M
+shifted-spec = tie.close (tie.spec shift-diagonal-requires shift-off-requires same-length returns)

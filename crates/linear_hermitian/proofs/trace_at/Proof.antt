@@ -1,0 +1,13 @@
+-- `linear_hermitian::trace_at` meets its contract: each return opens the definition and rewrites it by the tests and the calls on its way.
+use borrow.Author.Needs.{needs}
+use Rattle.linear_hermitian.proofs.trace_at.Statement.{statement}
+use Rattle.linear_hermitian.proofs.trace_at.Tie as tie
+
+load-real-requires : tie.Need-load-real-requires
+load-real-requires c κs = search needs
+
+returns : tie.Need-returns
+returns c = cc
+
+pub trace-at-spec : {M : Type 1} → statement M
+trace-at-spec = tie.close (tie.spec load-real-requires returns)

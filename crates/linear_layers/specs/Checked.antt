@@ -1,0 +1,83 @@
+-- What the layers answer where every test that they leave to their callers is made first.
+use mathlib.Core.Path.{_≡_}
+use mathlib.Core.Bool.{Bool, true, false, not, _&&_}
+use mathlib.Core.List.{List}
+use Prim.Native.Nat.{ℕ, zero, suc, _+_, _*_}
+use lib.Dec.{ltb, leb, eqb}
+use lib.ListN.{length, getD}
+use lib.Ieee.{Float}
+use Rattle.linear_cells.specs.Cell.{regionC, putC}
+use Rattle.linear_hermitian.specs.declared.Hermitian.{Hermitian}
+use Rattle.linear_hermitian.specs.Hermitian.{Matrix, applied}
+use Rattle.linear_hermitian.specs.Work.{matrix}
+use Rattle.linear_conjugate_gradient.specs.declared.Vectors.{Vectors}
+use Rattle.linear_conjugate_gradient.specs.Solve.{Outcome, solved, massOf, normalizedAnswer, normalizedVector}
+use Rattle.linear_conjugate_gradient.specs.Work.{read, lay}
+use Rattle.linear_layers.specs.declared.Checked.{Checked}
+use Rattle.linear_layers.specs.declared.Checked.the-variants.{Refused, Solved, Normal}
+
+-- f 0, .., f (n - 1) are all true
+unfoldable pub allTo : (ℕ → Bool) → ℕ → Bool
+allTo f zero = true
+allTo f (suc n) = allTo f n && f n
+
+-- an edge of two different ends below n
+unfoldable pub edgeGood : ℕ → ℕ → ℕ → Bool
+edgeGood n a b = ltb a n && (ltb b n && not (eqb a b))
+
+unfoldable pub edgeAt : ℕ → List ℕ → List ℕ → ℕ → Bool
+edgeAt n from to k = edgeGood n (getD from k 0) (getD to k 0)
+
+-- the work slice has room for n rows, and the edges are such edges
+unfoldable pub good : ℕ → ℕ → List ℕ → List ℕ → Bool
+good len n from to = leb (10 * n + 2 * length from) len && (eqb (length to) (length from) && allTo (edgeAt n from to) (length from))
+
+-- the diagonal, the entries off it, and the vectors, one after another from 0
+unfoldable pub matrixFor : ℕ → ℕ → Hermitian
+matrixFor n m = record { size = n; edges = m; diagonal = 0; off = n }
+
+unfoldable pub vectorsFor : ℕ → ℕ → Vectors
+vectorsFor n m = record {
+  x = n + 2 * m;
+  residual = n + 2 * m + 2 * n;
+  direction = n + 2 * m + 2 * n + 2 * n;
+  applied = n + 2 * m + 2 * n + 2 * n + 2 * n;
+  inverse = n + 2 * m + 2 * n + 2 * n + 2 * n + 2 * n;
+}
+
+unfoldable pub outcome : List Float → ℕ → List ℕ → List ℕ → Float → ℕ → Outcome
+outcome w n from to tolerance most =
+    solved (matrix w (matrixFor n (length from)) from to) tolerance most (read w n (vectorsFor n (length from)))
+
+unfoldable pub solvedWork : Bool → List Float → ℕ → List ℕ → List ℕ → Float → ℕ → List Float
+solvedWork true w n from to tolerance most = lay w n (vectorsFor n (length from)) (outcome w n from to tolerance most .state)
+solvedWork false w n from to tolerance most = w
+
+unfoldable pub solvedAnswer : Bool → List Float → ℕ → List ℕ → List ℕ → Float → ℕ → Checked
+solvedAnswer true w n from to tolerance most = Solved (outcome w n from to tolerance most .answer)
+solvedAnswer false w n from to tolerance most = Refused
+
+pub record SolveChecked (w w′ : List Float) (n : ℕ) (from to : List ℕ) (tolerance : Float) (most : ℕ) (r : Checked) : Type 0 where
+  pub work : w′ ≡ solvedWork (good (length w) n from to) w n from to tolerance most
+  pub result : r ≡ solvedAnswer (good (length w) n from to) w n from to tolerance most
+
+-- the same, where only the test's answer goes back
+pub record SolveTold (w w′ : List Float) (n : ℕ) (from to : List ℕ) (tolerance : Float) (most : ℕ) (r : Bool) : Type 0 where
+  pub work : w′ ≡ solvedWork (good (length w) n from to) w n from to tolerance most
+  pub result : r ≡ good (length w) n from to
+
+-- normalize_in_mass of the vector at x, with the direction's region for the product
+unfoldable pub normalWork : Bool → List Float → ℕ → List ℕ → List ℕ → List Float
+normalWork true w n from to =
+    let l = vectorsFor n (length from) in
+    let m = matrix w (matrixFor n (length from)) from to in
+    putC (putC w (l .direction) (applied m (regionC w (l .x) n))) (l .x) (normalizedVector (massOf m (regionC w (l .x) n)) (regionC w (l .x) n))
+normalWork false w n from to = w
+
+unfoldable pub normalAnswer : Bool → List Float → ℕ → List ℕ → List ℕ → Checked
+normalAnswer true w n from to = Normal (normalizedAnswer (massOf (matrix w (matrixFor n (length from)) from to) (regionC w (vectorsFor n (length from) .x) n)))
+normalAnswer false w n from to = Refused
+
+pub record NormalChecked (w w′ : List Float) (n : ℕ) (from to : List ℕ) (r : Checked) : Type 0 where
+  pub work : w′ ≡ normalWork (good (length w) n from to) w n from to
+  pub result : r ≡ normalAnswer (good (length w) n from to) w n from to

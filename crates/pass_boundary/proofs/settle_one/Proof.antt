@@ -1,0 +1,24 @@
+-- `pass_boundary::settle_one` meets its contract: each return opens the definition and rewrites it by the test and the calls on its way.
+use borrow.Author.Needs.{needs}
+use mathlib.Core.Path.{_∙_}
+use borrow.Author.Tests.{eq-eqb, ne-eqb}
+use Rattle.pass_boundary.specs.Work.{settledAt}
+use Rattle.pass_boundary.proofs.settle_one.Statement.{statement}
+use Rattle.pass_boundary.proofs.settle_one.Tie as tie
+
+normal-requires : tie.Need-normal-requires
+normal-requires c κs = search needs
+
+returns : tie.Need-returns
+unfolding settledAt
+returns c = c .normal .ensures ∙ rw (eq-eqb _ _ (c .before .if1 .taken))
+
+new-requires : tie.Need-new-requires
+new-requires c κs = search needs
+
+returns-2 : tie.Need-returns-2
+unfolding settledAt
+returns-2 c = c .new .ensures ∙ rw (ne-eqb _ _ (c .before .if1 .left))
+
+pub settle-one-spec : {M : Type 1} → statement M
+settle-one-spec = tie.close (tie.spec normal-requires returns new-requires returns-2)

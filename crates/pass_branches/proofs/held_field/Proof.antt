@@ -1,0 +1,46 @@
+-- `pass_branches::held_field` meets its contract: row 23, or the field with the flags and targets of the floor; the laws are in proofs/Held.
+use Rattle.pass_branches.proofs.Held.{boundary-room, bounds, still-ordered, still-edged, held-refused, held-finds}
+use borrow.Author.Needs.{needs}
+use Rattle.pass_branches.proofs.held_field.Statement.{statement}
+use Rattle.pass_branches.proofs.held_field.Tie as tie
+
+boundary-targets-requires : tie.Need-boundary-targets-requires
+boundary-targets-requires c κs = (boundary-room (c .before .before .before .before .args .l) _ (c .before .before .before .before .pre .0) (c .before .before .before .before .pre .1 .0 .few), (c .before .before .before .before .pre .1 .0 .sided, c .before .before .before .before .pre .1 .0 .numbers))
+
+refused-requires : tie.Need-refused-requires
+refused-requires c κs = search needs
+
+same-length : tie.Need-same-length
+same-length c = search needs
+
+same-length-2 : tie.Need-same-length-2
+same-length-2 c = search needs
+
+returns : tie.Need-returns
+returns c = held-refused (c .before .before .before .before .before .before .before .before .before .before .before .args .l) _ _ _ (c .before .before .before .before .before .before .before .before .before .before .before .pre .0) (c .before .before .before .before .before .before .before .before .before .before .before .pre .1 .0) (c .before .before .before .before .before .before .boundary-targets .ensures) (c .before .before .before .before .before .before .before .before .before .before .before .args .o) (c .before .before .before .before .before .before .before .before .before .before .before .args .s) (c .before .before .before .before .before .before .before .before .before .before .before .pre .1 .1) (c .before .if1 .taken) (c .refused .ensures)
+
+field-at-requires : tie.Need-field-at-requires
+field-at-requires c κs = (still-ordered (c .before .before .before .before .before .before .before .before .before .before .before .before .args .l) _ _ _ (c .before .before .before .before .before .before .before .before .before .before .before .before .pre .0) (c .before .before .before .before .before .before .before .before .before .before .before .before .pre .1 .0) (c .before .before .before .before .before .before .before .boundary-targets .ensures), (still-edged (c .before .before .before .before .before .before .before .before .before .before .before .before .args .l) _ _ _ (c .before .before .before .before .before .before .before .before .before .before .before .before .pre .0) (c .before .before .before .before .before .before .before .before .before .before .before .before .pre .1 .0) (c .before .before .before .before .before .before .before .boundary-targets .ensures), λ t. bounds (c .before .before .before .before .before .before .before .before .before .before .before .before .args .l) _ _ _ (c .before .before .before .before .before .before .before .before .before .before .before .before .pre .0) (c .before .before .before .before .before .before .before .before .before .before .before .before .pre .1 .0) (c .before .before .before .before .before .before .before .boundary-targets .ensures)))
+
+same-length-3 : tie.Need-same-length-3
+same-length-3 c = search needs
+
+same-length-4 : tie.Need-same-length-4
+same-length-4 c = search needs
+
+returns-2 : tie.Need-returns-2
+returns-2 c = held-finds (c .before .before .before .before .before .before .before .before .before .before .before .before .before .before .before .args .l) _ _ _ (c .before .before .before .before .before .before .before .before .before .before .before .before .before .before .before .pre .0) (c .before .before .before .before .before .before .before .before .before .before .before .before .before .before .before .pre .1 .0) (c .before .before .before .before .before .before .before .before .before .before .boundary-targets .ensures) (c .before .before .before .before .before .before .before .before .before .before .before .before .before .before .before .args .o) (c .before .before .before .before .before .before .before .before .before .before .before .before .before .before .before .args .s) (c .before .before .before .before .before .before .before .before .before .before .before .before .before .before .before .pre .1 .1) (c .before .before .before .before .before .if1 .left) (c .before .before .field-at .ensures)
+
+pub held-field-spec : {M : Type 1} → statement M
+held-field-spec =
+    tie.close
+    (tie.spec
+    boundary-targets-requires
+    refused-requires
+    same-length
+    same-length-2
+    returns
+    field-at-requires
+    same-length-3
+    same-length-4
+    returns-2)

@@ -1,0 +1,21 @@
+-- `pass_branches::soft_field` meets its contract: the system, and its solution; the law is in proofs/Modes.
+use Rattle.pass_branches.proofs.Modes.{solve-room, leaves-system}
+use borrow.Author.Needs.{needs}
+use Rattle.pass_branches.proofs.soft_field.Statement.{statement}
+use Rattle.pass_branches.proofs.soft_field.Tie as tie
+
+soft-system-requires : tie.Need-soft-system-requires
+soft-system-requires c κs = search needs
+
+solve-system-requires : tie.Need-solve-system-requires
+solve-system-requires c κs = (solve-room _ _ _ _ (c .before .before .before .before .before .before .before .before .args .t) (c .before .before .before .before .before .before .before .before .args .o) (c .before .before .before .before .before .before .before .before .pre .0) (search needs), c .before .before .before .before .before .before .before .before .pre .1 .energy-graph)
+
+same-length : tie.Need-same-length
+same-length c = search needs
+
+returns : tie.Need-returns
+returns c = leaves-system _ _ _ _ (c .before .before .before .before .before .before .before .before .before .before .before .args .t) (c .before .before .before .before .before .before .before .before .before .before .before .args .o) (c .before .before .before .before .before .before .before .before .before .before .before .pre .0) (c .before .before .before .before .before .before .soft-system .ensures) (c .before .before .solve-system .ensures)
+
+pub soft-field-spec : {M : Type 1} → statement M
+soft-field-spec =
+    tie.close (tie.spec soft-system-requires solve-system-requires same-length returns)

@@ -1,0 +1,125 @@
+-- What the second part of a pass reads from the work slices, requires of them and leaves there. Definitions only.
+use Prim.Native.Nat.{ℕ, _+_, _≤_, _<_}
+use mathlib.Core.Path.{_≡_}
+use mathlib.Core.Bool.{Bool, not, _&&_}
+use mathlib.Core.List.{List}
+use lib.ListN.{length, getD}
+use lib.Ieee.{Float, nan, lt}
+use Rattle.float.specs.Double.{lit}
+use Rattle.linear_cells.specs.Region.{region}
+use Rattle.linear_cells.specs.Cell.{regionC}
+use Rattle.geometry.specs.Edge.{alignmentWeight}
+use Rattle.linear_hermitian.specs.declared.Hermitian.{Hermitian}
+use Rattle.linear_hermitian.specs.Work.{matrix}
+use Rattle.linear_conjugate_gradient.specs.declared.Vectors.{Vectors}
+use Rattle.pass_inverse_iteration.specs.declared.Outer.{Outer}
+use Rattle.pass_inverse_iteration.specs.Inverse.{inverseOf}
+use Rattle.pass_inverse_iteration.specs.Work.{PlaneRoom, startIn}
+use Rattle.pass_soft.specs.declared.Terms.{Terms}
+use Rattle.pass_soft.specs.Work.{systemIn, termsIn}
+use Rattle.pass_constraints.specs.Constraints.{boundaryData}
+use Rattle.pass_systems.specs.Systems.{softSystem}
+use Rattle.pass_systems.specs.Work.{SystemRoom}
+use Rattle.pass_refusal.specs.declared.Stage.{Stage}
+use Rattle.pass_options.specs.declared.Options.{Options}
+use Rattle.pass_options.specs.declared.BoundaryMode.{BoundaryMode}
+use Rattle.pass_options.specs.Options.{guidanceOf}
+use Rattle.pass_options.specs.Pass.{Passed, field, stageOf}
+use Rattle.pass_layout.specs.declared.Layout.{Layout}
+use Rattle.pass_layout.specs.Matrices.{massAt, energyAt}
+use Rattle.pass_layout.specs.Work.{floorIn, guidanceIn, fromIn, toIn}
+use Rattle.pass_branches.specs.declared.Search.{Search}
+use Rattle.pass_branches.specs.Branches.{Built, afterVector, linear, free, weak, tangent, byMode, branchOf}
+
+-- the matrices with m edges that stand in the slices
+abbrev pub builtIn : Layout → ℕ → Float → List Float → List ℕ → Built
+builtIn l m trace w u = record { mass = matrix w (massAt l m) (fromIn l m u) (toIn l m u); energy = matrix w (energyAt l m) (fromIn l m u) (toIn l m u); trace = trace }
+
+-- the field that is asked for
+unfoldable pub soughtIn : Layout → ℕ → Options → Search → List Float → List ℕ → Passed
+soughtIn l m o s w u = branchOf (builtIn l m (s .trace) w u) (floorIn l w u) o (guidanceOf (s .guided) (s .weight) (guidanceIn l w)) (s .iterations)
+
+-- what a pass found, in the slices: the answer, and the field where there is one. All before the angles stays as it was; behind them the f64 work is free,
+-- and the u32 work is as it was before `words`
+pub record Finds (l : Layout) (words : ℕ) (p : Passed) (w : List Float) (u : List ℕ) (w′ : List Float) (u′ : List ℕ) (r : Stage) : Type 0 where
+  pub answer : r ≡ stageOf p
+  pub found : (alpha : List Float) → p ≡ field alpha → region nan w′ (l .angles) (l .points) ≡ alpha
+  pub all-reals : length w′ ≡ length w
+  pub all-words : length u′ ≡ length u
+  pub reals-below : (j : ℕ) → j < l .angles → getD w′ j nan ≡ getD w j nan
+  pub words-below : (j : ℕ) → j < words → getD u′ j 0 ≡ getD u j 0
+
+-- ---- the f64 work alone
+
+-- the same of it, with n angles at `at`
+pub record Leaves (w w′ : List Float) (at n : ℕ) (p : Passed) (r : Stage) : Type 0 where
+  pub answer : r ≡ stageOf p
+  pub found : (alpha : List Float) → p ≡ field alpha → region nan w′ at n ≡ alpha
+  pub all-reals : length w′ ≡ length w
+  pub reals-below : (j : ℕ) → j < at → getD w′ j nan ≡ getD w j nan
+
+-- where the branches read and write, by the matrices and the solver's vectors: the angles and the guidance lie below the matrix at h, and the coordinates
+-- below the vectors
+pub record BranchRoom (len : ℕ) (h mass : Hermitian) (l : Vectors) (at : ℕ) (t : Terms) (o : Outer) : Type 0 where
+  pub system-room : SystemRoom len h mass l t
+  pub plane-room : PlaneRoom (h .size) l o
+  pub angles-below : at + h .size ≤ h .diagonal
+  pub angles-below-off : at + h .size ≤ h .off
+
+-- the soft terms that are asked for
+abbrev pub termsAt : Layout → Options → Search → Terms
+termsAt l o s = record { guided = s .guided; weight = s .weight; theta = l .guidance; alignment = alignmentWeight (o .anisotropy); angle = o .«anisotropy_angle» }
+
+-- none of them acts
+unfoldable pub noneActs : Terms → Bool
+noneActs t = not (lt (lit 0) (t .alignment)) && not (t .guided && lt (lit 0) (t .weight))
+
+-- ---- the branches' promises, over the matrices in the slice
+
+abbrev pub LeavesLinear : (w w′ : List Float) (h : Hermitian) (l : Vectors) (at iterations : ℕ) (from to : List ℕ) → Stage → Type 0
+LeavesLinear w w′ h l at iterations from to r = Leaves w w′ at (h .size) (linear (h .size) iterations (systemIn w h l from to)) r
+
+abbrev pub LeavesSoft : (w w′ : List Float) (h mass : Hermitian) (at : ℕ) (from to : List ℕ) (t : Terms) (o : Outer) → Stage → Type 0
+LeavesSoft w w′ h mass at from to t o r =
+    Leaves w w′ at (h .size) (linear (h .size) (o .iterations) (softSystem (matrix w mass from to) (matrix w h from to) (termsIn w h t) (h .size))) r
+
+abbrev pub pairIn : List Float → Hermitian → Hermitian → List ℕ → List ℕ → Float → Built
+pairIn w h mass from to trace = record { mass = matrix w mass from to; energy = matrix w h from to; trace = trace }
+
+abbrev pub LeavesVector : (w w′ : List Float) (h mass : Hermitian) (at : ℕ) (from to : List ℕ) (o : Outer) → Stage → Type 0
+LeavesVector w w′ h mass at from to o r =
+    Leaves w w′ at (h .size) (afterVector (inverseOf (matrix w mass from to) (matrix w h from to) (o .trace) (o .iterations) (startIn w o (h .size)))) r
+
+abbrev pub LeavesFree : (w w′ : List Float) (h mass : Hermitian) (at : ℕ) (from to : List ℕ) (t : Terms) (o : Outer) → Stage → Type 0
+LeavesFree w w′ h mass at from to t o r =
+    Leaves w w′ at (h .size) (free (pairIn w h mass from to (o .trace)) (h .size) (startIn w o (h .size)) (termsIn w h t) (o .iterations)) r
+
+abbrev pub LeavesWeak : (w w′ : List Float) (h mass : Hermitian) (targets at : ℕ) (weight : Float) (flags from to : List ℕ) (t : Terms) (o : Outer) → Stage → Type 0
+LeavesWeak w w′ h mass targets at weight flags from to t o r =
+    Leaves w w′ at (h .size) (weak weight (pairIn w h mass from to (o .trace)) (h .size) flags (regionC w targets (h .size)) (termsIn w h t) (o .iterations)) r
+
+abbrev pub LeavesTangent : (w w′ : List Float) (h mass : Hermitian) (targets at : ℕ) (flags from to : List ℕ) (t : Terms) (o : Outer) → Stage → Type 0
+LeavesTangent w w′ h mass targets at flags from to t o r =
+    Leaves w w′ at (h .size) (tangent (pairIn w h mass from to (o .trace)) (h .size) flags (regionC w targets (h .size)) (termsIn w h t) (o .iterations)) r
+
+abbrev pub LeavesBy : (mode : BoundaryMode) (w w′ : List Float) (h mass : Hermitian) (targets at : ℕ) (flags from to : List ℕ) (t : Terms) (o : Outer) → Stage → Type 0
+LeavesBy mode w w′ h mass targets at flags from to t o r =
+    Leaves w w′ at (h .size)
+    (byMode mode (pairIn w h mass from to (o .trace)) (h .size) flags (regionC w targets (h .size)) (startIn w o (h .size)) (termsIn w h t) (o .iterations))
+    r
+
+-- ---- and at a layout, with the flags and the targets that stand there
+
+abbrev pub outerAt : Layout → Search → Outer
+outerAt l s = record { x = l .x; y = l .y; trace = s .trace; iterations = s .iterations }
+
+abbrev pub flagsAt : Layout → List ℕ → List ℕ
+flagsAt l u = region 0 u (l .flags) (l .points)
+
+abbrev pub LeavesAt : (l : Layout) (m : ℕ) (o : Options) (s : Search) (w w′ : List Float) (u : List ℕ) → Stage → Type 0
+LeavesAt l m o s w w′ u r =
+    LeavesBy (o .boundary) w w′ (energyAt l m) (massAt l m) (l .targets) (l .angles) (flagsAt l u) (fromIn l m u) (toIn l m u) (termsAt l o s) (outerAt l s) r
+
+-- off the boundary the targets are 0
+abbrev pub Bounds : Layout → List Float → List ℕ → Type 0
+Bounds l w u = boundaryData (flagsAt l u) (regionC w (l .targets) (l .points)) ≡ regionC w (l .targets) (l .points)

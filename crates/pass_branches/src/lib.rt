@@ -1,0 +1,332 @@
+// The second part of a pass: from the two matrices to the field, by the branch that the options choose. It refuses by rows 23 and 24.
+// specs/Branches.antt says what each branch finds, and specs/Work.antt where it stands. `flag` has a flag for each point, 1 where it lies on the boundary,
+// and `from` and `to` the ends of the edges.
+use linear_conjugate_gradient::Vectors;
+use linear_hermitian::Hermitian;
+use pass_boundary::Listing;
+use pass_boundary::Planes;
+use pass_inverse_iteration::Outer;
+use pass_layout::Layout;
+use pass_options::BoundaryMode;
+use pass_options::Options;
+use pass_refusal::Stage;
+use pass_soft::Terms;
+ghost use mathlib.Core.Path.{_≡_};
+ghost use mathlib.Core.Bool.{true};
+ghost use Prim.Native.Nat.{_+_, _≤_};
+ghost use lib.ListN.{length};
+ghost use Rattle.linear_cells.specs.Cell.{regionC};
+ghost use Rattle.linear_hermitian.specs.Work.{Graph};
+ghost use Rattle.linear_conjugate_gradient.specs.Work.{SolverRoom};
+ghost use Rattle.pass_inverse_iteration.specs.Work.{PencilRoom, PlaneRoom, Graphs};
+ghost use Rattle.pass_constraints.specs.Constraints.{boundaryData};
+ghost use Rattle.pass_systems.specs.Work.{TargetRoom};
+ghost use Rattle.pass_options.specs.declared.BoundaryMode.the-variants.{Tangent};
+ghost use Rattle.pass_layout.specs.Layout.{Ordered};
+ghost use Rattle.pass_layout.specs.Work.{Edged};
+ghost use Rattle.pass_branches.specs.Branches.{acts};
+ghost use Rattle.pass_branches.specs.Work.{soughtIn, Finds, BranchRoom, termsAt, noneActs};
+ghost use Rattle.pass_branches.specs.Work.{LeavesLinear, LeavesSoft, LeavesVector, LeavesFree, LeavesWeak, LeavesTangent, LeavesBy, LeavesAt, Bounds};
+
+// What else the field depends on: whether guidance is given, and its weight; the trace of the energy matrix before its shift; how many outer iterations
+// there may be.
+pub struct Search {
+    pub guided: bool,
+    pub weight: f64,
+    pub trace: f64,
+    pub iterations: usize,
+}
+
+// The angles of the solution of the system of the matrix at h and the right-hand side in the solver's residual.
+fn solve_system(
+    w: &mut [f64],
+    h: Hermitian,
+    l: Vectors,
+    angles: usize,
+    iterations: usize,
+    from: &[u32],
+    to: &[u32],
+) -> Stage
+    requires { ⌜ SolverRoom (length (now w)) h l × (angles + h .size ≤ l .x) ⌝ }
+    requires { ⌜ Graph h (now from) (now to) ⌝ }
+    ensures { λ r. ⌜ LeavesLinear (now (w .entry)) (now (w .exit)) h l angles iterations (now (from .entry)) (now (to .entry)) r ⌝ }
+{
+    let most = pass_solution::linear_most(h.size, iterations);
+    let s = pass_solution::solve(w, h, l, from, to, most);
+    let Stage::Done = s else {
+        return s;
+    };
+    pass_field::angles_from(w, l.x, angles, h.size)
+}
+
+// The soft terms alone.
+fn soft_field(
+    w: &mut [f64],
+    h: Hermitian,
+    mass: Hermitian,
+    l: Vectors,
+    angles: usize,
+    t: Terms,
+    o: Outer,
+    from: &[u32],
+    to: &[u32],
+) -> Stage
+    requires { ⌜ BranchRoom (length (now w)) h mass l angles t o ⌝ }
+    requires { ⌜ Graphs mass h (now from) (now to) ⌝ }
+    ensures { λ r. ⌜ LeavesSoft (now (w .entry)) (now (w .exit)) h mass angles (now (from .entry)) (now (to .entry)) t o r ⌝ }
+{
+    pass_systems::soft_system(w, h, mass, l, from, to, t);
+    solve_system(w, h, l, angles, o.iterations, from, to)
+}
+
+// The boundary held by a penalty.
+fn weak_field(
+    w: &mut [f64],
+    h: Hermitian,
+    mass: Hermitian,
+    l: Vectors,
+    targets: usize,
+    angles: usize,
+    weight: f64,
+    t: Terms,
+    o: Outer,
+    flag: &[u32],
+    from: &[u32],
+    to: &[u32],
+) -> Stage
+    requires { ⌜ BranchRoom (length (now w)) h mass l angles t o × TargetRoom (length (now w)) h l targets ⌝ }
+    requires { ⌜ Graphs mass h (now from) (now to) × (length (now flag) ≡ h .size) ⌝ }
+    ensures { λ r. ⌜ LeavesWeak (now (w .entry)) (now (w .exit)) h mass targets angles weight (now (flag .entry)) (now (from .entry)) (now (to .entry)) t o r ⌝ }
+{
+    pass_systems::weak_system(w, h, mass, l, targets, weight, flag, from, to, t);
+    solve_system(w, h, l, angles, o.iterations, from, to)
+}
+
+// The boundary held exactly.
+fn tangent_field(
+    w: &mut [f64],
+    h: Hermitian,
+    mass: Hermitian,
+    l: Vectors,
+    targets: usize,
+    angles: usize,
+    t: Terms,
+    o: Outer,
+    flag: &[u32],
+    from: &[u32],
+    to: &[u32],
+) -> Stage
+    requires { ⌜ BranchRoom (length (now w)) h mass l angles t o × TargetRoom (length (now w)) h l targets ⌝ }
+    requires { ⌜ Graphs mass h (now from) (now to) × (length (now flag) ≡ h .size) ⌝ }
+    requires { ⌜ boundaryData (now flag) (regionC (now w) targets (h .size)) ≡ regionC (now w) targets (h .size) ⌝ }
+    ensures { λ r. ⌜ LeavesTangent (now (w .entry)) (now (w .exit)) h mass targets angles (now (flag .entry)) (now (from .entry)) (now (to .entry)) t o r ⌝ }
+{
+    pass_systems::tangent_system(w, h, mass, l, targets, flag, from, to, t);
+    solve_system(w, h, l, angles, o.iterations, from, to)
+}
+
+// The eigenvector of the smallest eigenvalue.
+fn vector_field(
+    w: &mut [f64],
+    h: Hermitian,
+    mass: Hermitian,
+    l: Vectors,
+    angles: usize,
+    o: Outer,
+    from: &[u32],
+    to: &[u32],
+) -> Stage
+    requires { ⌜ (PencilRoom (length (now w)) mass h l × PlaneRoom (h .size) l o) × (angles + h .size ≤ l .x) ⌝ }
+    requires { ⌜ Graphs mass h (now from) (now to) ⌝ }
+    ensures { λ r. ⌜ LeavesVector (now (w .entry)) (now (w .exit)) h mass angles (now (from .entry)) (now (to .entry)) o r ⌝ }
+{
+    let s = pass_inverse_iteration::inverse_iteration(w, mass, h, l, from, to, o);
+    let Stage::Done = s else {
+        return s;
+    };
+    pass_field::angles_from(w, l.x, angles, h.size)
+}
+
+// Whether no soft term acts.
+fn none_acts(t: Terms) -> bool
+    ensures { λ r. ⌜ r ≡ noneActs t ⌝ }
+{
+    if t.alignment > 0.0 {
+        return false;
+    }
+    if t.guided {
+        return !(t.weight > 0.0);
+    }
+    true
+}
+
+// No boundary mode acts.
+fn free_field(
+    w: &mut [f64],
+    h: Hermitian,
+    mass: Hermitian,
+    l: Vectors,
+    angles: usize,
+    t: Terms,
+    o: Outer,
+    from: &[u32],
+    to: &[u32],
+) -> Stage
+    requires { ⌜ BranchRoom (length (now w)) h mass l angles t o ⌝ }
+    requires { ⌜ Graphs mass h (now from) (now to) ⌝ }
+    ensures { λ r. ⌜ LeavesFree (now (w .entry)) (now (w .exit)) h mass angles (now (from .entry)) (now (to .entry)) t o r ⌝ }
+{
+    if none_acts(t) {
+        return vector_field(w, h, mass, l, angles, o, from, to);
+    }
+    soft_field(w, h, mass, l, angles, t, o, from, to)
+}
+
+// The branch of a boundary mode.
+fn field_by(
+    mode: BoundaryMode,
+    w: &mut [f64],
+    h: Hermitian,
+    mass: Hermitian,
+    l: Vectors,
+    targets: usize,
+    angles: usize,
+    t: Terms,
+    o: Outer,
+    flag: &[u32],
+    from: &[u32],
+    to: &[u32],
+) -> Stage
+    requires { ⌜ BranchRoom (length (now w)) h mass l angles t o × TargetRoom (length (now w)) h l targets ⌝ }
+    requires { ⌜ Graphs mass h (now from) (now to) × (length (now flag) ≡ h .size) ⌝ }
+    requires { ⌜ (mode ≡ Tangent → boundaryData (now flag) (regionC (now w) targets (h .size)) ≡ regionC (now w) targets (h .size)) ⌝ }
+    ensures { λ r. ⌜ LeavesBy mode (now (w .entry)) (now (w .exit)) h mass targets angles (now (flag .entry)) (now (from .entry)) (now (to .entry)) t o r ⌝ }
+{
+    match mode {
+        BoundaryMode::None => free_field(w, h, mass, l, angles, t, o, from, to),
+        BoundaryMode::Tangent => {
+            tangent_field(w, h, mass, l, targets, angles, t, o, flag, from, to)
+        }
+        BoundaryMode::Weak(weight) => {
+            if weight > 0.0 {
+                return weak_field(w, h, mass, l, targets, angles, weight, t, o, flag, from, to);
+            }
+            free_field(w, h, mass, l, angles, t, o, from, to)
+        }
+    }
+}
+
+// Whether a boundary mode acts.
+fn acts_on(mode: BoundaryMode) -> bool
+    ensures { λ r. ⌜ r ≡ acts mode ⌝ }
+{
+    match mode {
+        BoundaryMode::None => false,
+        BoundaryMode::Tangent => true,
+        BoundaryMode::Weak(weight) => weight > 0.0,
+    }
+}
+
+fn terms_of(l: Layout, o: Options, s: Search) -> Terms
+    ensures { λ r. ⌜ r ≡ termsAt l o s ⌝ }
+{
+    Terms {
+        guided: s.guided,
+        weight: s.weight,
+        theta: l.guidance,
+        alignment: geometry::anisotropy_alignment_weight(o.anisotropy),
+        angle: o.anisotropy_angle,
+    }
+}
+
+// The field of what stands at l, with the flags and the targets there.
+fn field_at(w: &mut [f64], u: &[u32], l: Layout, edges: usize, o: Options, s: Search) -> Stage
+    requires { ⌜ Ordered l (length (now w)) (length (now u)) ⌝ }
+    requires { ⌜ Edged l edges (now u) × (o .boundary ≡ Tangent → Bounds l (now w) (now u)) ⌝ }
+    ensures { λ r. ⌜ LeavesAt l edges o s (now (w .entry)) (now (w .exit)) (now (u .entry)) r ⌝ }
+{
+    let flags = l.flags;
+    let flags_end = flags + l.points;
+    let flag = &u[flags..flags_end];
+    let lower = l.from;
+    let lower_end = lower + edges;
+    let from = &u[lower..lower_end];
+    let upper = l.to;
+    let upper_end = upper + edges;
+    let to = &u[upper..upper_end];
+    let t = terms_of(l, o, s);
+    let outer = Outer {
+        x: l.x,
+        y: l.y,
+        trace: s.trace,
+        iterations: s.iterations,
+    };
+    let h = pass_layout::energy_at(l, edges);
+    let mass = pass_layout::mass_at(l, edges);
+    let vectors = pass_layout::vectors_at(l);
+    let mode = o.boundary;
+    field_by(
+        mode,
+        w,
+        h,
+        mass,
+        vectors,
+        l.targets,
+        l.angles,
+        t,
+        outer,
+        flag,
+        from,
+        to,
+    )
+}
+
+// A boundary mode acts: row 23, or the field with its flags and targets.
+fn held_field(w: &mut [f64], u: &mut [u32], l: Layout, edges: usize, o: Options, s: Search) -> Stage
+    requires { ⌜ Ordered l (length (now w)) (length (now u)) ⌝ }
+    requires { ⌜ Edged l edges (now u) × (acts (o .boundary) ≡ true) ⌝ }
+    ensures { λ r. ⌜ Finds l (l .counts) (soughtIn l edges o s (now (w .entry)) (now (u .entry))) (now (w .entry)) (now (u .entry)) (now (w .exit)) (now (u .exit)) r ⌝ }
+{
+    let listing = Listing {
+        triangles: l.triangles,
+        sides: edges,
+        buckets: l.buckets,
+        corners: l.given,
+        numbers: l.numbers,
+        table: l.table,
+        counts: l.counts,
+        flags: l.flags,
+    };
+    let planes = Planes {
+        points: l.points,
+        x: l.x,
+        y: l.y,
+        targets: l.targets,
+        first: l.direction,
+    };
+    let sides = pass_boundary::boundary_targets(w, u, listing, planes);
+    if sides == 0 {
+        return pass_refusal::refused(23, 0);
+    }
+    field_at(w, u, l, edges, o, s)
+}
+
+// The angles of the field over the floor with so many edges, whose matrices stand at l.
+pub fn find_field(
+    w: &mut [f64],
+    u: &mut [u32],
+    l: Layout,
+    edges: usize,
+    o: Options,
+    s: Search,
+) -> Stage
+    requires { ⌜ Ordered l (length (now w)) (length (now u)) ⌝ }
+    requires { ⌜ Edged l edges (now u) ⌝ }
+    ensures { λ r. ⌜ Finds l (l .counts) (soughtIn l edges o s (now (w .entry)) (now (u .entry))) (now (w .entry)) (now (u .entry)) (now (w .exit)) (now (u .exit)) r ⌝ }
+{
+    let mode = o.boundary;
+    if acts_on(mode) {
+        return held_field(w, u, l, edges, o, s);
+    }
+    field_at(w, u, l, edges, o, s)
+}

@@ -1,0 +1,74 @@
+-- A floor and its guidance laid out for a pass: the slice with its planes stored, and what the pass over it finds. Definitions only.
+use Prim.Native.Nat.{ℕ, _+_, _*_, _/_, _≤_, _<_}
+use mathlib.Core.Path.{_≡_}
+use mathlib.Core.Bool.{Bool, true, cond}
+use mathlib.Core.List.{List}
+use lib.ListN.{length, getD}
+use lib.Ieee.{Float, nan}
+use Rattle.linear_cells.specs.Region.{region, put}
+use Rattle.mesh.specs.Mesh.{Side, Tri}
+use Rattle.areas.specs.Points.{morePoints, moreSizes}
+use Rattle.edges.specs.declared.Table.{Table}
+use Rattle.edges.specs.Table.{endOf}
+use Rattle.edges.specs.Numbering.{trisFrom}
+use Rattle.refine_floor.specs.Guidance.{moreAngles}
+use Rattle.pass_planes.specs.declared.Mean.the-variants.{Half, Angle}
+use Rattle.pass_planes.specs.Planes.{cutsIn, coordinatePlane, valuePlane}
+use Rattle.pass_layout.specs.declared.Base.{Base}
+use Rattle.pass_layout.specs.declared.Layout.{Layout}
+use Rattle.pass_layout.specs.Layout.{Fits}
+use Rattle.pass_refusal.specs.declared.Stage.{Stage}
+use Rattle.pass_options.specs.declared.Options.{Options}
+use Rattle.pass_options.specs.Options.{guidanceOf}
+use Rattle.pass_options.specs.Pass.{Passed, field, stageOf, floorOf}
+use Rattle.pass.specs.declared.Asked.{Asked}
+use Rattle.pass.specs.Pass.{passOf}
+
+-- ---- the slice with the planes
+
+unfoldable pub pointsLaid : List Float → List Float → List Side → Layout → List Float → List Float
+pointsLaid points sizes cuts l w = put (put (put w (l .x) (coordinatePlane points cuts 0)) (l .y) (coordinatePlane points cuts 1)) (l .sizes) (valuePlane Half sizes cuts)
+
+unfoldable pub guidanceLaid : Bool → List Float → List Side → Layout → List Float → List Float
+guidanceLaid guided angles cuts l w = cond guided (put w (l .guidance) (valuePlane Angle angles cuts)) w
+
+-- ---- what the pass over it finds
+
+unfoldable pub passOver : Options → Asked → List Float → List Float → List Float → List Side → List Tri → Passed
+passOver o a points sizes angles cuts ts =
+    passOf (floorOf (morePoints points cuts) ts (moreSizes sizes cuts)) o (guidanceOf (a .guided) (a .weight) (moreAngles angles cuts)) (a .iterations)
+
+-- the same, of the cut sides and the triangles that stand in the u32 work
+abbrev pub passAt : Base → Options → Asked → Table → List Float → List Float → List Float → List ℕ → Passed
+passAt at o a t points sizes angles u = passOver o a points sizes angles (cutsIn t u) (trisFrom (at .words) u (at .triangles))
+
+-- ---- lengths and offsets
+
+pub record LayRoom (points sizes : ℕ) (t : Table) (numbers : ℕ) (l : Layout) (work : ℕ) : Type 0 where
+  pub whole : points ≡ 3 * (points / 3)
+  pub sized : sizes ≡ points / 3
+  pub table-in : endOf t ≤ numbers
+  pub x-in : l .x + (points / 3 + t .sides) ≤ work
+  pub y-in : l .y + (points / 3 + t .sides) ≤ work
+  pub sizes-in : l .sizes + (points / 3 + t .sides) ≤ work
+
+pub record GuidanceRoom (guided : Bool) (angles : ℕ) (t : Table) (numbers : ℕ) (l : Layout) (work : ℕ) : Type 0 where
+  pub table-in : endOf t ≤ numbers
+  pub guidance-in : guided ≡ true → l .guidance + (angles + t .sides) ≤ work
+
+-- a floor of these points, sizes and cut sides, with that guidance, can be laid out and passed over where it begins at `at`
+pub record LaidRoom (at : Base) (guided : Bool) (points sizes angles : ℕ) (t : Table) (work numbers : ℕ) : Type 0 where
+  pub whole : points ≡ 3 * (points / 3)
+  pub sized : sizes ≡ points / 3
+  pub guided-all : guided ≡ true → angles ≡ points / 3
+  pub table-in : endOf t ≤ numbers
+  pub all-points : at .points ≡ points / 3 + t .sides
+  pub fits : Fits at work numbers
+
+-- ---- a pass that was made where it begins at `at`: its answer, and its angles where it has some; nothing before them has changed
+pub record Made (at : Base) (p : Passed) (w w′ : List Float) (u u′ : List ℕ) (r : Stage) : Type 0 where
+  pub answer : r ≡ stageOf p
+  pub found : (alpha : List Float) → p ≡ field alpha → region nan w′ (at .reals) (at .points) ≡ alpha
+  pub all-reals : length w′ ≡ length w
+  pub all-words : length u′ ≡ length u
+  pub reals-below : (j : ℕ) → j < at .reals → getD w′ j nan ≡ getD w j nan

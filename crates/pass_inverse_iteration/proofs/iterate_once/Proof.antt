@@ -1,0 +1,44 @@
+-- `pass_inverse_iteration::iterate_once` meets its contract: each return is one case of the chain; the laws are in proofs/Iterations.
+use Rattle.pass_solution.proofs.Chains.{not-done}
+use Rattle.pass_inverse_iteration.proofs.Judgements.{same-pencil}
+use Rattle.pass_inverse_iteration.proofs.Iterations.{iteration-refused, iteration-judged}
+use borrow.Author.Needs.{needs}
+use Rattle.pass_inverse_iteration.proofs.iterate_once.Statement.{statement}
+use Rattle.pass_inverse_iteration.proofs.iterate_once.Tie as tie
+
+next-requires : tie.Need-next-requires
+next-requires c κs = c .before .before .before .before .pre
+
+enum-told : tie.Need-enum-told
+enum-told c = search needs
+
+enum-told-2 : tie.Need-enum-told-2
+enum-told-2 c = search needs
+
+same-length : tie.Need-same-length
+same-length c = search needs
+
+returns : tie.Need-returns
+returns c = iteration-refused _ _ _ _ _ _ _ (c .before .before .before .before .before .before .before .before .before .pre .0) (c .before .before .before .before .next .ensures) (not-done (c .enum-told2 .given .1))
+
+judge-requires : tie.Need-judge-requires
+judge-requires c κs = (same-pencil (search needs) _ _ _ (c .before .before .before .before .before .before .before .before .before .before .pre .0), c .before .before .before .before .before .before .before .before .before .before .pre .1)
+
+same-length-2 : tie.Need-same-length-2
+same-length-2 c = search needs
+
+returns-2 : tie.Need-returns-2
+returns-2 c = iteration-judged _ _ _ _ _ _ _ (c .before .before .before .before .before .before .before .before .before .before .before .before .before .pre .0) (c .before .before .before .before .before .before .before .before .next .ensures) (c .before .before .before .before .enum-told .given .1) (c .before .before .judge .ensures)
+
+pub iterate-once-spec : {M : Type 1} → statement M
+iterate-once-spec =
+    tie.close
+    (tie.spec
+    next-requires
+    enum-told
+    enum-told-2
+    same-length
+    returns
+    judge-requires
+    same-length-2
+    returns-2)

@@ -1,0 +1,82 @@
+-- The inverse iteration of the Rust's `solve_mesh`, lines 1551 to 1621, over lists: the smallest eigenpair of the shifted pencil. Definitions only.
+use Prim.Native.Nat.{ℕ, zero, suc}
+use mathlib.Core.Bool.{not, cond}
+use mathlib.Core.List.{List}
+use lib.IntN.{pos}
+use lib.ListN.{length}
+use lib.Ieee.{Float, binary64, le, ofInt}
+use Rattle.float.specs.Double.{lit, isFinite, notPositive, _⊘_}
+use Rattle.complex.specs.declared.Complex.{Complex}
+use Rattle.linear_hermitian.specs.Hermitian.{Matrix, dotOf, normOf, applied}
+use Rattle.linear_vectors.specs.Vectors.{zipOf, subScaled}
+use Rattle.linear_conjugate_gradient.specs.Solve.{massOf}
+use Rattle.linear_conjugate_gradient.specs.Found.{Found, vector, gave}
+use Rattle.pass_solution.specs.Solution.{onward, solutionOf, innerMost, normalizedOf}
+
+-- OUTER_TOLERANCE, 1e-8
+abbrev pub outerTolerance : Float
+outerTolerance = lit 0x3e45_798e_e230_8c3a
+
+-- both matrices, the energy shifted; the average of the energy's diagonal before its shift; and the most iterations of an inner solve
+pub record Pencil : Type 0 where
+  pub mass : Matrix
+  pub energy : Matrix
+  pub average : Float
+  pub most : ℕ
+
+-- ---- an iteration, from the iterate x
+
+-- the next iterate, normalised
+unfoldable pub nextOf : Pencil → List Complex → Found
+nextOf p x = onward (solutionOf (p .energy) (p .most) (applied (p .mass) x)) (normalizedOf (p .mass))
+
+-- the estimate of the eigenvalue: the Rayleigh quotient
+unfoldable pub estimateOf : Pencil → List Complex → Float
+estimateOf p next = dotOf next (applied (p .energy) next) .re ⊘ massOf (p .mass) next
+
+-- `energy_next - mass_next * lambda`
+unfoldable pub residualBy : Float → Pencil → List Complex → List Complex
+residualBy lambda p next = zipOf (subScaled lambda) (applied (p .energy) next) (applied (p .mass) next)
+
+unfoldable pub relativeOf : Pencil → List Complex → Float
+relativeOf p next = normOf (residualBy (estimateOf p next) p next) ⊘ p .average
+
+-- an iteration leads on with the next iterate, or ends with what is found
+pub data Step : Type 0 where
+  going : List Complex → Step
+  ended : Found → Step
+
+unfoldable pub judged : Pencil → List Complex → Step
+judged p next =
+    cond (notPositive (massOf (p .mass) next)) (ended (gave 10 0))
+    (cond (not (isFinite (estimateOf p next))) (ended (gave 11 0))
+    (cond (le (relativeOf p next) outerTolerance) (ended (vector next)) (going next)))
+
+unfoldable pub judgedBy : Found → (List Complex → Step) → Step
+judgedBy (vector next) f = f next
+judgedBy (gave r i) f = ended (gave r i)
+
+unfoldable pub iterationOf : Pencil → List Complex → Step
+iterationOf p x = judgedBy (nextOf p x) (judged p)
+
+-- ---- the iteration
+
+unfoldable pub after : Step → (List Complex → Found) → Found
+after (going x) f = f x
+after (ended found) f = found
+
+-- at most k iterations
+unfoldable pub iterated : Pencil → ℕ → List Complex → Found
+iterated p zero x = gave 12 0
+iterated p (suc k) x = after (iterationOf p x) (iterated p k)
+
+-- `energy_trace / n as f64`
+unfoldable pub averageOf : Float → ℕ → Float
+averageOf trace n = trace ⊘ ofInt binary64 (pos n)
+
+unfoldable pub pencilOf : Matrix → Matrix → Float → ℕ → Pencil
+pencilOf mass energy trace n = record { mass = mass; energy = energy; average = averageOf trace n; most = innerMost n }
+
+-- from a start vector: mass, the shifted energy, and the trace of the energy before its shift
+unfoldable pub inverseOf : Matrix → Matrix → Float → ℕ → List Complex → Found
+inverseOf mass energy trace iterations start = onward (normalizedOf mass start) (iterated (pencilOf mass energy trace (length start)) iterations)

@@ -1,0 +1,66 @@
+-- The regions of a pass that fits come one after the other, and its floor is what the cells before its areas and before its counter-clockwise corners
+-- hold: it stays while nothing there is written. Assumes nothing.
+use Prim.Native.Nat.{ℕ, _+_, _≤_, _<_}
+use native.Mathlib.Omega.{arith}
+use mathlib.Core.Path.{_≡_}
+use mathlib.Core.List.{List}
+use lib.ListN.{getD}
+use lib.Ieee.{Float, nan}
+use Rattle.linear_cells.specs.Region.{region}
+use Rattle.linear_cells.proofs.Loops.{tab-ext}
+use Rattle.edges.proofs.Numbering.{tris-same}
+use Rattle.pass_layout.specs.declared.Base.{Base}
+use Rattle.pass_layout.specs.declared.Layout.{Layout}
+use Rattle.pass_layout.specs.Layout.{layoutOf, Fits, Ordered}
+use Rattle.pass_layout.specs.Work.{floorIn}
+
+pub fits-ordered : (at : Base) {reals words : ℕ} → Fits at reals words → Ordered (layoutOf at) reals words
+unfolding layoutOf
+fits-ordered at f = record {
+  few-points = f .small .points-small;
+  few-triangles = f .small .triangles-small;
+  angles-in = omega arith;
+  x-in = omega arith;
+  y-in = omega arith;
+  sizes-in = omega arith;
+  guidance-in = omega arith;
+  areas-in = omega arith;
+  gradients-in = omega arith;
+  transports-in = omega arith;
+  mass-in = omega arith;
+  mass-off-in = omega arith;
+  energy-in = omega arith;
+  energy-off-in = omega arith;
+  targets-in = omega arith;
+  iterate-in = omega arith;
+  residual-in = omega arith;
+  direction-in = omega arith;
+  applied-in = omega arith;
+  inverse-in = omega (arith, f .reals-fit);
+  given-in = omega arith;
+  wound-in = omega arith;
+  numbers-in = omega arith;
+  table-in = omega arith;
+  some-buckets = omega arith;
+  few-buckets = omega (arith, f .small .points-small, f .small .triangles-small);
+  from-in = omega arith;
+  to-in = omega arith;
+  counts-in = omega arith;
+  flags-in = omega (arith, f .words-fit);
+}
+
+module _ (l : Layout) {reals words : ℕ} (o : Ordered l reals words) (w w′ : List Float) (u u′ : List ℕ)
+    (same-reals : (j : ℕ) → j < l .areas → getD w′ j nan ≡ getD w j nan) (same-words : (j : ℕ) → j < l .wound → getD u′ j 0 ≡ getD u j 0) where
+  plane : (b : ℕ) → b + l .points ≤ l .areas → region nan w′ b (l .points) ≡ region nan w b (l .points)
+  unfolding region
+  plane b h = tab-ext _ _ (l .points) (λ i g. same-reals (b + i) (omega arith))
+
+  pub floor-stays : floorIn l w′ u′ ≡ floorIn l w u
+  unfolding floorIn
+  floor-stays =
+      rw (
+        plane (l .x) (omega (arith, o .x-in, o .y-in, o .sizes-in, o .guidance-in)),
+        plane (l .y) (omega (arith, o .y-in, o .sizes-in, o .guidance-in)),
+        plane (l .sizes) (omega (arith, o .sizes-in, o .guidance-in)),
+        tris-same (l .given) (l .triangles) u u′ (λ j h. same-words j (omega (arith, o .given-in))),
+      )

@@ -1,0 +1,134 @@
+// Where everything that a pass reads and writes stands in its two work slices: a struct of bases, by value. Every region has room for the most edges that
+// the triangles can have, three each, so that nothing depends on how many there are. specs/Layout.antt says where each is, and how much room all take.
+use linear_conjugate_gradient::Vectors;
+use linear_hermitian::Hermitian;
+ghost use mathlib.Core.Path.{_≡_};
+ghost use Rattle.pass_layout.specs.Layout.{Small, layoutOf};
+ghost use Rattle.pass_layout.specs.Matrices.{massAt, energyAt, vectorsAt};
+
+// Where a pass begins in the f64 and in the u32 work, and how many points and triangles its floor has.
+pub struct Base {
+    pub reals: usize,
+    pub words: usize,
+    pub points: usize,
+    pub triangles: usize,
+}
+
+pub struct Layout {
+    pub points: usize,
+    pub triangles: usize,
+    // In the f64 work: the angles that the pass answers; the floor's points, and the guidance at them.
+    pub angles: usize,
+    pub x: usize,
+    pub y: usize,
+    pub sizes: usize,
+    pub guidance: usize,
+    // The triangles' areas, the points' size gradients with their weights, the edges' transports.
+    pub areas: usize,
+    pub gradients: usize,
+    pub transports: usize,
+    // The two matrices: a diagonal, and behind it the entries off it.
+    pub mass: usize,
+    pub mass_off: usize,
+    pub energy: usize,
+    pub energy_off: usize,
+    // The targets on the boundary, and the vectors of the linear solver.
+    pub targets: usize,
+    pub iterate: usize,
+    pub residual: usize,
+    pub direction: usize,
+    pub applied: usize,
+    pub inverse: usize,
+    // In the u32 work: the corners of the triangles as given, and counter-clockwise; the numbers of their sides.
+    pub given: usize,
+    pub wound: usize,
+    pub numbers: usize,
+    // The table of sides, and how many buckets it has; the lower and the upper ends of the edges.
+    pub table: usize,
+    pub buckets: usize,
+    pub from: usize,
+    pub to: usize,
+    // In how many triangles each side lies, and which points lie on the boundary.
+    pub counts: usize,
+    pub flags: usize,
+}
+
+pub fn layout_at(at: Base) -> Layout
+    requires { ⌜ Small at ⌝ }
+    ensures { λ r. ⌜ r ≡ layoutOf at ⌝ }
+{
+    let b = at.reals;
+    let c = at.words;
+    let n = at.points;
+    let t = at.triangles;
+    let buckets = n + 1;
+    let behind = c + 21 * t + buckets;
+    Layout {
+        points: n,
+        triangles: t,
+        angles: b,
+        x: b + n,
+        y: b + 2 * n,
+        sizes: b + 3 * n,
+        guidance: b + 4 * n,
+        areas: b + 5 * n,
+        gradients: b + 5 * n + t,
+        transports: b + 8 * n + t,
+        mass: b + 8 * n + 7 * t,
+        mass_off: b + 9 * n + 7 * t,
+        energy: b + 9 * n + 13 * t,
+        energy_off: b + 10 * n + 13 * t,
+        targets: b + 10 * n + 19 * t,
+        iterate: b + 12 * n + 19 * t,
+        residual: b + 14 * n + 19 * t,
+        direction: b + 16 * n + 19 * t,
+        applied: b + 18 * n + 19 * t,
+        inverse: b + 20 * n + 19 * t,
+        given: c,
+        wound: c + 3 * t,
+        numbers: c + 6 * t,
+        table: c + 9 * t,
+        buckets,
+        from: behind,
+        to: behind + 3 * t,
+        counts: behind + 6 * t,
+        flags: behind + 9 * t,
+    }
+}
+
+// The mass matrix, with so many edges.
+pub fn mass_at(l: Layout, edges: usize) -> Hermitian
+    ensures { λ r. ⌜ r ≡ massAt l edges ⌝ }
+{
+    Hermitian {
+        size: l.points,
+        edges,
+        diagonal: l.mass,
+        off: l.mass_off,
+    }
+}
+
+// The energy matrix.
+pub fn energy_at(l: Layout, edges: usize) -> Hermitian
+    ensures { λ r. ⌜ r ≡ energyAt l edges ⌝ }
+{
+    Hermitian {
+        size: l.points,
+        edges,
+        diagonal: l.energy,
+        off: l.energy_off,
+    }
+}
+
+// The vectors of the linear solver.
+pub fn vectors_at(l: Layout) -> Vectors
+    ensures { λ r. ⌜ r ≡ vectorsAt l ⌝ }
+{
+    Vectors {
+        x: l.iterate,
+        residual: l.residual,
+        direction: l.direction,
+        applied: l.applied,
+        inverse: l.inverse,
+    }
+}

@@ -1,0 +1,81 @@
+-- `pass_planes::put_corners` meets its contract: the loop keeps what `Inv-loop` says, and what is left to do falls at each turn; the laws are those of crate linear_cells.
+use Rattle.pass_planes.proofs.Points.{list-done}
+use Rattle.linear_cells.specs.Region.{put}
+use Rattle.linear_cells.proofs.Writes.{writeTo, write-none, write-again, write-done}
+use lib.ListN.{length, getD}
+use mathlib.Core.Path.{_≡_}
+use Prim.Native.Nat.{_-_, _≤_}
+use borrow.Author.Needs.{needs}
+use Rattle.pass_planes.proofs.put_corners.Statement.{statement}
+use Rattle.pass_planes.proofs.put_corners.Tie as tie
+use Rattle.pass_planes.proofs.put_corners.Reads as reads
+use Rattle.pass_planes.proofs.put_corners.Lts as lts
+
+abbrev Inv-loop : tie.InvT-loop
+Inv-loop triangles numbers₀ at i₀ i-end numbers i =
+    (i ≤ i-end) × (i-end ≡ length triangles) × (length numbers ≡ length numbers₀) × (numbers ≡ put numbers₀ at (writeTo 0 numbers₀ at (length triangles) (λ j. getD triangles j 0) i))
+
+abbrev μ-loop : tie.MeasureT-loop
+μ-loop triangles numbers₀ at i₀ i-end numbers i = i-end - i
+
+-- src/lib.rt:84:5
+loop-holds : tie.Need-loop-holds Inv-loop μ-loop
+loop-holds c = search (write-none, needs)
+
+-- src/lib.rt:85:27
+mul-numbers : tie.Need-mul-numbers Inv-loop μ-loop
+mul-numbers c = search needs
+
+-- src/lib.rt:85:27
+shared-slice-read-numbers : tie.Need-shared-slice-read-numbers Inv-loop μ-loop
+shared-slice-read-numbers c = search needs
+
+-- src/lib.rt:85:17
+add-numbers : tie.Need-add-numbers Inv-loop μ-loop
+add-numbers c = search needs
+
+-- src/lib.rt:85:9
+mul-numbers-2 : tie.Need-mul-numbers-2 Inv-loop μ-loop
+mul-numbers-2 c = search needs
+
+-- src/lib.rt:85:9
+slice-write-numbers : tie.Need-slice-write-numbers Inv-loop μ-loop
+slice-write-numbers c = search needs
+
+-- src/lib.rt:84:9
+add-i : tie.Need-add-i Inv-loop μ-loop
+add-i c = search needs
+
+-- src/lib.rt:84:5
+loop-less : tie.Need-loop-less Inv-loop μ-loop
+loop-less c = search needs
+
+-- src/lib.rt:84:5
+loop-again : tie.Need-loop-again Inv-loop μ-loop
+loop-again c = search (write-again, needs)
+
+-- src/lib.rt:80:1
+same-length : tie.Need-same-length Inv-loop μ-loop
+same-length c = search needs
+
+-- src/lib.rt:80:1
+returns : tie.Need-returns Inv-loop μ-loop
+returns c = search (list-done, write-done, needs)
+
+pub put-corners-spec : {M : Type 1} → statement M
+put-corners-spec =
+    tie.close
+    (tie.spec
+    Inv-loop
+    μ-loop
+    loop-holds
+    mul-numbers
+    shared-slice-read-numbers
+    add-numbers
+    mul-numbers-2
+    slice-write-numbers
+    add-i
+    loop-less
+    loop-again
+    same-length
+    returns)

@@ -1,0 +1,48 @@
+-- `pass_setup::set_up` meets its contract: each return follows from the tests and the calls on its way; the laws are in proofs/Turn.
+use native.Mathlib.Omega.{arith}
+use Rattle.pass_setup.proofs.Turn.{stays, row-19, turned}
+use Rattle.pass_setup.proofs.Slices.{set-up-then, ordered-now}
+use borrow.Author.Needs.{needs}
+use Rattle.pass_setup.proofs.set_up.Statement.{statement}
+use Rattle.pass_setup.proofs.set_up.Tie as tie
+
+geometries-requires : tie.Need-geometries-requires
+geometries-requires c κs = search needs
+
+refused-requires : tie.Need-refused-requires
+refused-requires c κs = search needs
+
+same-length : tie.Need-same-length
+same-length c = search needs
+
+same-length-2 : tie.Need-same-length-2
+same-length-2 c = search needs
+
+returns : tie.Need-returns
+returns c = row-19 (c .before .before .before .before .before .before .before .before .before .before .before .before .args .l) (c .before .before .before .before .before .before .before .before .before .before .before .before .args .work .now) (c .before .before .before .before .before .before .before .before .before .before .before .before .args .words .now) (c .before .before .before .before .before .before .before .before .before .before .before .before .pre .0) (c .before .before .before .before .before .before .before .before .before .before .before .before .pre .1) (c .before .before .before .before .before .before .before .geometries .ensures) (c .before .if1 .taken) (c .refused .ensures)
+
+take-gradients-requires : tie.Need-take-gradients-requires
+take-gradients-requires c κs = (ordered-now (stays (c .before .before .before .before .before .before .before .before .before .before .before .before .before .args .l) (c .before .before .before .before .before .before .before .before .before .before .before .before .before .args .work .now) (c .before .before .before .before .before .before .before .before .before .before .before .before .before .args .words .now) (c .before .before .before .before .before .before .before .before .before .before .before .before .before .pre .0) (c .before .before .before .before .before .before .before .before .before .before .before .before .before .pre .1) (c .before .before .before .before .before .before .before .before .geometries .ensures)) (c .before .before .before .before .before .before .before .before .before .before .before .before .before .pre .0), turned (c .before .before .before .before .before .before .before .before .before .before .before .before .before .args .l) (c .before .before .before .before .before .before .before .before .before .before .before .before .before .args .work .now) (c .before .before .before .before .before .before .before .before .before .before .before .before .before .args .words .now) (c .before .before .before .before .before .before .before .before .before .before .before .before .before .pre .0) (c .before .before .before .before .before .before .before .before .before .before .before .before .before .pre .1) (c .before .before .before .before .before .before .before .before .geometries .ensures) (omega arith))
+
+same-length-3 : tie.Need-same-length-3
+same-length-3 c = search needs
+
+same-length-4 : tie.Need-same-length-4
+same-length-4 c = search needs
+
+returns-2 : tie.Need-returns-2
+returns-2 c = set-up-then (stays (c .before .before .before .before .before .before .before .before .before .before .before .before .before .before .before .before .before .before .args .l) (c .before .before .before .before .before .before .before .before .before .before .before .before .before .before .before .before .before .before .args .work .now) (c .before .before .before .before .before .before .before .before .before .before .before .before .before .before .before .before .before .before .args .words .now) (c .before .before .before .before .before .before .before .before .before .before .before .before .before .before .before .before .before .before .pre .0) (c .before .before .before .before .before .before .before .before .before .before .before .before .before .before .before .before .before .before .pre .1) (c .before .before .before .before .before .before .before .before .before .before .before .before .before .geometries .ensures)) (c .before .before .before .before .take-gradients .ensures)
+
+pub set-up-spec : {M : Type 1} → statement M
+set-up-spec =
+    tie.close
+    (tie.spec
+    geometries-requires
+    refused-requires
+    same-length
+    same-length-2
+    returns
+    take-gradients-requires
+    same-length-3
+    same-length-4
+    returns-2)

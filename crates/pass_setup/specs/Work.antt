@@ -1,0 +1,90 @@
+-- What the first part of a pass leaves in the work slices, stage by stage. Definitions only.
+use Prim.Native.Nat.{ℕ, _+_, _*_, _<_}
+use mathlib.Core.Path.{_≡_}
+use mathlib.Core.List.{List}
+use lib.ListN.{length, getD}
+use lib.Ieee.{Float, nan}
+use Rattle.linear_cells.specs.Region.{region}
+use Rattle.linear_cells.specs.Cell.{regionC}
+use Rattle.edges.specs.Table.{NumbersOf}
+use Rattle.edges.specs.Numbering.{triFrom, Below}
+use Rattle.floor.specs.declared.Check.the-variants.{Sound}
+use Rattle.floor.specs.Floor.{Floor, trianglesOf, triangleAt}
+use Rattle.pass_geometries.specs.declared.Plan as geometries
+use Rattle.pass_gradients.specs.declared.Plan as gradients
+use Rattle.pass_transports.specs.declared.Plan as transports
+use Rattle.pass_layout.specs.declared.Layout.{Layout}
+use Rattle.pass_layout.specs.Work.{floorIn, fromIn, toIn, Edged}
+use Rattle.pass_setup.specs.declared.Setup.{Setup}
+use Rattle.pass_setup.specs.declared.Setup.the-variants.{Edges}
+use Rattle.pass_setup.specs.Setup.{degenerateOf, woundOf, areasOf, meansOf, gradientsX, gradientsY, edgesOf, lowersOf, uppersOf, transportsOf, setupOf}
+
+-- ---- where the stages read and write
+
+abbrev pub geometriesAt : Layout → geometries.Plan
+geometriesAt l = record { points = l .points; triangles = l .triangles; x = l .x; y = l .y; areas = l .areas; given = l .given; wound = l .wound }
+
+abbrev pub gradientsAt : Layout → gradients.Plan
+gradientsAt l = record {
+  points = l .points;
+  triangles = l .triangles;
+  x = l .x;
+  y = l .y;
+  sizes = l .sizes;
+  areas = l .areas;
+  gradients = l .gradients;
+  wound = l .wound;
+}
+
+abbrev pub transportsAt : Layout → transports.Plan
+transportsAt l = record { points = l .points; x = l .x; y = l .y; sizes = l .sizes; gradients = l .gradients; transports = l .transports }
+
+-- ---- what stands there of the floor f: after row 19, after rows 20 and 21, and after its m edges were numbered
+
+pub record Turned (l : Layout) (f : Floor) (w : List Float) (u : List ℕ) : Type 0 where
+  pub floor : floorIn l w u ≡ f
+  pub given-below : Below (l .points) (l .given) u (3 * l .triangles)
+  pub none : degenerateOf f ≡ trianglesOf f
+  pub areas : region nan w (l .areas) (l .triangles) ≡ areasOf f
+  pub corners : (i : ℕ) → i < l .triangles → triFrom (l .wound) u i ≡ triangleAt (woundOf f) i
+  pub corners-below : Below (l .points) (l .wound) u (3 * l .triangles)
+
+pub record Averaged (l : Layout) (f : Floor) (w : List Float) (u : List ℕ) : Type 0 where
+  pub turned : Turned l f w u
+  pub sound : meansOf f ≡ Sound
+  pub all-x : region nan w (l .gradients) (l .points) ≡ gradientsX f
+  pub all-y : region nan w (l .gradients + l .points) (l .points) ≡ gradientsY f
+
+pub record Joined (l : Layout) (m : ℕ) (f : Floor) (w : List Float) (u : List ℕ) : Type 0 where
+  pub averaged : Averaged l f w u
+  pub all-edges : m ≡ length (edgesOf f)
+  pub numbers : (i : ℕ) → i < l .triangles
+      → NumbersOf (triangleAt (woundOf f) i) (edgesOf f) (getD u (l .numbers + 3 * i) 0) (getD u (l .numbers + 3 * i + 1) 0) (getD u (l .numbers + 3 * i + 2) 0)
+  pub lowers : fromIn l m u ≡ lowersOf f
+  pub uppers : toIn l m u ≡ uppersOf f
+  pub edged : Edged l m u
+
+-- ---- what is left in the end
+
+-- what stands there of the floor f with m edges
+pub record Stands (l : Layout) (m : ℕ) (f : Floor) (w : List Float) (u : List ℕ) : Type 0 where
+  pub all-edges : m ≡ length (edgesOf f)
+  pub areas : region nan w (l .areas) (l .triangles) ≡ areasOf f
+  pub transports : regionC w (l .transports) m ≡ transportsOf f
+  pub corners : (i : ℕ) → i < l .triangles → triFrom (l .wound) u i ≡ triangleAt (woundOf f) i
+  pub numbers : (i : ℕ) → i < l .triangles
+      → NumbersOf (triangleAt (woundOf f) i) (edgesOf f) (getD u (l .numbers + 3 * i) 0) (getD u (l .numbers + 3 * i + 1) 0) (getD u (l .numbers + 3 * i + 2) 0)
+  pub corners-below : Below (l .points) (l .wound) u (3 * l .triangles)
+  pub numbers-below : Below m (l .numbers) u (3 * l .triangles)
+  pub lowers : fromIn l m u ≡ lowersOf f
+  pub uppers : toIn l m u ≡ uppersOf f
+  pub edged : Edged l m u
+
+-- the answer; the floor and all before it stay as they were; and where there is no refusal, what stands behind it
+pub record SetUp (l : Layout) (w : List Float) (u : List ℕ) (w′ : List Float) (u′ : List ℕ) (r : Setup) : Type 0 where
+  pub answer : r ≡ setupOf (floorIn l w u)
+  pub all-reals : length w′ ≡ length w
+  pub all-words : length u′ ≡ length u
+  pub reals-below : (j : ℕ) → j < l .areas → getD w′ j nan ≡ getD w j nan
+  pub words-below : (j : ℕ) → j < l .wound → getD u′ j 0 ≡ getD u j 0
+  pub stands : (m : ℕ) → r ≡ Edges m → Stands l m (floorIn l w u) w′ u′

@@ -1,0 +1,15 @@
+-- `pass_soft::target_at` meets its contract: the definition, opened, by what its call ensures.
+use Rattle.pass_soft.specs.Soft.{targetAt}
+use borrow.Author.Needs.{needs}
+use Rattle.pass_soft.proofs.target_at.Statement.{statement}
+use Rattle.pass_soft.proofs.target_at.Tie as tie
+
+from-angle-requires : tie.Need-from-angle-requires
+from-angle-requires c κs = search needs
+
+returns : tie.Need-returns
+unfolding targetAt
+returns c = cc
+
+pub target-at-spec : {M : Type 1} → statement M
+target-at-spec = tie.close (tie.spec from-angle-requires returns)

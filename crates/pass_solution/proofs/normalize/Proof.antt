@@ -1,0 +1,44 @@
+-- `pass_solution::normalize` meets its contract: the answer taken apart; the laws are in proofs/Stages.
+use native.Mathlib.Omega.{arith}
+use Rattle.linear_cells.proofs.Loops.{apart}
+use Rattle.pass_solution.proofs.Stages.{normalize-done, normalize-gave}
+use borrow.Author.Needs.{needs}
+use Rattle.pass_solution.proofs.normalize.Statement.{statement}
+use Rattle.pass_solution.proofs.normalize.Tie as tie
+
+normalize-in-mass-requires : tie.Need-normalize-in-mass-requires
+normalize-in-mass-requires c κs = (omega (arith, apart), search needs)
+
+enum-told : tie.Need-enum-told
+enum-told c = search needs
+
+enum-known-a : tie.Need-enum-known-a
+enum-known-a c = search needs
+
+gave-up-requires : tie.Need-gave-up-requires
+gave-up-requires c κs = search needs
+
+same-length : tie.Need-same-length
+same-length c = search needs
+
+returns : tie.Need-returns
+returns c = search normalize-done
+
+same-length-2 : tie.Need-same-length-2
+same-length-2 c = search needs
+
+returns-2 : tie.Need-returns-2
+returns-2 c = search normalize-gave
+
+pub normalize-spec : {M : Type 1} → statement M
+normalize-spec =
+    tie.close
+    (tie.spec
+    normalize-in-mass-requires
+    enum-told
+    enum-known-a
+    gave-up-requires
+    same-length
+    returns
+    same-length-2
+    returns-2)

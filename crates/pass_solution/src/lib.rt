@@ -1,0 +1,116 @@
+// The linear solve and the normalisation of a pass, each as a stage of it: what stands at the solver's x, or refusal 24.
+use linear_conjugate_gradient::Answer;
+use linear_conjugate_gradient::Normalized;
+use linear_conjugate_gradient::Reason;
+use linear_conjugate_gradient::Vectors;
+use linear_hermitian::Hermitian;
+use pass_refusal::Stage;
+ghost use mathlib.Core.Path.{_≡_};
+ghost use lib.ListN.{length};
+ghost use Rattle.linear_hermitian.specs.Work.{Graph};
+ghost use Rattle.linear_conjugate_gradient.specs.Answer.{reason, place};
+ghost use Rattle.linear_conjugate_gradient.specs.Work.{SolverRoom};
+ghost use Rattle.pass_refusal.specs.Refusal.{gaveUp};
+ghost use Rattle.pass_refusal.specs.declared.Stage.the-variants.{Refused};
+ghost use Rattle.pass_solution.specs.Solution.{innerMost, linearMost};
+ghost use Rattle.pass_solution.specs.Work.{Solves, Normalizes};
+
+const INNER_TOLERANCE: f64 = 1e-9;
+
+// The most iterations of a solve over n vertices: in the inverse iteration, and otherwise.
+pub fn inner_most(n: usize) -> usize
+    ensures { λ r. ⌜ r ≡ innerMost n ⌝ }
+{
+    if n < 700 {
+        return 400 + 8 * n;
+    }
+    6000
+}
+
+pub fn linear_most(n: usize, iterations: usize) -> usize
+    ensures { λ r. ⌜ r ≡ linearMost n iterations ⌝ }
+{
+    let most = inner_most(n);
+    if iterations < most {
+        return most;
+    }
+    if iterations < 6000 {
+        return iterations;
+    }
+    6000
+}
+
+fn reason_number(r: Reason) -> u64
+    ensures { λ k. ⌜ k ≡ reason r ⌝ }
+{
+    match r {
+        Reason::RightHandNorm => 3,
+        Reason::Diagonal(_) => 4,
+        Reason::FirstResidual => 5,
+        Reason::Denominator => 6,
+        Reason::LostDefiniteness => 7,
+        Reason::CountSpent => 8,
+        Reason::MassOfIterate => 9,
+    }
+}
+
+fn reason_place(r: Reason) -> u64
+    ensures { λ k. ⌜ k ≡ place r ⌝ }
+{
+    match r {
+        Reason::Diagonal(vertex) => vertex as u64,
+        Reason::RightHandNorm => 0,
+        Reason::FirstResidual => 0,
+        Reason::Denominator => 0,
+        Reason::LostDefiniteness => 0,
+        Reason::CountSpent => 0,
+        Reason::MassOfIterate => 0,
+    }
+}
+
+fn gave_up(r: Reason) -> Stage
+    ensures { λ s. ⌜ s ≡ Refused (gaveUp (reason r) (place r)) ⌝ }
+{
+    pass_refusal::gave_up(reason_number(r), reason_place(r))
+}
+
+// Solves the system of the matrix and the right-hand side in the residual's region, by at most `most` iterations.
+pub fn solve(
+    work: &mut [f64],
+    h: Hermitian,
+    l: Vectors,
+    from: &[u32],
+    to: &[u32],
+    most: usize,
+) -> Stage
+    requires { ⌜ SolverRoom (length (now work)) h l ⌝ }
+    requires { ⌜ Graph h (now from) (now to) ⌝ }
+    ensures { λ r. ⌜ Solves (now (work .entry)) (now (work .exit)) h l (now (from .entry)) (now (to .entry)) most r ⌝ }
+{
+    let a = linear_conjugate_gradient::conjugate_gradient(
+        work,
+        h,
+        l,
+        from,
+        to,
+        INNER_TOLERANCE,
+        most,
+    );
+    match a {
+        Answer::Iterate(_) => Stage::Done,
+        Answer::GaveUp(reason) => gave_up(reason),
+    }
+}
+
+// x divided by its norm in the mass matrix. The direction's region is left with the matrix times the old x.
+pub fn normalize(work: &mut [f64], mass: Hermitian, l: Vectors, from: &[u32], to: &[u32]) -> Stage
+    requires { ⌜ SolverRoom (length (now work)) mass l ⌝ }
+    requires { ⌜ Graph mass (now from) (now to) ⌝ }
+    ensures { λ r. ⌜ Normalizes (now (work .entry)) (now (work .exit)) mass l (now (from .entry)) (now (to .entry)) r ⌝ }
+{
+    let a = linear_conjugate_gradient::normalize_in_mass(work, l.x, l.direction, mass, from, to);
+    match a {
+        Normalized::Done => Stage::Done,
+        Normalized::GaveUp(reason) => gave_up(reason),
+    }
+}

@@ -1,0 +1,27 @@
+-- `pass_systems::guided_inside` meets its contract: each return is one case; the laws are in proofs/Made.
+use native.Mathlib.Omega.{arith}
+use Rattle.linear_cells.proofs.Loops.{apart}
+use Rattle.pass_soft.proofs.Systems.{same-soft}
+use Rattle.pass_systems.proofs.Made.{guided-outside, guided-inside}
+use borrow.Author.Needs.{needs}
+use Rattle.pass_systems.proofs.guided_inside.Statement.{statement}
+use Rattle.pass_systems.proofs.guided_inside.Tie as tie
+
+returns : tie.Need-returns
+returns c = guided-outside _ _ _ _ _ _ _ (c .before .before .before .before .before .before .args .t) (c .if1 .taken)
+
+guide-requires : tie.Need-guide-requires
+guide-requires c κs = omega (arith, apart)
+
+add-inside-requires : tie.Need-add-inside-requires
+add-inside-requires c κs = (same-soft (search needs) _ _ _ (c .before .before .before .before .before .before .before .before .before .before .before .pre .0 .soft-room), c .before .before .before .before .before .before .before .before .before .before .before .pre .1)
+
+same-length : tie.Need-same-length
+same-length c = search needs
+
+returns-2 : tie.Need-returns-2
+returns-2 c = guided-inside _ _ _ _ _ _ _ (c .before .before .before .before .before .before .before .before .before .before .before .before .before .before .args .t) (c .before .before .before .before .before .before .before .before .before .before .before .before .before .before .pre .0) (c .before .before .before .before .before .before .before .before .if1 .left) (c .before .before .before .before .before .before .guide .ensures) (c .before .before .add-inside .ensures)
+
+pub guided-inside-spec : {M : Type 1} → statement M
+guided-inside-spec =
+    tie.close (tie.spec returns guide-requires add-inside-requires same-length returns-2)

@@ -1,0 +1,21 @@
+-- `pass_terms::flat_corner` meets its contract: each return opens the definition and rewrites it by the tests and the calls on its way.
+use Rattle.pass_terms.specs.Terms.{flatCorner}
+use borrow.Author.Needs.{needs}
+use Rattle.pass_terms.proofs.flat_corner.Statement.{statement}
+use Rattle.pass_terms.proofs.flat_corner.Tie as tie
+
+sub2-requires : tie.Need-sub2-requires
+sub2-requires c κs = search needs
+
+dot2-requires : tie.Need-dot2-requires
+dot2-requires c κs = search needs
+
+recip-requires : tie.Need-recip-requires
+recip-requires c κs = search needs
+
+returns : tie.Need-returns
+unfolding flatCorner
+returns c = cc
+
+pub flat-corner-spec : {M : Type 1} → statement M
+flat-corner-spec = tie.close (tie.spec sub2-requires dot2-requires recip-requires returns)

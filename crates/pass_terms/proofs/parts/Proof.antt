@@ -1,0 +1,18 @@
+-- `pass_terms::parts` meets its contract: each return opens the definition and rewrites it by the tests and the calls on its way.
+use Rattle.pass_terms.specs.Terms.{partsOf}
+use borrow.Author.Needs.{needs}
+use Rattle.pass_terms.proofs.parts.Statement.{statement}
+use Rattle.pass_terms.proofs.parts.Tie as tie
+
+three-sides-requires : tie.Need-three-sides-requires
+three-sides-requires c κs = search needs
+
+three-sides-requires-2 : tie.Need-three-sides-requires-2
+three-sides-requires-2 c κs = search needs
+
+returns : tie.Need-returns
+unfolding partsOf
+returns c = simp (c .three-sides2 .ensures, c .before .three-sides .ensures)
+
+pub parts-spec : {M : Type 1} → statement M
+parts-spec = tie.close (tie.spec three-sides-requires three-sides-requires-2 returns)

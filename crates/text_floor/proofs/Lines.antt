@@ -1,0 +1,146 @@
+-- What the loops over the lines of a text keep, and what a right text knows of its counts. Assumes nothing.
+use Prim.Native.Nat.{ℕ, zero, suc, _+_, _-_, _*_, _≤_, _<_}
+use native.Mathlib.Omega.{arith}
+use native.Mathlib.Numerals.{add-one}
+use mathlib.Core.Path.{_≡_, refl, sym, _∙_}
+use mathlib.Core.Bool.{Bool, true, false, not, _&&_}
+use mathlib.Core.List.{List, [], _∷_}
+use borrow.Author.Tests.{eqb-true, leb-true, ne-eqb}
+use lib.Dec.{eqb, leb}
+use lib.ListN.{length, length-append, length-take, take, drop, set}
+use lib.Seq.{sets}
+use lib.Ieee.{Float}
+use Rattle.float.specs.Double.{lit}
+use Rattle.text_columns.specs.Columns.{isWhole, sizeOf, doubleOf}
+use Rattle.text_columns.proofs.Columns.{few, and-both}
+use Rattle.runs.proofs.Runs.{sets-next}
+use Rattle.text_floor.specs.Text.{columnAt, first, second, third, isLine, every, pointCount, triangleCount, isHead, isText, radians, pointsUpTo, anglesUpTo, cornersUpTo, thresholdIn, ReadTo}
+use Rattle.text_floor.specs.declared.Read.the-variants.{Floor, Other}
+
+-- a column has at most six digits
+pub small-column : (s : List ℕ) (a : ℕ) → sizeOf (columnAt s a) < 1000000
+small-column s a = few (take 6 (drop a s)) (length (take 6 (drop a s))) (omega (arith, length-take 6 (drop a s)))
+
+-- ---- tests
+
+pub not-true : (a : Bool) → not a ≡ true → a ≡ false
+not-true false e = refl
+not-true true e = let z : _≡_ {A = ℕ} 0 1 = cc in absurd (omega arith)
+
+pub not-false : (a : Bool) → not a ≡ false → a ≡ true
+not-false true e = refl
+not-false false e = let z : _≡_ {A = ℕ} 0 1 = cc in absurd (omega arith)
+
+and-no : (a : Bool) → (a && false) ≡ false
+and-no true = refl
+and-no false = refl
+
+pub every-none : (p : ℕ → Bool) (from : ℕ) → every p from 0 ≡ true
+unfolding every
+every-none p from = refl
+
+pub every-again : (p : ℕ → Bool) (from i : ℕ) → every p from i ≡ true → p (from + i) ≡ true → every p from (i + 1) ≡ true
+unfolding every
+every-again p from i h e = rw (add-one i, h, e) refl
+
+-- where the test fails at i it does not hold of more numbers
+every-fails : (p : ℕ → Bool) (from i d : ℕ) → p (from + i) ≡ false → every p from (suc i + d) ≡ false
+unfolding every
+every-fails p from i zero e = let z : suc i + 0 ≡ suc i = omega arith in rw (z, e) (and-no (every p from i))
+every-fails p from i (suc d) e = let z : suc i + suc d ≡ suc (suc i + d) = omega arith in rw (z, every-fails p from i d e) refl
+
+pub every-stops : (p : ℕ → Bool) (from i k : ℕ) → i < k → p (from + i) ≡ false → every p from k ≡ false
+every-stops p from i k h e = let z : k ≡ suc i + (k - suc i) = omega arith in rw z (every-fails p from i (k - suc i) e)
+
+pub head-small : (s : List ℕ) → isHead s ≡ true → (pointCount s ≤ 256) × (triangleCount s ≤ 256)
+unfolding isHead
+head-small s e =
+    let a = and-both (isLine s 0) _ e in
+    let b = and-both (isWhole (first s 0)) _ (a .1) in
+    let c = and-both (isWhole (second s 0)) _ (b .1) in
+    let d = and-both (leb (pointCount s) 256) _ (c .1) in
+    (leb-true (pointCount s) 256 (d .0), leb-true (triangleCount s) 256 (d .1))
+
+-- fewer bytes than a line are no text
+pub short-text : (s : List ℕ) → length s < 19 → false ≡ isText s
+unfolding isText
+short-text s h =
+    let z : ¬ (length s ≡ 19 * (1 + pointCount s + triangleCount s)) = λ e. omega arith in
+    rw (ne-eqb (length s) (19 * (1 + pointCount s + triangleCount s)) z) (sym (and-no (isHead s)))
+
+pub no-head : (s : List ℕ) → isHead s ≡ false → false ≡ isText s
+unfolding isText
+no-head s e = rw e refl
+
+-- what a text is known by
+pub record Known (s : List ℕ) : Type 0 where
+  pub few-points : pointCount s ≤ 256
+  pub few-triangles : triangleCount s ≤ 256
+  pub long : length s ≡ 19 * (1 + pointCount s + triangleCount s)
+
+pub known : (s : List ℕ) → isText s ≡ true → Known s
+unfolding isText
+known s e =
+    let a = and-both (isHead s) _ e in
+    let b = and-both (eqb (length s) (19 * (1 + pointCount s + triangleCount s))) _ (a .1) in
+    let h = head-small s (a .0) in
+    record { few-points = h .0; few-triangles = h .1; long = eqb-true (length s) (19 * (1 + pointCount s + triangleCount s)) (b .0) }
+
+-- ---- the slices
+
+pub three-stores : {A : Type 0} (l : List A) (i : ℕ) (a b c : A) → set (set (set l i a) (i + 1) b) (i + 2) c ≡ sets l i (a ∷ b ∷ c ∷ [])
+three-stores l i a b c =
+    let e₁ : i + 1 ≡ suc i = omega arith in
+    let e₂ : i + 2 ≡ suc (suc i) = omega arith in
+    rw (e₁, e₂) refl
+
+module _ (s : List ℕ) where
+  pub points-length : (n : ℕ) → length (pointsUpTo s n) ≡ 3 * n
+  unfolding pointsUpTo
+  points-length zero = refl
+  points-length (suc n) = length-append (pointsUpTo s n) _ ∙ omega (arith, points-length n)
+
+  pub angles-length : (n : ℕ) → length (anglesUpTo s n) ≡ n
+  unfolding anglesUpTo
+  angles-length zero = refl
+  angles-length (suc n) = length-append (anglesUpTo s n) _ ∙ omega (arith, angles-length n)
+
+  pub corners-length : (n t : ℕ) → length (cornersUpTo s n t) ≡ 3 * t
+  unfolding cornersUpTo
+  corners-length n zero = refl
+  corners-length n (suc t) = length-append (cornersUpTo s n t) _ ∙ omega (arith, corners-length n t)
+
+  pub points-none : (out : List Float) → out ≡ sets out 0 (pointsUpTo s 0)
+  unfolding pointsUpTo
+  points-none out = refl
+
+  pub points-again : (out₀ : List Float) {out out′ : List Float} (i : ℕ) → out ≡ sets out₀ 0 (pointsUpTo s i)
+      → out′ ≡ sets out (3 * i) (doubleOf (first s (1 + i)) ∷ doubleOf (second s (1 + i)) ∷ lit 0 ∷ []) → out′ ≡ sets out₀ 0 (pointsUpTo s (i + 1))
+  unfolding pointsUpTo
+  points-again out₀ i h e = rw (add-one i) (e ∙ rw h (sets-next out₀ 0 (3 * i) (pointsUpTo s i) _ (omega (arith, points-length i))))
+
+  pub angles-none : (out : List Float) → out ≡ sets out 0 (anglesUpTo s 0)
+  unfolding anglesUpTo
+  angles-none out = refl
+
+  pub angles-again : (out₀ : List Float) {out out′ : List Float} (i : ℕ) → out ≡ sets out₀ 0 (anglesUpTo s i) → out′ ≡ sets out i (radians (third s (1 + i)) ∷ []) → out′ ≡ sets out₀ 0 (anglesUpTo s (i + 1))
+  unfolding anglesUpTo
+  angles-again out₀ i h e = rw (add-one i) (e ∙ rw h (sets-next out₀ 0 i (anglesUpTo s i) _ (omega (arith, angles-length i))))
+
+  pub corners-none : (n : ℕ) (out : List ℕ) → out ≡ sets out 0 (cornersUpTo s n 0)
+  unfolding cornersUpTo
+  corners-none n out = refl
+
+  pub corners-again : (n : ℕ) (out₀ : List ℕ) {out out′ : List ℕ} (i : ℕ) → out ≡ sets out₀ 0 (cornersUpTo s n i)
+      → out′ ≡ sets out (3 * i) (sizeOf (first s (1 + n + i)) ∷ sizeOf (second s (1 + n + i)) ∷ sizeOf (third s (1 + n + i)) ∷ []) → out′ ≡ sets out₀ 0 (cornersUpTo s n (i + 1))
+  unfolding cornersUpTo
+  corners-again n out₀ i h e = rw (add-one i) (e ∙ rw h (sets-next out₀ 0 (3 * i) (cornersUpTo s n i) _ (omega (arith, corners-length n i))))
+
+-- ---- the answer
+
+pub read-done : {p α p′ α′ : List Float} {k k′ : List ℕ} {n t : ℕ} {x : Float} (s : List ℕ) → isText s ≡ true → n ≡ pointCount s → t ≡ triangleCount s → x ≡ thresholdIn s
+    → p′ ≡ sets p 0 (pointsUpTo s n) → α′ ≡ sets α 0 (anglesUpTo s n) → k′ ≡ sets k 0 (cornersUpTo s n t) → ReadTo s p α k (Floor n t x) p′ α′ k′
+read-done s e a b c hp hα hk = record { answer = rw (e, a, b, c) refl; points = rw (e, ← a) hp; angles = rw (e, ← a) hα; corners = rw (e, ← a, ← b) hk }
+
+pub read-other : {p α : List Float} {k : List ℕ} (s : List ℕ) → isText s ≡ false → ReadTo s p α k Other p α k
+read-other s e = record { answer = rw e refl; points = rw e refl; angles = rw e refl; corners = rw e refl }

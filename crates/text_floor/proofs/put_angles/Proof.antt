@@ -1,0 +1,52 @@
+-- `text_floor::put_angles` meets its contract: after i turns the first i are written; the laws are in proofs/Lines. Assumes nothing.
+use borrow.Author.Needs.{needs}
+use native.Mathlib.Omega.{arith}
+use mathlib.Core.Path.{_≡_, refl, ap, _∙_}
+use Prim.Native.Nat.{_-_, _≤_}
+use lib.ListN.{length}
+use lib.Seq.{sets, length-sets}
+use Rattle.text_floor.specs.Text.{anglesUpTo}
+use Rattle.text_floor.proofs.Lines.{angles-none, angles-again}
+use Rattle.text_floor.proofs.put_angles.Statement.{statement}
+use Rattle.text_floor.proofs.put_angles.Tie as tie
+
+abbrev Inv-loop : tie.InvT-loop
+Inv-loop text n out₀ i₀ out i = (i ≤ n) × ((length out ≡ length out₀) × (out ≡ sets out₀ 0 (anglesUpTo text i)))
+
+abbrev μ-loop : tie.MeasureT-loop
+μ-loop text n out₀ i₀ out i = n - i
+
+loop-holds : tie.Need-loop-holds Inv-loop μ-loop
+loop-holds c = (omega arith, (refl, angles-none (c .before .before .args .text .now) (c .before .before .args .out .now)))
+
+put-angle-requires : tie.Need-put-angle-requires Inv-loop μ-loop
+put-angle-requires c κs = search needs
+
+add-i : tie.Need-add-i Inv-loop μ-loop
+add-i c = search needs
+
+loop-less : tie.Need-loop-less Inv-loop μ-loop
+loop-less c = search needs
+
+loop-again : tie.Need-loop-again Inv-loop μ-loop
+loop-again c = (omega arith, (ap length (c .before .before .put-angle .ensures) ∙ simp length-sets (c .before .before .before .before .before .loop .inv .1 .0), angles-again (c .before .before .before .before .before .before .before .before .args .text .now) (c .before .before .before .before .before .before .before .before .args .out .now) (c .before .before .before .before .before .loop .i) (c .before .before .before .before .before .loop .inv .1 .1) (c .before .before .put-angle .ensures)))
+
+same-length : tie.Need-same-length Inv-loop μ-loop
+same-length c = c .before .loop .inv .1 .0
+
+returns : tie.Need-returns Inv-loop μ-loop
+returns c = let e : c .before .loop .i ≡ c .before .before .before .before .args .n = omega arith in rw e at (c .before .loop .inv .1 .1)
+
+pub put-angles-spec : {M : Type 1} → statement M
+put-angles-spec =
+    tie.close
+    (tie.spec
+    Inv-loop
+    μ-loop
+    loop-holds
+    put-angle-requires
+    add-i
+    loop-less
+    loop-again
+    same-length
+    returns)

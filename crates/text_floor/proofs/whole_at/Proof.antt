@@ -1,0 +1,18 @@
+-- `text_floor::whole_at` meets its contract: `isWhole` of the column. Assumes nothing.
+use borrow.Author.Needs.{needs}
+use mathlib.Core.Path.{ap, _∙_}
+use Rattle.text_columns.specs.Columns.{isWhole}
+use Rattle.text_floor.proofs.whole_at.Statement.{statement}
+use Rattle.text_floor.proofs.whole_at.Tie as tie
+
+column-at-requires : tie.Need-column-at-requires
+column-at-requires c κs = search needs
+
+is-whole-requires : tie.Need-is-whole-requires
+is-whole-requires c κs = search needs
+
+returns : tie.Need-returns
+returns c = c .is-whole .ensures ∙ ap isWhole (c .before .column-at .ensures)
+
+pub whole-at-spec : {M : Type 1} → statement M
+whole-at-spec = tie.close (tie.spec column-at-requires is-whole-requires returns)

@@ -1,0 +1,60 @@
+-- `text_lines::put_sides` meets its contract: after i turns the lines of the first i are written; the laws are in proofs/Lines. Assumes nothing.
+use borrow.Author.Needs.{needs}
+use native.Mathlib.Omega.{arith}
+use mathlib.Core.Path.{_≡_, refl, ap, _∙_}
+use Prim.Native.Nat.{_-_, _≤_}
+use lib.ListN.{length}
+use lib.Seq.{sets, length-sets}
+use Rattle.text_lines.specs.Lines.{sideLines, sidesUpTo}
+use Rattle.text_lines.proofs.Lines.{sides-none, sides-again}
+use Rattle.text_lines.proofs.put_sides.Statement.{statement}
+use Rattle.text_lines.proofs.put_sides.Tie as tie
+
+abbrev Inv-loop : tie.InvT-loop
+Inv-loop ends m out₀ at i₀ out i = (i ≤ m) × ((length out ≡ length out₀) × (out ≡ sets out₀ at (sideLines (sidesUpTo ends i))))
+
+abbrev μ-loop : tie.MeasureT-loop
+μ-loop ends m out₀ at i₀ out i = m - i
+
+loop-holds : tie.Need-loop-holds Inv-loop μ-loop
+loop-holds c = (omega arith, (refl, sides-none (c .before .before .args .ends .now) (c .before .before .args .out .now) (c .before .before .args .at)))
+
+mul-put-side : tie.Need-mul-put-side Inv-loop μ-loop
+mul-put-side c = search needs
+
+add-put-side : tie.Need-add-put-side Inv-loop μ-loop
+add-put-side c = search needs
+
+put-side-requires : tie.Need-put-side-requires Inv-loop μ-loop
+put-side-requires c κs = search needs
+
+add-i : tie.Need-add-i Inv-loop μ-loop
+add-i c = search needs
+
+loop-less : tie.Need-loop-less Inv-loop μ-loop
+loop-less c = search needs
+
+loop-again : tie.Need-loop-again Inv-loop μ-loop
+loop-again c = (omega arith, (ap length (c .before .before .put-side .ensures) ∙ simp length-sets (c .before .before .before .before .before .loop .inv .1 .0), sides-again (c .before .before .before .before .before .before .before .before .args .ends .now) (c .before .before .before .before .before .before .before .before .args .out .now) (c .before .before .before .before .before .before .before .before .args .at) (c .before .before .before .before .before .loop .i) (c .before .before .before .before .before .loop .inv .1 .1) (c .before .before .put-side .ensures)))
+
+same-length : tie.Need-same-length Inv-loop μ-loop
+same-length c = c .before .loop .inv .1 .0
+
+returns : tie.Need-returns Inv-loop μ-loop
+returns c = let e : c .before .loop .i ≡ c .before .before .before .before .args .m = omega arith in rw e at (c .before .loop .inv .1 .1)
+
+pub put-sides-spec : {M : Type 1} → statement M
+put-sides-spec =
+    tie.close
+    (tie.spec
+    Inv-loop
+    μ-loop
+    loop-holds
+    mul-put-side
+    add-put-side
+    put-side-requires
+    add-i
+    loop-less
+    loop-again
+    same-length
+    returns)

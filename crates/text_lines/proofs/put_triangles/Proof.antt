@@ -1,0 +1,61 @@
+-- `text_lines::put_triangles` meets its contract: after i turns the lines of the first i are written; the laws are in proofs/Lines. Assumes nothing.
+use borrow.Author.Needs.{needs}
+use native.Mathlib.Omega.{arith}
+use mathlib.Core.Path.{_≡_, refl, ap, _∙_}
+use Prim.Native.Nat.{_-_, _≤_}
+use lib.ListN.{length}
+use lib.Seq.{sets, length-sets}
+use Rattle.refinement.specs.Floor.{tris}
+use Rattle.text_lines.specs.Lines.{triangleLines}
+use Rattle.text_lines.proofs.Lines.{triangles-none, triangles-again}
+use Rattle.text_lines.proofs.put_triangles.Statement.{statement}
+use Rattle.text_lines.proofs.put_triangles.Tie as tie
+
+abbrev Inv-loop : tie.InvT-loop
+Inv-loop corners k out₀ at i₀ out i = (i ≤ k) × ((length out ≡ length out₀) × (out ≡ sets out₀ at (triangleLines (tris corners i))))
+
+abbrev μ-loop : tie.MeasureT-loop
+μ-loop corners k out₀ at i₀ out i = k - i
+
+loop-holds : tie.Need-loop-holds Inv-loop μ-loop
+loop-holds c = (omega arith, (refl, triangles-none (c .before .before .args .corners .now) (c .before .before .args .out .now) (c .before .before .args .at)))
+
+mul-put-triangle : tie.Need-mul-put-triangle Inv-loop μ-loop
+mul-put-triangle c = search needs
+
+add-put-triangle : tie.Need-add-put-triangle Inv-loop μ-loop
+add-put-triangle c = search needs
+
+put-triangle-requires : tie.Need-put-triangle-requires Inv-loop μ-loop
+put-triangle-requires c κs = search needs
+
+add-i : tie.Need-add-i Inv-loop μ-loop
+add-i c = search needs
+
+loop-less : tie.Need-loop-less Inv-loop μ-loop
+loop-less c = search needs
+
+loop-again : tie.Need-loop-again Inv-loop μ-loop
+loop-again c = (omega arith, (ap length (c .before .before .put-triangle .ensures) ∙ simp length-sets (c .before .before .before .before .before .loop .inv .1 .0), triangles-again (c .before .before .before .before .before .before .before .before .args .corners .now) (c .before .before .before .before .before .before .before .before .args .out .now) (c .before .before .before .before .before .before .before .before .args .at) (c .before .before .before .before .before .loop .i) (c .before .before .before .before .before .loop .inv .1 .1) (c .before .before .put-triangle .ensures)))
+
+same-length : tie.Need-same-length Inv-loop μ-loop
+same-length c = c .before .loop .inv .1 .0
+
+returns : tie.Need-returns Inv-loop μ-loop
+returns c = let e : c .before .loop .i ≡ c .before .before .before .before .args .k = omega arith in rw e at (c .before .loop .inv .1 .1)
+
+pub put-triangles-spec : {M : Type 1} → statement M
+put-triangles-spec =
+    tie.close
+    (tie.spec
+    Inv-loop
+    μ-loop
+    loop-holds
+    mul-put-triangle
+    add-put-triangle
+    put-triangle-requires
+    add-i
+    loop-less
+    loop-again
+    same-length
+    returns)
