@@ -1,4 +1,4 @@
--- `columns::scan_column` meets its contract: after i turns the state is what the first i bytes show. Assumes nothing.
+-- `columns::scan_column` meets its contract: after i iterations the state is what the first i bytes show. Assumes nothing.
 use borrow.Author.Needs.{needs}
 use native.Mathlib.Omega.{arith}
 use mathlib.Core.Path.{_≡_, sym, ap, _∙_, subst}
