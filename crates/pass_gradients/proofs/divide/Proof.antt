@@ -1,4 +1,4 @@
--- `pass_gradients::divide` meets its contract: the loop keeps what `Inv-loop` says, and what is left to do falls at each turn; the laws are in proofs/Means.
+-- `pass_gradients::divide` meets its contract: the loop keeps what `Inv-loop` says, and what is left to do falls at each iteration; the laws are in proofs/Means.
 use borrow.Author.Needs.{needs}
 use Rattle.pass_gradients.proofs.Means.{To, to-none, to-more, to-found, to-done}
 use Prim.Native.Nat.{_-_, _≤_}

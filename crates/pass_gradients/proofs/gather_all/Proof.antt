@@ -1,4 +1,4 @@
--- `pass_gradients::gather_all` meets its contract: the loop keeps what `Inv-loop` says, and what is left to do falls at each turn; the laws are in proofs/Steps.
+-- `pass_gradients::gather_all` meets its contract: the loop keeps what `Inv-loop` says, and what is left to do falls at each iteration; the laws are in proofs/Steps.
 use borrow.Author.Needs.{needs}
 use Rattle.pass_gradients.proofs.Steps.{gathered-more}
 use Rattle.pass_gradients.specs.Gradients.{GatheredTo}

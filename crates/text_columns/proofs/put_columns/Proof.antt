@@ -1,4 +1,4 @@
--- `text_columns::put_columns` meets its contract: after j turns the first j columns are written. Assumes nothing.
+-- `text_columns::put_columns` meets its contract: after j iterations the first j columns are written. Assumes nothing.
 use borrow.Author.Needs.{needs}
 use native.Mathlib.Omega.{arith}
 use mathlib.Core.Path.{_≡_, refl, ap, _∙_}

@@ -1,4 +1,4 @@
--- `text_columns::scan_column` meets its contract: after i turns the state is what the first i bytes show. Assumes nothing.
+-- `text_columns::scan_column` meets its contract: after i iterations the state is what the first i bytes show. Assumes nothing.
 use borrow.Author.Needs.{needs}
 use native.Mathlib.Omega.{arith}
 use mathlib.Core.Path.{_≡_, sym, ap, _∙_, subst}
