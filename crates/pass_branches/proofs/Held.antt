@@ -186,7 +186,7 @@ module _ (l : Layout) (m : ℕ) (w : List Float) (u : List ℕ) (ok : Ordered l 
 
     pub still-edged : Edged l m u₁
     still-edged =
-        let low : (j : ℕ) → j < l .table + l .buckets + 3 * m → getD u₁ j 0 ≡ getD u j 0 = λ j k. words-stay j (omega (arith, ok .table-in, ok .from-in, ok .to-in, e .few)) in
+        let low : (j : ℕ) → j < l .table + l .buckets + 4 * m → getD u₁ j 0 ≡ getD u j 0 = λ j k. words-stay j (omega (arith, ok .table-in, ok .from-in, ok .to-in, e .few)) in
         record {
           few = e .few;
           sided = sided-kept u u₁ (room .0) low all-words-same (e .sided);

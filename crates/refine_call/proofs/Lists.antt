@@ -1,11 +1,11 @@
 -- Triangles that stay, corners and ends as they lie in a slice. Assumes nothing.
-use Prim.Native.Nat.{ℕ, zero, suc, _+_, _*_, _≤_, _<_}
+use Prim.Native.Nat.{ℕ, zero, suc, _+_, _*_, _≤_}
 use native.Mathlib.Omega.{arith}
 use mathlib.Core.Path.{_≡_, refl, sym, ap, _∙_}
 use mathlib.Core.List.{List, [], _∷_, _++_, append-assoc}
-use lib.ListN.{length, getD, take, drop, take-append-drop}
+use lib.ListN.{length, getD, take, take-append-drop}
 use lib.Seq.{take-suc}
-use Rattle.mesh.specs.Mesh.{Tri, tri, Side, side, key, place, mid, refined}
+use Rattle.mesh.specs.Mesh.{Tri, tri, Side, side, place, mid, refined}
 use Rattle.edges.specs.Table.{pairs}
 use Rattle.edges.specs.Apart.{loAt, hiAt, sidesAt}
 use Rattle.edges.proofs.Tree.{length-pairs}

@@ -1,6 +1,6 @@
 -- The refinement call, with the angles given: what it answers, and what it leaves in its four result slices. Document 01, "Refinement is also a call
 -- of its own". Definitions only.
-use Prim.Native.Nat.{ℕ, _+_, _*_, _/_, _≤_}
+use Prim.Native.Nat.{ℕ, _+_, _*_, _/_}
 use mathlib.Core.Path.{_≡_}
 use mathlib.Core.Bool.{Bool, not, cond, _||_}
 use mathlib.Core.List.{List}
@@ -9,7 +9,7 @@ use lib.ListN.{length}
 use lib.Ieee.{Float}
 use Rattle.floor.specs.declared.Check.{Check}
 use Rattle.floor.specs.declared.Check.the-variants.{Sound, Refused}
-use Rattle.floor.specs.Checks.{MOST-POINTS, MOST-TRIANGLES, row, wellFormed, notFiniteOrBelowZero, andThen, checkFloor}
+use Rattle.floor.specs.Checks.{row, wellFormed, notFiniteOrBelowZero, andThen, checkFloor}
 use Rattle.refinement.specs.Floor.{Refined, refinementOf, trisOf, cornersOf, endsOf, over}
 use Rattle.refine_call.specs.declared.Counts.{Counts}
 use Rattle.refine_call.specs.declared.Answer.{Answer}

@@ -166,7 +166,7 @@ module _ (points : List Float) (corners : List ℕ) (sizes angles : List Float) 
         fits = record {
           small = record {
             reals-small = omega (arith, ready .few-points);
-            words-small = omega (arith, ready .few-triangles);
+            words-small = omega (arith, ready .few-points, ready .few-triangles);
             points-small = omega (arith, ready .few-points, ready .few-triangles, found .few);
             triangles-small = omega (arith, ready .few-triangles, most, many);
           };
