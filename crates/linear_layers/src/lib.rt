@@ -3,6 +3,8 @@
 use linear_conjugate_gradient::Answer;
 use linear_conjugate_gradient::Normalized;
 use linear_conjugate_gradient::Vectors;
+use linear_conjugate_gradient::conjugate_gradient;
+use linear_conjugate_gradient::normalize_in_mass;
 use linear_hermitian::Hermitian;
 ghost use mathlib.Core.Path.{_≡_};
 ghost use Prim.Native.Nat.{_+_, _*_, _^_, _<_};
@@ -105,15 +107,7 @@ pub fn solve(
     }
     let h = matrix_for(n, from.len());
     let l = vectors_for(n, from.len());
-    Checked::Solved(linear_conjugate_gradient::conjugate_gradient(
-        work,
-        h,
-        l,
-        from,
-        to,
-        tolerance,
-        most,
-    ))
+    Checked::Solved(conjugate_gradient(work, h, l, from, to, tolerance, most))
 }
 
 // The same for C and Rust: whether the slices have the form that is asked for.
@@ -133,7 +127,7 @@ pub extern "C" fn layers_conjugate_gradient(
     }
     let h = matrix_for(n, from.len());
     let l = vectors_for(n, from.len());
-    linear_conjugate_gradient::conjugate_gradient(work, h, l, from, to, tolerance, most);
+    conjugate_gradient(work, h, l, from, to, tolerance, most);
     true
 }
 
@@ -146,12 +140,5 @@ pub fn normalize(work: &mut [f64], n: usize, from: &[u32], to: &[u32]) -> Checke
     }
     let h = matrix_for(n, from.len());
     let l = vectors_for(n, from.len());
-    Checked::Normal(linear_conjugate_gradient::normalize_in_mass(
-        work,
-        l.x,
-        l.direction,
-        h,
-        from,
-        to,
-    ))
+    Checked::Normal(normalize_in_mass(work, l.x, l.direction, h, from, to))
 }

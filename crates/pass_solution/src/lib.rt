@@ -3,6 +3,7 @@ use linear_conjugate_gradient::Answer;
 use linear_conjugate_gradient::Normalized;
 use linear_conjugate_gradient::Reason;
 use linear_conjugate_gradient::Vectors;
+use linear_conjugate_gradient::conjugate_gradient;
 use linear_hermitian::Hermitian;
 use pass_refusal::Stage;
 ghost use mathlib.Core.Path.{_≡_};
@@ -87,15 +88,7 @@ pub fn solve(
     requires { ⌜ Graph h (now from) (now to) ⌝ }
     ensures { λ r. ⌜ Solves (now (work .entry)) (now (work .exit)) h l (now (from .entry)) (now (to .entry)) most r ⌝ }
 {
-    let a = linear_conjugate_gradient::conjugate_gradient(
-        work,
-        h,
-        l,
-        from,
-        to,
-        INNER_TOLERANCE,
-        most,
-    );
+    let a = conjugate_gradient(work, h, l, from, to, INNER_TOLERANCE, most);
     match a {
         Answer::Iterate(_) => Stage::Done,
         Answer::GaveUp(reason) => gave_up(reason),
