@@ -8,10 +8,10 @@ layout-at-requires : tie.Need-layout-at-requires
 layout-at-requires c κs = c .before .before .before .before .before .pre .0 .fits .small
 
 lay-points-requires : tie.Need-lay-points-requires
-lay-points-requires c κs = rw (c .before .before .layout-at .ensures) (lay-room (c .before .before .before .before .before .before .before .before .args .at) (c .before .before .before .before .before .before .before .before .args .a .guided) (c .before .before .before .before .before .before .before .before .args .points .now) (c .before .before .before .before .before .before .before .before .args .sizes .now) (c .before .before .before .before .before .before .before .before .args .angles .now) (c .before .before .before .before .before .before .before .before .args .c) (c .before .before .before .before .before .before .before .before .args .work .now) (c .before .before .before .before .before .before .before .before .args .numbers .now) (c .before .before .before .before .before .before .before .before .pre .0))
+lay-points-requires c κs = rw (c .before .before .layout-at .ensures) (lay-room (c .before .before .before .before .before .before .before .before .args .at) (c .before .before .before .before .before .before .before .before .args .a .guided) (c .before .before .before .before .before .before .before .before .args .points .now) (c .before .before .before .before .before .before .before .before .args .sizes .now) (c .before .before .before .before .before .before .before .before .args .angles .now) (c .before .before .before .before .before .before .before .before .args .table) (c .before .before .before .before .before .before .before .before .args .work .now) (c .before .before .before .before .before .before .before .before .args .numbers .now) (c .before .before .before .before .before .before .before .before .pre .0))
 
 lay-guidance-requires : tie.Need-lay-guidance-requires
-lay-guidance-requires c κs = rw (c .before .before .before .before .lay-points .ensures, c .before .before .before .before .before .before .before .layout-at .ensures) (guidance-room (c .before .before .before .before .before .before .before .before .before .before .before .before .before .args .at) (c .before .before .before .before .before .before .before .before .before .before .before .before .before .args .a .guided) (c .before .before .before .before .before .before .before .before .before .before .before .before .before .args .points .now) (c .before .before .before .before .before .before .before .before .before .before .before .before .before .args .sizes .now) (c .before .before .before .before .before .before .before .before .before .before .before .before .before .args .angles .now) (c .before .before .before .before .before .before .before .before .before .before .before .before .before .args .c) (c .before .before .before .before .before .before .before .before .before .before .before .before .before .args .work .now) (c .before .before .before .before .before .before .before .before .before .before .before .before .before .args .numbers .now) (c .before .before .before .before .before .before .before .before .before .before .before .before .before .pre .0))
+lay-guidance-requires c κs = rw (c .before .before .before .before .lay-points .ensures, c .before .before .before .before .before .before .before .layout-at .ensures) (guidance-room (c .before .before .before .before .before .before .before .before .before .before .before .before .before .args .at) (c .before .before .before .before .before .before .before .before .before .before .before .before .before .args .a .guided) (c .before .before .before .before .before .before .before .before .before .before .before .before .before .args .points .now) (c .before .before .before .before .before .before .before .before .before .before .before .before .before .args .sizes .now) (c .before .before .before .before .before .before .before .before .before .before .before .before .before .args .angles .now) (c .before .before .before .before .before .before .before .before .before .before .before .before .before .args .table) (c .before .before .before .before .before .before .before .before .before .before .before .before .before .args .work .now) (c .before .before .before .before .before .before .before .before .before .before .before .before .before .args .numbers .now) (c .before .before .before .before .before .before .before .before .before .before .before .before .before .pre .0))
 
 pass-requires : tie.Need-pass-requires
 pass-requires c κs = (fits-now (c .before .before .before .before .before .before .before .before .before .before .before .before .before .before .before .before .before .before .args .at) (c .before .before .before .before .before .before .before .before .before .before .before .before .before .before .before .before .before .before .args .o) (c .before .before .before .before .before .before .before .before .before .before .before .before .before .before .before .before .before .before .args .a) _ _ _ _ _ _ (c .before .before .before .before .before .before .before .before .before .before .before .before .before .before .before .before .before .before .pre .0) (rw (c .before .before .before .before .before .before .before .before .before .before .before .before .layout-at .ensures) at (c .before .before .before .before .before .before .before .before .before .lay-points .ensures)) (rw (c .before .before .before .before .before .before .before .before .before .before .before .before .layout-at .ensures) at (c .before .before .before .before .lay-guidance .ensures)), c .before .before .before .before .before .before .before .before .before .before .before .before .before .before .before .before .before .before .pre .1)

@@ -20,8 +20,8 @@ returns c = second-none (c .before .before .before .before .before .before .befo
 mul-refine-triangles-within : tie.Need-mul-refine-triangles-within
 mul-refine-triangles-within c = search needs
 
-mul-refine-triangles-within-2 : tie.Need-mul-refine-triangles-within-2
-mul-refine-triangles-within-2 c = search needs
+add-refine-triangles-within : tie.Need-add-refine-triangles-within
+add-refine-triangles-within c = search needs
 
 refine-triangles-within-requires : tie.Need-refine-triangles-within-requires
 refine-triangles-within-requires c κs = (c .before .before .before .before .before .cut-sides .ensures .held, refine-room (c .before .before .before .before .before .before .before .before .before .before .before .before .before .before .args .points .now) (c .before .before .before .before .before .before .before .before .before .before .before .before .before .before .args .triangles .now) (c .before .before .before .before .before .before .before .before .before .before .before .before .before .before .args .sizes .now) (c .before .before .before .before .before .before .before .before .before .before .before .before .before .before .args .angles .now) (c .before .before .before .before .before .before .before .before .before .before .before .before .before .before .args .o) (c .before .before .before .before .before .before .before .before .before .before .before .before .before .before .args .a) (c .before .before .before .before .before .before .before .before .before .before .before .before .before .before .args .work .now) (c .before .before .before .before .before .before .before .before .before .before .before .before .before .before .args .numbers .now) (c .before .before .before .before .before .before .before .before .before .before .before .before .before .before .pre .0) (c .before .before .before .before .before .before .before .before .before .before .before .before .before .before .pre .1) (c .before .before .before .before .before .cut-sides .ensures))
@@ -32,8 +32,8 @@ mul-t18 c = search needs
 add-t26 : tie.Need-add-t26
 add-t26 c = search needs
 
-mul-t18-2 : tie.Need-mul-t18-2
-mul-t18-2 c = search needs
+add-t27 : tie.Need-add-t27
+add-t27 c = search needs
 
 without-threshold-requires : tie.Need-without-threshold-requires
 without-threshold-requires c κs = search needs
@@ -80,11 +80,11 @@ second-pass-spec =
     same-length-2
     returns
     mul-refine-triangles-within
-    mul-refine-triangles-within-2
+    add-refine-triangles-within
     refine-triangles-within-requires
     mul-t18
     add-t26
-    mul-t18-2
+    add-t27
     without-threshold-requires
     asked-again-requires
     pass-over-requires
