@@ -20,7 +20,7 @@ use Rattle.floor.specs.declared.Check.the-variants as check
 use Rattle.floor.specs.Floor.{Floor, pointsOf, trianglesOf, valueAt, triangleAt}
 use Rattle.pass_geometries.specs.Geometries.{geometryOn, isDegenerate, cornersOf, areaOf, Cornered}
 use Rattle.pass_geometries.proofs.Steps.{kept-corners}
-use Rattle.pass_geometries.proofs.Good.{sound-before, first-most, good-at, good-turned}
+use Rattle.pass_geometries.proofs.Good.{sound-before, first-most, good-at, good-swapped}
 use Rattle.pass_transports.specs.declared.Answer.{Answer}
 use Rattle.pass_transports.specs.declared.Answer.the-variants as answer
 use Rattle.pass_transports.specs.Transports as transports
@@ -118,7 +118,7 @@ module _ (f : Floor) where
   wound-good none h =
       all-at (Good (pointsOf f)) (tri 0 0 0) (woundOf f) (λ i b.
       let l : i < trianglesOf f = omega (arith, length-wound) in
-      subst (Good (pointsOf f)) (sym (wound-at i l)) (good-turned (valueAt (f .xs)) (valueAt (f .ys)) (pointsOf f) (trianglesOf f) (triangleAt (f .triangles)) (cornered h) i (omega arith)))
+      subst (Good (pointsOf f)) (sym (wound-at i l)) (good-swapped (valueAt (f .xs)) (valueAt (f .ys)) (pointsOf f) (trianglesOf f) (triangleAt (f .triangles)) (cornered h) i (omega arith)))
 
   -- then each edge goes from a lower to an upper point
   pub edges-keyed : All (Good (pointsOf f)) (woundOf f) → All (Keyed (pointsOf f)) (edgesOf f)
