@@ -125,6 +125,10 @@ int main(void) {
             printf("godf_refine was to flag every triangle: %d, %d flagged\n", (int)told, (int)report[2]);
             wrong = 1;
         }
+        if (i == 2 && (told != 0 || solved.flagged != T)) {
+            printf("the guided solve was to flag every triangle: %d, %d flagged\n", (int)told, (int)solved.flagged);
+            wrong = 1;
+        }
     }
     printf("most %zu bytes, allowed %d\n", most, MOST);
     return wrong || most > MOST;
