@@ -46,7 +46,8 @@ double godf_sqrt(double x);
  *
  * With n points and T triangles, the four result arrays must have room for 3 (n + 3 T) numbers of points, n + 3 T sizes, 12 T
  * corner numbers and 8 T ends of cut sides (two a side). Accepted, the front of each is filled, as far as the counts in the report say, and
- * the rest stays: what the call keeps until it is done stands in no place but these. Refused, nothing is written to them. `report` gets as many of its four numbers as it has room for:
+ * the rest stays: what the call keeps until it is done stands in no place but these. Refused, nothing is written to them. `report` gets as
+ * many of its four numbers as it has room for:
  *   0  accepted: report = counts of points, triangles, flagged triangles, cut sides
  *   otherwise the number of a refusal, report = its place, 0, 0, 0 (place 0 where there is none). They are tested in this order, 5 for the
  *   angles behind 8, and within a row the lowest place is told:
