@@ -37,7 +37,7 @@ pub fn dot(work: &[f64], a: usize, b: usize, n: usize) -> Complex
     requires { ⌜ (a + 2 * n ≤ length (now work)) × (b + 2 * n ≤ length (now work)) ⌝ }
     ensures { λ r. ⌜ r ≡ dotOf (regionC (now (work .entry)) a n) (regionC (now (work .entry)) b n) ⌝ }
 {
-    let mut sum = Complex::new(0.0, 0.0);
+    let mut sum = Complex::ZERO;
     for i in 0..n {
         sum = dot_at(work, a, b, n, i, sum);
     }

@@ -156,7 +156,7 @@ fn settle_one(flag: u32, first: Complex, sum: Complex) -> Complex
     if flag == 1 {
         return normal(sum, first);
     }
-    Complex::new(0.0, 0.0)
+    Complex::ZERO
 }
 
 fn settle_at(w: &mut [f64], u: &[u32], flags: usize, p: Planes, v: usize)

@@ -75,13 +75,7 @@ fn drop_at(work: &mut [f64], h: Hermitian, flag: &[u32], from: &[u32], to: &[u32
 {
     let yes = touches(flag, from, to, e);
     let z = load(work, h.off, h.edges, e);
-    store(
-        work,
-        h.off,
-        h.edges,
-        e,
-        pick(yes, Complex::new(0.0, 0.0), z),
-    );
+    store(work, h.off, h.edges, e, pick(yes, Complex::ZERO, z));
 }
 
 // The entries of edges with an end on the boundary become 0.
@@ -131,7 +125,7 @@ fn blank_at(work: &mut [f64], target: usize, n: usize, flag: &[u32], i: usize)
 {
     let yes = is_on(flag, i);
     let z = load(work, target, n, i);
-    store(work, target, n, i, pick(yes, Complex::new(0.0, 0.0), z));
+    store(work, target, n, i, pick(yes, Complex::ZERO, z));
 }
 
 // A soft target becomes 0 on the boundary.
@@ -191,7 +185,7 @@ fn penalty_at(work: &mut [f64], l: Penalty, n: usize, flag: &[u32], i: usize)
     let yes = is_on(flag, i);
     let penalty = l.weight * load_real(work, l.mass, i);
     let z = load(work, l.targets, n, i).scale(penalty);
-    store(work, l.rhs, n, i, pick(yes, z, Complex::new(0.0, 0.0)));
+    store(work, l.rhs, n, i, pick(yes, z, Complex::ZERO));
 }
 
 // The penalty's right-hand side, 0 off the boundary.

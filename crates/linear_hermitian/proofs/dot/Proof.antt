@@ -12,9 +12,6 @@ Inv-loop work a b n sum₀ i₀ sum i = (i ≤ n) × (sum ≡ dotTo work a b n i
 abbrev μ-loop : tie.MeasureT-loop
 μ-loop work a b n sum₀ i₀ sum i = n - i
 
-new-requires : tie.Need-new-requires Inv-loop μ-loop
-new-requires c κs = search needs
-
 loop-holds : tie.Need-loop-holds Inv-loop μ-loop
 loop-holds c = search (dot-none, needs)
 
@@ -39,7 +36,6 @@ dot-spec =
     (tie.spec
     Inv-loop
     μ-loop
-    new-requires
     loop-holds
     dot-at-requires
     add-i

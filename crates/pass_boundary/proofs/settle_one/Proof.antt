@@ -13,12 +13,9 @@ returns : tie.Need-returns
 unfolding settledAt
 returns c = c .normal .ensures ∙ rw (eq-eqb _ _ (c .before .if1 .taken))
 
-new-requires : tie.Need-new-requires
-new-requires c κs = search needs
-
 returns-2 : tie.Need-returns-2
 unfolding settledAt
-returns-2 c = c .new .ensures ∙ rw (ne-eqb _ _ (c .before .if1 .left))
+returns-2 c = rw (ne-eqb _ _ (c .if1 .left))
 
 pub settle-one-spec : {M : Type 1} → statement M
-settle-one-spec = tie.close (tie.spec normal-requires returns new-requires returns-2)
+settle-one-spec = tie.close (tie.spec normal-requires returns returns-2)

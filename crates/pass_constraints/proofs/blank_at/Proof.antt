@@ -12,9 +12,6 @@ is-on-requires c κs = search needs
 load-requires : tie.Need-load-requires
 load-requires c κs = search needs
 
-new-requires : tie.Need-new-requires
-new-requires c κs = search needs
-
 pick-requires : tie.Need-pick-requires
 pick-requires c κs = search needs
 
@@ -26,7 +23,7 @@ same-length c = search needs
 
 returns : tie.Need-returns
 unfolding blankC blankedAt
-returns c = c .before .before .store .ensures ∙ rw (c .before .before .before .pick .ensures, c .before .before .before .before .new .ensures, c .before .before .before .before .before .before .load .ensures, c .before .before .before .before .before .before .before .before .is-on .ensures)
+returns c = c .before .before .store .ensures ∙ rw (c .before .before .before .pick .ensures, c .before .before .before .before .before .load .ensures, c .before .before .before .before .before .before .before .is-on .ensures)
 
 pub blank-at-spec : {M : Type 1} → statement M
 blank-at-spec =
@@ -34,7 +31,6 @@ blank-at-spec =
     (tie.spec
     is-on-requires
     load-requires
-    new-requires
     pick-requires
     store-requires
     same-length

@@ -13,9 +13,6 @@ touches-requires c κs = ((omega (arith, c .before .before .before .before .pre 
 load-requires : tie.Need-load-requires
 load-requires c κs = search needs
 
-new-requires : tie.Need-new-requires
-new-requires c κs = search needs
-
 pick-requires : tie.Need-pick-requires
 pick-requires c κs = search needs
 
@@ -27,7 +24,7 @@ same-length c = search needs
 
 returns : tie.Need-returns
 unfolding dropC droppedAt
-returns c = c .before .before .store .ensures ∙ rw (c .before .before .before .pick .ensures, c .before .before .before .before .new .ensures, c .before .before .before .before .before .before .load .ensures, c .before .before .before .before .before .before .before .before .touches .ensures)
+returns c = c .before .before .store .ensures ∙ rw (c .before .before .before .pick .ensures, c .before .before .before .before .before .load .ensures, c .before .before .before .before .before .before .before .touches .ensures)
 
 pub drop-at-spec : {M : Type 1} → statement M
 drop-at-spec =
@@ -35,7 +32,6 @@ drop-at-spec =
     (tie.spec
     touches-requires
     load-requires
-    new-requires
     pick-requires
     store-requires
     same-length

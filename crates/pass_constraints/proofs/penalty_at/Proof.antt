@@ -18,9 +18,6 @@ load-requires c κs = search needs
 scale-requires : tie.Need-scale-requires
 scale-requires c κs = search needs
 
-new-requires : tie.Need-new-requires
-new-requires c κs = search needs
-
 pick-requires : tie.Need-pick-requires
 pick-requires c κs = search needs
 
@@ -32,7 +29,7 @@ same-length c = search needs
 
 returns : tie.Need-returns
 unfolding penaltyC penaltyAt
-returns c = c .before .before .store .ensures ∙ rw (c .before .before .before .pick .ensures, c .before .before .before .before .new .ensures, c .before .before .before .before .before .before .scale .ensures, c .before .before .before .before .before .before .before .load .ensures, c .before .before .before .before .before .before .before .before .before .before .load-real .ensures, c .before .before .before .before .before .before .before .before .before .before .before .before .is-on .ensures)
+returns c = c .before .before .store .ensures ∙ rw (c .before .before .before .pick .ensures, c .before .before .before .before .before .scale .ensures, c .before .before .before .before .before .before .load .ensures, c .before .before .before .before .before .before .before .before .before .load-real .ensures, c .before .before .before .before .before .before .before .before .before .before .before .is-on .ensures)
 
 pub penalty-at-spec : {M : Type 1} → statement M
 penalty-at-spec =
@@ -42,7 +39,6 @@ penalty-at-spec =
     load-real-requires
     load-requires
     scale-requires
-    new-requires
     pick-requires
     store-requires
     same-length
