@@ -85,8 +85,8 @@ atanRatio y x =
     (cond (not (eqb (sign x) 0) && below60 k) zero (atanOf (mag (y ⊘ x))))
 
 -- the last switch: z, z with __HI(z) ^= 0x80000000, pi - (z - pi_lo), (z - pi_lo) - pi
-unfoldable pub placed : ℕ → Float → Float
-placed m z = switch m z (lit (turnSign (toBits binary64 z))) (pi ⊖ (z ⊖ pi-lo)) (z ⊖ pi-lo ⊖ pi)
+unfoldable pub inQuadrant : ℕ → Float → Float
+inQuadrant m z = switch m z (lit (turnSign (toBits binary64 z))) (pi ⊖ (z ⊖ pi-lo)) (z ⊖ pi-lo ⊖ pi)
 
 -- x is an infinity: y is one too, or not
 unfoldable pub atInfinity : ℕ → ℕ → Float
@@ -108,4 +108,4 @@ atan2Of y x =
     (cond (isZero x) (upright y)
     (cond (eqb (high x) 0x7ff0_0000) (atInfinity m (high y))
     (cond (eqb (high y) 0x7ff0_0000) (upright y)
-    (placed m (atanRatio y x)))))))
+    (inQuadrant m (atanRatio y x)))))))

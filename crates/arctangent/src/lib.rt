@@ -2,7 +2,7 @@
 // operation (docs/FDLIBM.md).
 ghost use mathlib.Core.Path.{_≡_};
 ghost use Prim.Native.Nat.{_+_, _*_};
-ghost use Rattle.arctangent.specs.Arc.{isNan, isZero, isOne, atanTail, atanNear, atanSize, atanOf, quadrant, switch, atanRatio, placed, atInfinity, upright, atan2Of};
+ghost use Rattle.arctangent.specs.Arc.{isNan, isZero, isOne, atanTail, atanNear, atanSize, atanOf, quadrant, switch, atanRatio, inQuadrant, atInfinity, upright, atan2Of};
 
 const ATANHI0: f64 = 4.63647609000806093515e-01;
 
@@ -175,8 +175,8 @@ fn atan_ratio(y: f64, x: f64) -> f64
 }
 
 // The last switch. Turning the sign's bit of z is -z.
-fn place(m: u64, z: f64) -> f64
-    ensures { λ r. ⌜ r ≡ placed m z ⌝ }
+fn in_quadrant(m: u64, z: f64) -> f64
+    ensures { λ r. ⌜ r ≡ inQuadrant m z ⌝ }
 {
     switch_of(m, z, -z, PI - (z - PI_LO), z - PI_LO - PI)
 }
@@ -232,5 +232,5 @@ pub fn atan2(y: f64, x: f64) -> f64
     if iy == 0x7ff0_0000 {
         return upright_of(y);
     }
-    place(m, atan_ratio(y, x))
+    in_quadrant(m, atan_ratio(y, x))
 }

@@ -10,8 +10,8 @@ use lib.ListN.{length, getD, length-append, length-map, List·getD-append}
 use lib.Seq.{getD-append-add}
 use lib.Ieee.{Float, nan}
 use Rattle.float.specs.Double.{lit}
-use Rattle.mesh.specs.Mesh.{Tri, Side, side, key, place, mid, Good, All}
-use Rattle.mesh.proofs.Cuts.{side-discrete, never, next-some, above-some, place-here, place-past}
+use Rattle.mesh.specs.Mesh.{Tri, Side, side, key, indexIn, mid, Good, All}
+use Rattle.mesh.proofs.Cuts.{side-discrete, never, next-some, above-some, index-here, index-past}
 use Rattle.areas.specs.Area.{halfway}
 use Rattle.areas.specs.Points.{xOf, yOf, zOf, sizeOf, midX, midY, midpoint, midpoints, morePoints, midSize, midSizes, moreSizes}
 use Rattle.areas.specs.Claim.{Placed, EvenPoints, KeepsArea}
@@ -22,26 +22,26 @@ use Rattle.areas.proofs.Floor.{keeps-area}
 
 -- in a list that has w numbers for each side
 module _ (w : ℕ) (g : Side → List Float) (wide : (s : Side) → length (g s) ≡ w) (each : List Side → List Float) (none-each : each [] ≡ []) (one-more : (s : Side) (l : List Side) → each (s ∷ l) ≡ g s ++ each l) where
-  each-at : (s : Side) (l : List Side) (k j : ℕ) → j < w → place s l ≡ some k → getD (each l) (w * k + j) nan ≡ getD (g s) j nan
-  unfolding place
+  each-at : (s : Side) (l : List Side) (k j : ℕ) → j < w → indexIn s l ≡ some k → getD (each l) (w * k + j) nan ≡ getD (g s) j nan
+  unfolding indexIn
   each-at s [] k j b h = never none k refl h
   each-at s (t ∷ l) k j b h = rw (one-more t l) (go (side-discrete s t) (λ i. each-at s l i j b))
     where
-      go : Dec (s ≡ t) → ((i : ℕ) → place s l ≡ some i → getD (each l) (w * i + j) nan ≡ getD (g s) j nan) → getD (g t ++ each l) (w * k + j) nan ≡ getD (g s) j nan
+      go : Dec (s ≡ t) → ((i : ℕ) → indexIn s l ≡ some i → getD (each l) (w * i + j) nan ≡ getD (g s) j nan) → getD (g t ++ each l) (w * k + j) nan ≡ getD (g s) j nan
       go (yes e) ih =
-          let z : zero ≡ k = cc (place-here s t l e) in
+          let z : zero ≡ k = cc (index-here s t l e) in
           let i : w * k + j ≡ j = ap (λ (x : ℕ). w * x + j) (sym z) ∙ omega arith in
           rw (i, e) (List·getD-append (g t) (each l) nan j (omega (arith, wide t)))
       go (no e) ih =
-          let d = next-some (place s l) k (sym (place-past s t l e) ∙ h) in
+          let d = next-some (indexIn s l) k (sym (index-past s t l e) ∙ h) in
           let i : w * k + j ≡ length (g t) + (w * d .0 + j) = ap (λ (x : ℕ). w * x + j) (d .2) ∙ omega (arith, wide t) in
           rw i (getD-append-add (g t) (each l) (w * d .0 + j) nan ∙ ih (d .0) (d .1))
 
-mids-at : (pts : List Float) (s : Side) (l : List Side) (k j : ℕ) → j < 3 → place s l ≡ some k → getD (midpoints pts l) (3 * k + j) nan ≡ getD (midpoint pts s) j nan
+mids-at : (pts : List Float) (s : Side) (l : List Side) (k j : ℕ) → j < 3 → indexIn s l ≡ some k → getD (midpoints pts l) (3 * k + j) nan ≡ getD (midpoint pts s) j nan
 unfolding midpoints
 mids-at pts = each-at 3 (midpoint pts) (λ s. refl) (midpoints pts) refl (λ s l. refl)
 
-sizes-at : (sizes : List Float) (s : Side) (l : List Side) (k : ℕ) → place s l ≡ some k → getD (midSizes sizes l) k nan ≡ midSize sizes s
+sizes-at : (sizes : List Float) (s : Side) (l : List Side) (k : ℕ) → indexIn s l ≡ some k → getD (midSizes sizes l) k nan ≡ midSize sizes s
 unfolding midSizes
 sizes-at sizes s l k h = let e : k ≡ 1 * k + 0 = omega arith in ap (λ (i : ℕ). getD (map (midSize sizes) l) i nan) e ∙ each-at 1 (λ s. midSize sizes s ∷ []) (λ s. refl) (map (midSize sizes)) refl (λ s l. refl) s l k 0 (omega arith) h
 
@@ -64,14 +64,14 @@ module _ (n : ℕ) (pts sizes : List Float) (l : List Side) (whole : length pts 
   new-number : (u v p j : ℕ) → j < 3 → mid n l u v ≡ some p → getD (morePoints pts l) (3 * p + j) nan ≡ getD (midpoint pts (key u v)) j nan
   unfolding morePoints mid
   new-number u v p j b e =
-      let k = above-some n (place (key u v) l) p e in
+      let k = above-some n (indexIn (key u v) l) p e in
       let i : 3 * p + j ≡ length pts + (3 * k .0 + j) = omega (arith, k .2) in
       rw i (getD-append-add pts (midpoints pts l) (3 * k .0 + j) nan ∙ mids-at pts (key u v) l (k .0) j b (k .1))
 
   new-size : (u v p : ℕ) → mid n l u v ≡ some p → sizeOf (moreSizes sizes l) p ≡ midSize sizes (key u v)
   unfolding moreSizes mid
   new-size u v p e =
-      let k = above-some n (place (key u v) l) p e in
+      let k = above-some n (indexIn (key u v) l) p e in
       let i : p ≡ length sizes + k .0 = omega (arith, k .2) in
       rw i (getD-append-add sizes (midSizes sizes l) (k .0) nan ∙ sizes-at sizes (key u v) l (k .0) (k .1))
 

@@ -58,13 +58,13 @@ and-none : (a b : Bool) → a ≡ true → (a && b) ≡ false → b ≡ false
 and-none true b e h = h
 and-none false b e h = let z : _≡_ {A = ℕ} 0 1 = cc in absurd (omega arith)
 
-record Roomy (adaptive : Bool) (n t : ℕ) (l : Lengths) : Type 0 where
+record LengthsRoom (adaptive : Bool) (n t : ℕ) (l : Lengths) : Type 0 where
   coarse : n ≤ l .coarse
   fine : adaptive ≡ true → mostPoints true n t ≤ l .fine
   reals : 64 * mostPoints adaptive n t + 32 * mostTriangles adaptive t ≤ l .work
   words : 16 * mostPoints adaptive n t + 32 * mostTriangles adaptive t ≤ l .numbers
 
-roomy : (adaptive : Bool) (n t : ℕ) (l : Lengths) → short adaptive n t l ≡ false → Roomy adaptive n t l
+roomy : (adaptive : Bool) (n t : ℕ) (l : Lengths) → short adaptive n t l ≡ false → LengthsRoom adaptive n t l
 unfolding short
 roomy adaptive n t l e =
     let a = or-none (ltb (l .coarse) n) _ e in
@@ -86,7 +86,7 @@ module _ (c : Call) (l : Lengths) (sound : checkSolve c l ≡ Sound) where
   no-bad-corner : (i : ℕ) → i < trianglesIn c → badCorner (c .corners) (pointsIn c) i ≡ false
   no-bad-corner i h = lowest-before (badCorner (c .corners) (pointsIn c)) (trianglesIn c) i (omega (arith, ltb-false (lowest (badCorner (c .corners) (pointsIn c)) (trianglesIn c)) (trianglesIn c) (row-passed c l sound 7 (omega arith))))
 
-  room : Roomy (isAdaptive (c .options)) (pointsIn c) (trianglesIn c) l
+  room : LengthsRoom (isAdaptive (c .options)) (pointsIn c) (trianglesIn c) l
   room = roomy (isAdaptive (c .options)) (pointsIn c) (trianglesIn c) l (row-passed c l sound 17 (omega arith))
 
   pub sound-ready : Ready c l

@@ -6,7 +6,7 @@ use Rattle.arctangent.specs.Arc.{atanTail, atanNear, atanSize, atanOf, atanRati
 use Rattle.complex.specs.Complex.{argumentOf}
 use Rattle.complex.specs.Angle.{inRange, crossAngle, unwound, wrapToPi}
 use Rattle.geometry.specs.Edge.{alignmentWeight}
-use Rattle.mesh.specs.Mesh.{key, place, met, metAll, sidesAfter, marked, cuts, mid, refine}
+use Rattle.mesh.specs.Mesh.{key, indexIn, met, metAll, sidesAfter, marked, cuts, mid, refine}
 use Rattle.areas.specs.Area.{halfway}
 use Rattle.areas.specs.Points.{morePoints, midpoints}
 use Rattle.refinement.specs.Flag.{turnAlong, variation, flagged, flaggedTri}
@@ -17,11 +17,11 @@ use Rattle.root.specs.Root.{rootIn, rootBits, rootOf}
 use Rattle.cases.specs.Cases.{Cases, square, angles, ones, two, seven, refined}
 
 seven-points : refined 256 .points ≡ seven
-unfolding square angles ones two seven refinementOf flaggedTri flagged variation turnAlong marked cuts sidesAfter metAll met place key refine mid morePoints midpoints halfway ofInt add sub mul div rem le lt ne mag ofBits
+unfolding square angles ones two seven refinementOf flaggedTri flagged variation turnAlong marked cuts sidesAfter metAll met indexIn key refine mid morePoints midpoints halfway ofInt add sub mul div rem le lt ne mag ofBits
 seven-points = refl
 
 pub cases : Cases
-unfolding square angles ones two refinementOf flaggedTri flagged variation turnAlong marked cuts sidesAfter metAll met place key refine mid add sub mul div rem neg lt le eq ne ofBits toBits ofInt toUnsigned toSigned mag roundSize roundAway atanTail atanNear atanSize atanOf atanRatio placed atInfinity atan2Of argumentOf inRange crossAngle unwound wrapToPi winding turns charge alignmentWeight rootIn rootBits rootOf
+unfolding square angles ones two refinementOf flaggedTri flagged variation turnAlong marked cuts sidesAfter metAll met indexIn key refine mid add sub mul div rem neg lt le eq ne ofBits toBits ofInt toUnsigned toSigned mag roundSize roundAway atanTail atanNear atanSize atanOf atanRatio placed atInfinity atan2Of argumentOf inRange crossAngle unwound wrapToPi winding turns charge alignmentWeight rootIn rootBits rootOf
 cases = record {
   case-1 = (listing, seven-points);
   case-2 = (refl, refl);

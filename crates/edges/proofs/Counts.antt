@@ -12,8 +12,8 @@ use mathlib.Core.Option.{some}
 use borrow.Author.Tests.{eq-eqb, ne-eqb}
 use lib.Dec.{eqb}
 use lib.ListN.{length, getD}
-use Rattle.mesh.specs.Mesh.{Side, side, key, same, Tri, tri, place, sides, one, total, count, Numbered, All, Same}
-use Rattle.mesh.proofs.Cuts.{key-same, same-key, same-cases, place-only}
+use Rattle.mesh.specs.Mesh.{Side, side, key, same, Tri, tri, indexIn, sides, one, total, count, Numbered, All, Same}
+use Rattle.mesh.proofs.Cuts.{key-same, same-key, same-cases, index-only}
 use Rattle.mesh.proofs.Weigh.{F, F-cases, F-one, around}
 use Rattle.mesh.proofs.Local.{Distinct}
 use Rattle.mesh.proofs.Whole.{count-around}
@@ -34,13 +34,13 @@ listed-snoc [] (tri a b c) = refl
 listed-snoc (tri a b c ∷ ts) t = ap (λ (l : List Side). sides (tri a b c) ++ l) (listed-snoc ts t)
 
 -- a number is a side's exactly if its side is that side
-number-test : (l : List Side) → Numbered l → (s p : ℕ) → s < length l → (t : Side) → place t l ≡ some p → one (eqb s p) ≡ one (same (getD l s (side 0 0)) t)
+number-test : (l : List Side) → Numbered l → (s p : ℕ) → s < length l → (t : Side) → indexIn t l ≡ some p → one (eqb s p) ≡ one (same (getD l s (side 0 0)) t)
 number-test l n s p h t e = go (ℕ-discrete s p) (same-cases (getD l s (side 0 0)) t)
   where
     go : Dec (s ≡ p) → ((same (getD l s (side 0 0)) t ≡ true) × (getD l s (side 0 0) ≡ t)) ⊎ ((same (getD l s (side 0 0)) t ≡ false) × (getD l s (side 0 0) ≢ t)) → one (eqb s p) ≡ one (same (getD l s (side 0 0)) t)
     go (yes z) (inl k) = rw (eq-eqb s p z, k .0)
-    go (yes z) (inr k) = absurd (k .1 (place-only (getD l s (side 0 0)) t l p (n s h ∙ ap some z) e))
-    go (no z) (inl k) = let q : some s ≡ some p = sym (n s h) ∙ ap (λ (x : Side). place x l) (k .1) ∙ e in absurd (z cc)
+    go (yes z) (inr k) = absurd (k .1 (index-only (getD l s (side 0 0)) t l p (n s h ∙ ap some z) e))
+    go (no z) (inl k) = let q : some s ≡ some p = sym (n s h) ∙ ap (λ (x : Side). indexIn x l) (k .1) ∙ e in absurd (z cc)
     go (no z) (inr k) = rw (ne-eqb s p z, k .0)
 
 occurs-three : (s e : ℕ) (w : List ℕ) (i : ℕ) → occurs s e w (3 * (i + 1)) ≡ one (eqb s (getD w (e + 3 * i + 2) 0)) + (one (eqb s (getD w (e + 3 * i + 1) 0)) + (one (eqb s (getD w (e + 3 * i) 0)) + occurs s e w (3 * i)))

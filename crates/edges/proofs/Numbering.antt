@@ -12,11 +12,11 @@ use borrow.Author.Tests.{eq-eqb, ne-eqb}
 use lib.Dec.{eqb}
 use lib.ListN.{length, length-append, getD, List·getD-append, set, length-set, replicate, length-replicate}
 use lib.Seq.{getD-at, getD-set-same, getD-set-other, sets, length-sets}
-use Rattle.mesh.specs.Mesh.{Side, side, key, Tri, tri, place, met, metAll, sides, sidesAfter, one}
-use Rattle.mesh.proofs.Theorem.{place-below}
+use Rattle.mesh.specs.Mesh.{Side, side, key, Tri, tri, indexIn, met, metAll, sides, sidesAfter, one}
+use Rattle.mesh.proofs.Theorem.{index-below}
 use Rattle.runs.proofs.Runs.{sets-before, sets-behind}
 use Rattle.edges.specs.Table.{pairs, loOf, hiOf, sidesIn, Held, MetTri, NumbersOf}
-use Rattle.edges.specs.Numbering.{triFrom, trisFrom, Room, NumberStep, NumberedTo, occurs, Below, Counted}
+use Rattle.edges.specs.Numbering.{triFrom, trisFrom, NumberingRoom, NumberStep, NumberedTo, occurs, Below, Counted}
 use Rattle.edges.proofs.Tree.{length-pairs, trees-same}
 use Rattle.edges.proofs.Stored.{met-keeps, zeros-at, slot-below, spot-in}
 
@@ -71,16 +71,16 @@ module _ (l : List ℕ) (i p q r : ℕ) where
 numbers-below : {o N : ℕ} {w w′ : List ℕ} {m m′ p q r a b c : ℕ} → MetTri o N w m w′ m′ p q r (tri a b c) → (p < m′) × (q < m′) × (r < m′)
 numbers-below {o} {N} {w} {w′} {m} {m′} t = (low _ _ (t .numbers .0), low _ _ (t .numbers .1), low _ _ (t .numbers .2))
   where
-    low : (s : Side) (p : ℕ) → place s (sidesIn o N w′ m′) ≡ some p → p < m′
-    low s p h = omega (arith, place-below s (sidesIn o N w′ m′) p h, length-pairs (loOf o N w′) (hiOf o N w′) m′)
+    low : (s : Side) (p : ℕ) → indexIn s (sidesIn o N w′ m′) ≡ some p → p < m′
+    low s p h = omega (arith, index-below s (sidesIn o N w′ m′) p h, length-pairs (loOf o N w′) (hiOf o N w′) m′)
 
 -- and fit 32 bits
-pub numbers-fit : {c e o N t i len : ℕ} {w w′ : List ℕ} {m m′ p q r x y z : ℕ} → Room c e o N t len → (i < t) × (m ≤ 3 * i) → MetTri o N w m w′ m′ p q r (tri x y z) → (p < 2 ^ 32) × (q < 2 ^ 32) × (r < 2 ^ 32)
+pub numbers-fit : {c e o N t i len : ℕ} {w w′ : List ℕ} {m m′ p q r x y z : ℕ} → NumberingRoom c e o N t len → (i < t) × (m ≤ 3 * i) → MetTri o N w m w′ m′ p q r (tri x y z) → (p < 2 ^ 32) × (q < 2 ^ 32) × (r < 2 ^ 32)
 numbers-fit room few met =
     let b = numbers-below met in
     (omega (arith, b .0, met .more, room .narrow, few .0, few .1), omega (arith, b .1, met .more, room .narrow, few .0, few .1), omega (arith, b .2, met .more, room .narrow, few .0, few .1))
 
-pub step-of : {c e o N t i : ℕ} {w w₁ w′ : List ℕ} {m m′ p q r : ℕ} → Room c e o N t (length w) → i < t → m ≤ 3 * i → MetTri o N w m w₁ m′ p q r (triFrom c w i) → w′ ≡ sets w₁ (e + 3 * i) (p ∷ q ∷ r ∷ [])
+pub step-of : {c e o N t i : ℕ} {w w₁ w′ : List ℕ} {m m′ p q r : ℕ} → NumberingRoom c e o N t (length w) → i < t → m ≤ 3 * i → MetTri o N w m w₁ m′ p q r (triFrom c w i) → w′ ≡ sets w₁ (e + 3 * i) (p ∷ q ∷ r ∷ [])
     → NumberStep c e o N i w m w′ m′
 step-of {c} {e} {o} {N} {t} {i} {w} {w₁} {w′} {m} {m′} {p} {q} {r} plan it few met z =
     let a = e + 3 * i in
@@ -102,7 +102,7 @@ step-of {c} {e} {o} {N} {t} {i} {w} {w₁} {w′} {m} {m′} {p} {q} {r} plan it
 -- ---- all the triangles
 
 -- a number stays as the sides of more triangles are met
-keeps : (l ss : List Side) (s : Side) (k : ℕ) → place s l ≡ some k → place s (metAll l ss) ≡ some k
+keeps : (l ss : List Side) (s : Side) (k : ℕ) → indexIn s l ≡ some k → indexIn s (metAll l ss) ≡ some k
 unfolding metAll
 keeps l [] s k h = h
 keeps l (x ∷ ss) s k h = keeps (met l x) ss s k (met-keeps l s x k h)
@@ -143,7 +143,7 @@ numbered-none c e o N w h = record {
   elsewhere = λ j p q. refl;
 }
 
-pub numbered-more : {c e o N t i : ℕ} {w₀ w w′ : List ℕ} {m m′ : ℕ} → Room c e o N t (length w₀) → i < t → NumberedTo c e o N i w₀ w m → NumberStep c e o N i w m w′ m′ → NumberedTo c e o N (i + 1) w₀ w′ m′
+pub numbered-more : {c e o N t i : ℕ} {w₀ w w′ : List ℕ} {m m′ : ℕ} → NumberingRoom c e o N t (length w₀) → i < t → NumberedTo c e o N i w₀ w m → NumberStep c e o N i w m w′ m′ → NumberedTo c e o N (i + 1) w₀ w′ m′
 unfolding trisFrom
 numbered-more {c} {e} {o} {N} {t} {i} {w₀} {w} {w′} {m} {m′} plan it n s =
     let met : sidesIn o N w′ m′ ≡ metAll (sidesIn o N w m) (sides (triFrom c w₀ i)) = s .now-met ∙ ap (λ (x : Tri). metAll (sidesIn o N w m) (sides x)) here in
@@ -165,7 +165,7 @@ numbered-more {c} {e} {o} {N} {t} {i} {w₀} {w} {w′} {m} {m′} plan it n s =
     cell : (j : ℕ) → j < e + 3 * i → j < o → getD w′ j 0 ≡ getD w j 0
     cell j h g = s .elsewhere j (inl g) (inl h)
 
-    stays : (x : Side) (p : ℕ) → place x (sidesIn o N w m) ≡ some p → place x (sidesIn o N w′ m′) ≡ some p
+    stays : (x : Side) (p : ℕ) → indexIn x (sidesIn o N w m) ≡ some p → indexIn x (sidesIn o N w′ m′) ≡ some p
     stays x p h = rw (s .now-met) (keeps (sidesIn o N w m) (sides (triFrom c w i)) x p h)
 
     old : (k : ℕ) → k < i + 1 → Dec (k ≡ i) → NumbersOf (triFrom c w₀ k) (sidesIn o N w′ m′) (getD w′ (e + 3 * k) 0) (getD w′ (e + 3 * k + 1) 0) (getD w′ (e + 3 * k + 2) 0)
@@ -179,7 +179,7 @@ numbered-more {c} {e} {o} {N} {t} {i} {w₀} {w} {w′} {m} {m′} plan it n s =
         )
 
 -- from the slice as it was before its table was cleared
-pub numbered-cleared : {c e o N t : ℕ} {w w₁ w′ : List ℕ} {m : ℕ} → Room c e o N t (length w) → w₁ ≡ sets w o (replicate N 0) → NumberedTo c e o N t w₁ w′ m → NumberedTo c e o N t w w′ m
+pub numbered-cleared : {c e o N t : ℕ} {w w₁ w′ : List ℕ} {m : ℕ} → NumberingRoom c e o N t (length w) → w₁ ≡ sets w o (replicate N 0) → NumberedTo c e o N t w₁ w′ m → NumberedTo c e o N t w w′ m
 numbered-cleared {c} {e} {o} {N} {t} {w} {w₁} {w′} {m} plan z n = record {
   held = n .held;
   all-met = n .all-met ∙ ap (sidesAfter []) (tris-same c t w w₁ (λ j h. before j (omega (arith, plan .corners, plan .numbers))));
@@ -205,8 +205,8 @@ below-to : (e m : ℕ) (l : List Side) → length l ≡ m → (w : List ℕ) (ts
 below-to e m l z w ts zero h = λ j g. absurd (omega arith)
 below-to e m l z w ts (suc i) h = λ j g. go j g (ts i) (h i (omega arith)) (below-to e m l z w ts i (λ k b. h k (omega arith))) (ℕ-discrete j (3 * i)) (ℕ-discrete j (3 * i + 1)) (ℕ-discrete j (3 * i + 2))
   where
-    low : (s : Side) (k : ℕ) → place s l ≡ some k → k < m
-    low s k h = omega (arith, place-below s l k h)
+    low : (s : Side) (k : ℕ) → indexIn s l ≡ some k → k < m
+    low s k h = omega (arith, index-below s l k h)
 
     go : (j : ℕ) → j < 3 * suc i → (t : Tri) → NumbersOf t l (getD w (e + 3 * i) 0) (getD w (e + 3 * i + 1) 0) (getD w (e + 3 * i + 2) 0) → Below m e w (3 * i)
         → Dec (j ≡ 3 * i) → Dec (j ≡ 3 * i + 1) → Dec (j ≡ 3 * i + 2) → getD w (e + j) 0 < m

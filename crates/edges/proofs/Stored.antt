@@ -13,12 +13,12 @@ use lib.Dec.{eqb, ltb}
 use lib.ListN.{length, getD, set, length-set, length-append, replicate}
 use lib.Seq.{getD-set-same, getD-set-other, sets, length-sets}
 use borrow.Author.Tests.{lt-ltb, le-ltb}
-use Rattle.mesh.specs.Mesh.{Side, side, key, tri, place, met, metAll}
-use Rattle.mesh.proofs.Theorem.{place-below}
+use Rattle.mesh.specs.Mesh.{Side, side, key, tri, indexIn, met, metAll}
+use Rattle.mesh.proofs.Theorem.{index-below}
 use Rattle.runs.proofs.Runs.{sets-before}
-use Rattle.mesh.proofs.Cuts.{key-either, place-keep, place-end, met-old, met-new, met-numbered, Found, found, missing, find}
+use Rattle.mesh.proofs.Cuts.{key-either, index-keep, index-end, met-old, met-new, met-numbered, Found, found, missing, find}
 use Rattle.edges.specs.Table.{slotOf, pathOf, pairs, Spot, bucket, link, Trees, Free, holdOf, loOf, hiOf, underOf, sidesIn, Held, Walked, Outside, Met, MetTri, oneMore}
-use Rattle.edges.proofs.Tree.{same-both, same-not, Walk, walk-start, walk-known, walk-on, walk-free, walk-none, left-over, walk-less, Put, trees-more, no-trees, new-pairs, length-pairs, place-here, place-nowhere}
+use Rattle.edges.proofs.Tree.{same-both, same-not, Walk, walk-start, walk-known, walk-on, walk-free, walk-none, left-over, walk-less, Put, trees-more, no-trees, new-pairs, length-pairs, index-here, index-nowhere}
 
 -- the bucket of a side is one of the N
 pub slot-below : (N a b : ℕ) → 0 < N → slotOf N a b < N
@@ -172,7 +172,7 @@ module _ {o N : ℕ} {w : List ℕ} {m a b p r at : ℕ} (g : Going o N w m a b 
       let both = same-both (loOf o N w (at - 1)) (hiOf o N w (at - 1)) a b hit in
       let i : at ≡ suc (at - 1) = omega arith in
       record {
-        number = i ∙ sym (ap oneMore (place-here (loOf o N w) (hiOf o N w) m a b (at - 1) (g .held .numbered) (omega (arith, g .few)) (both .0) (both .1)));
+        number = i ∙ sym (ap oneMore (index-here (loOf o N w) (hiOf o N w) m a b (at - 1) (g .held .numbered) (omega (arith, g .few)) (both .0) (both .1)));
         few = g .few;
         spot = g .walk .spot;
         free = λ z. absurd (h z);
@@ -180,7 +180,7 @@ module _ {o N : ℕ} {w : List ℕ} {m a b p r at : ℕ} (g : Going o N w m a b 
 
   pub going-none : at ≡ 0 → Walked o N w m a b at p
   going-none z = record {
-    number = z ∙ sym (ap oneMore (place-nowhere (loOf o N w) (hiOf o N w) a b m (walk-none (g .held .trees) (g .walk) (sym (g .here) ∙ z))));
+    number = z ∙ sym (ap oneMore (index-nowhere (loOf o N w) (hiOf o N w) a b m (walk-none (g .held .trees) (g .walk) (sym (g .here) ∙ z))));
     few = g .few;
     spot = g .walk .spot;
     free = λ i. walk-free (g .held .trees) (g .walk) (sym (g .here) ∙ z);
@@ -200,7 +200,7 @@ none-of (some k) e h = absurd (omega arith)
 module _ {o N : ℕ} {w : List ℕ} {m at p : ℕ} (a b : ℕ) (t : Held o N w m) (k : Walked o N w m a b at p) where
   pub met-found : at ≢ 0 → Met o N w m w m (at - 1) (side a b)
   met-found h =
-      let q : place (side a b) (sidesIn o N w m) ≡ some (at - 1) = some-of at (place (side a b) (sidesIn o N w m)) (k .number) h in
+      let q : indexIn (side a b) (sidesIn o N w m) ≡ some (at - 1) = some-of at (indexIn (side a b) (sidesIn o N w m)) (k .number) h in
       record {
         held = t;
         now-met = sym (met-old (sidesIn o N w m) (side a b) _ q);
@@ -213,7 +213,7 @@ module _ {o N : ℕ} {w : List ℕ} {m at p : ℕ} (a b : ℕ) (t : Held o N w m
   met-added z room =
       let w′ = stored o N w m a b p in
       let d = put o N w m a b p (k .spot) room in
-      let out = none-of (place (side a b) (sidesIn o N w m)) (k .number) z in
+      let out = none-of (indexIn (side a b) (sidesIn o N w m)) (k .number) z in
       let new : sidesIn o N w′ (m + 1) ≡ sidesIn o N w m ++ (side a b ∷ []) = ap (pairs (loOf o N w′) (hiOf o N w′)) (add-one m) ∙ new-pairs d in
       let now : sidesIn o N w′ (m + 1) ≡ met (sidesIn o N w m) (side a b) = new ∙ sym (met-new (sidesIn o N w m) (side a b) out) in
       record {
@@ -225,7 +225,7 @@ module _ {o N : ℕ} {w : List ℕ} {m at p : ℕ} (a b : ℕ) (t : Held o N w m
           numbered = rw now (met-numbered (sidesIn o N w m) (side a b) (t .numbered));
         };
         now-met = now;
-        number = rw new (place-end (side a b) (sidesIn o N w m) out ∙ ap some (length-pairs (loOf o N w) (hiOf o N w) m));
+        number = rw new (index-end (side a b) (sidesIn o N w m) out ∙ ap some (length-pairs (loOf o N w) (hiOf o N w) m));
         more = omega arith;
         outside = stored-outside o N w m a b p (k .spot) room;
       }
@@ -237,12 +237,12 @@ pub met-key′ : {o N : ℕ} {w w′ : List ℕ} {m m′ k : ℕ} (u v : ℕ) �
 met-key′ u v h t = rw (⊎-elim (λ p. absurd (omega (arith, p .1))) (λ p. p .0) (key-either u v)) t
 
 -- a number stays as more sides are met
-pub met-keeps : (l : List Side) (s t : Side) (k : ℕ) → place s l ≡ some k → place s (met l t) ≡ some k
+pub met-keeps : (l : List Side) (s t : Side) (k : ℕ) → indexIn s l ≡ some k → indexIn s (met l t) ≡ some k
 met-keeps l s t k h = go (find t l)
   where
-    go : Found t l → place s (met l t) ≡ some k
+    go : Found t l → indexIn s (met l t) ≡ some k
     go (found j f) = rw (met-old l t j f) h
-    go (missing f) = rw (met-new l t f) (place-keep s l (t ∷ []) k h)
+    go (missing f) = rw (met-new l t f) (index-keep s l (t ∷ []) k h)
 
 outside-more : {o N : ℕ} {w w₁ w₂ : List ℕ} {m₁ m₂ : ℕ} → m₁ ≤ m₂ → Outside o N w m₁ w₁ → Outside o N w₁ m₂ w₂ → Outside o N w m₂ w₂
 outside-more h p q = record {
@@ -265,7 +265,7 @@ pub met-three : {o N : ℕ} {w w₁ w₂ w₃ : List ℕ} {m m₁ m₂ m₃ p q 
     → MetTri o N w m w₃ m₃ p q r (tri a b c)
 unfolding metAll
 met-three {o} {N} {w₁ = w₁} {w₂} {w₃} {m₁ = m₁} {m₂} {m₃} {p} {q} {r} a b c x y z =
-    let p₂ : place (key a b) (sidesIn o N w₂ m₂) ≡ some p = rw (y .now-met) (met-keeps (sidesIn o N w₁ m₁) (key a b) (key b c) p (x .number)) in
+    let p₂ : indexIn (key a b) (sidesIn o N w₂ m₂) ≡ some p = rw (y .now-met) (met-keeps (sidesIn o N w₁ m₁) (key a b) (key b c) p (x .number)) in
     record {
       held = z .held;
       now-met = z .now-met ∙ rw (y .now-met, x .now-met);
@@ -281,10 +281,10 @@ met-three {o} {N} {w₁ = w₁} {w₂} {w₃} {m₁ = m₁} {m₂} {m₃} {p} {q
 
 -- ---- a side is looked for
 
-pub found-key : {o N : ℕ} {w : List ℕ} {m at p : ℕ} (u v : ℕ) → u < v → Walked o N w m u v at p → (at ≡ oneMore (place (key u v) (sidesIn o N w m))) × (at ≤ m)
+pub found-key : {o N : ℕ} {w : List ℕ} {m at p : ℕ} (u v : ℕ) → u < v → Walked o N w m u v at p → (at ≡ oneMore (indexIn (key u v) (sidesIn o N w m))) × (at ≤ m)
 found-key u v h t = rw (⊎-elim (λ p. p .0) (λ p. absurd (omega (arith, p .1))) (key-either u v)) (t .number, t .few)
 
-pub found-key′ : {o N : ℕ} {w : List ℕ} {m at p : ℕ} (u v : ℕ) → v ≤ u → Walked o N w m v u at p → (at ≡ oneMore (place (key u v) (sidesIn o N w m))) × (at ≤ m)
+pub found-key′ : {o N : ℕ} {w : List ℕ} {m at p : ℕ} (u v : ℕ) → v ≤ u → Walked o N w m v u at p → (at ≡ oneMore (indexIn (key u v) (sidesIn o N w m))) × (at ≤ m)
 found-key′ u v h t = rw (⊎-elim (λ p. absurd (omega (arith, p .1))) (λ p. p .0) (key-either u v)) (t .number, t .few)
 
 -- ---- an empty table

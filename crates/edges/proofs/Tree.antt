@@ -14,8 +14,8 @@ use lib.Dec.{eqb}
 use lib.ListN.{length, getD, length-append, List·getD-append}
 use lib.Seq.{getD-append-seam}
 use borrow.Author.Tests.{eq-eqb, eqb-true}
-use Rattle.mesh.specs.Mesh.{side, place, Numbered}
-use Rattle.mesh.proofs.Cuts.{place-out}
+use Rattle.mesh.specs.Mesh.{side, indexIn, Numbered}
+use Rattle.mesh.proofs.Cuts.{index-out}
 use Rattle.edges.specs.Table.{slotOf, pathOf, pairs, Spot, bucket, link, next, leadsIn, Leads, Trees, Keeps, Free}
 
 -- ---- the test whether two sides are one
@@ -222,11 +222,11 @@ pair-at lo hi (suc j) k h = go (ℕ-discrete k j) (pair-at lo hi j k)
         rw z (getD-append-seam (pairs lo hi j) (side (lo j) (hi j)) [] (side 0 0)) ∙ ap (λ (i : ℕ). side (lo i) (hi i)) (sym e)
     go (no e) ih = List·getD-append (pairs lo hi j) (side (lo j) (hi j) ∷ []) (side 0 0) k (omega (arith, length-pairs lo hi j)) ∙ ih (omega arith)
 
-pub place-here : (lo hi : ℕ → ℕ) (m a b k : ℕ) → Numbered (pairs lo hi m) → k < m → lo k ≡ a → hi k ≡ b → place (side a b) (pairs lo hi m) ≡ some k
-place-here lo hi m a b k n l u v = rw (pair-at lo hi m k l ∙ ap₂ side u v) at (n k (omega (arith, length-pairs lo hi m)))
+pub index-here : (lo hi : ℕ → ℕ) (m a b k : ℕ) → Numbered (pairs lo hi m) → k < m → lo k ≡ a → hi k ≡ b → indexIn (side a b) (pairs lo hi m) ≡ some k
+index-here lo hi m a b k n l u v = rw (pair-at lo hi m k l ∙ ap₂ side u v) at (n k (omega (arith, length-pairs lo hi m)))
 
-pub place-nowhere : (lo hi : ℕ → ℕ) (a b m : ℕ) → ((k : ℕ) → k < m → lo k ≡ a → hi k ≡ b → ⊥) → place (side a b) (pairs lo hi m) ≡ none
-unfolding pairs place
-place-nowhere lo hi a b zero h = refl
-place-nowhere lo hi a b (suc k) h =
-    place-out (side a b) (side (lo k) (hi k)) (pairs lo hi k) (place-nowhere lo hi a b k (λ j l. h j (omega arith))) (λ e. let u : lo k ≡ a = cc in let v : hi k ≡ b = cc in h k (omega arith) u v)
+pub index-nowhere : (lo hi : ℕ → ℕ) (a b m : ℕ) → ((k : ℕ) → k < m → lo k ≡ a → hi k ≡ b → ⊥) → indexIn (side a b) (pairs lo hi m) ≡ none
+unfolding pairs indexIn
+index-nowhere lo hi a b zero h = refl
+index-nowhere lo hi a b (suc k) h =
+    index-out (side a b) (side (lo k) (hi k)) (pairs lo hi k) (index-nowhere lo hi a b k (λ j l. h j (omega arith))) (λ e. let u : lo k ≡ a = cc in let v : hi k ≡ b = cc in h k (omega arith) u v)

@@ -11,11 +11,11 @@ use mathlib.Core.Option.{some}
 use lib.Dec.{eqb}
 use lib.ListN.{length, getD, set, length-set, length-append, replicate}
 use lib.Seq.{getD-set-same, getD-set-other, sets, length-sets}
-use Rattle.mesh.specs.Mesh.{Side, side, key, tri, place, met, metAll}
-use Rattle.mesh.proofs.Cuts.{key-either, place-end, met-old, met-new, met-numbered, Found, found, missing, find}
+use Rattle.mesh.specs.Mesh.{Side, side, key, tri, indexIn, met, metAll}
+use Rattle.mesh.proofs.Cuts.{key-either, index-end, met-old, met-new, met-numbered, Found, found, missing, find}
 use Rattle.edges.specs.Table.{slotOf, pathOf, pairs, Spot, bucket, link, Trees, holdOf, oneMore}
-use Rattle.edges.specs.Apart.{loAt, hiAt, underAt, sidesAt, HeldApart, WalkedApart, OutsideApart, MetApart, MetTriApart}
-use Rattle.edges.proofs.Tree.{same-both, same-not, Walk, walk-start, walk-known, walk-on, walk-free, walk-none, left-over, walk-less, Put, trees-more, trees-same, no-trees, new-pairs, length-pairs, place-here, place-nowhere}
+use Rattle.edges.specs.TwoSlices.{loAt, hiAt, underAt, sidesAt, HeldInTwo, WalkedInTwo, OutsideInTwo, MetInTwo, MetTriInTwo}
+use Rattle.edges.proofs.Tree.{same-both, same-not, Walk, walk-start, walk-known, walk-on, walk-free, walk-none, left-over, walk-less, Put, trees-more, trees-same, no-trees, new-pairs, length-pairs, index-here, index-nowhere}
 use Rattle.edges.proofs.Stored.{slot-below, some-of, none-of, met-keeps, zeros-at}
 
 -- a position stands before the links of the next side
@@ -83,12 +83,12 @@ module _ (o N : ℕ) (w : List ℕ) (m p : ℕ) (spot : Spot o N (underAt o N) m
 -- ---- a walk: at position p, which holds `at`, with r left of its path
 
 pub record Going (o N : ℕ) (e w : List ℕ) (m a b p r at : ℕ) : Type 0 where
-  pub held : HeldApart o N e w m
+  pub held : HeldInTwo o N e w m
   pub walk : Walk o N (loAt e) (hiAt e) (holdOf w) (underAt o N) m a b p r
   pub here : at ≡ holdOf w p
   pub few : at ≤ m
 
-pub going-start : {o N : ℕ} {e w : List ℕ} {m a b h p r at : ℕ} → HeldApart o N e w m → (h ≡ slotOf N a b) × (h < N) → p ≡ o + h → r ≡ pathOf a b → at ≡ holdOf w p → Going o N e w m a b p r at
+pub going-start : {o N : ℕ} {e w : List ℕ} {m a b h p r at : ℕ} → HeldInTwo o N e w m → (h ≡ slotOf N a b) × (h < N) → p ≡ o + h → r ≡ pathOf a b → at ≡ holdOf w p → Going o N e w m a b p r at
 going-start t z i j k =
     let walk = walk-start (t .trees) z i j in
     record { held = t; walk = walk; here = k; few = rw k (walk-known (t .trees) walk) }
@@ -104,20 +104,20 @@ module _ {o N : ℕ} {e w : List ℕ} {m a b p r at : ℕ} (g : Going o N e w m 
         walk-less (g .held .trees) (at - 1) r (omega arith) (omega (arith, g .few)) z,
       )
 
-  pub going-found : at ≢ 0 → (eqb (loAt e (at - 1)) a && eqb (hiAt e (at - 1)) b) ≡ true → WalkedApart o N e w m a b at p
+  pub going-found : at ≢ 0 → (eqb (loAt e (at - 1)) a && eqb (hiAt e (at - 1)) b) ≡ true → WalkedInTwo o N e w m a b at p
   going-found h hit =
       let both = same-both (loAt e (at - 1)) (hiAt e (at - 1)) a b hit in
       let i : at ≡ suc (at - 1) = omega arith in
       record {
-        number = i ∙ sym (ap oneMore (place-here (loAt e) (hiAt e) m a b (at - 1) (g .held .numbered) (omega (arith, g .few)) (both .0) (both .1)));
+        number = i ∙ sym (ap oneMore (index-here (loAt e) (hiAt e) m a b (at - 1) (g .held .numbered) (omega (arith, g .few)) (both .0) (both .1)));
         few = g .few;
         spot = g .walk .spot;
         free = λ z. absurd (h z);
       }
 
-  pub going-none : at ≡ 0 → WalkedApart o N e w m a b at p
+  pub going-none : at ≡ 0 → WalkedInTwo o N e w m a b at p
   going-none z = record {
-    number = z ∙ sym (ap oneMore (place-nowhere (loAt e) (hiAt e) a b m (walk-none (g .held .trees) (g .walk) (sym (g .here) ∙ z))));
+    number = z ∙ sym (ap oneMore (index-nowhere (loAt e) (hiAt e) a b m (walk-none (g .held .trees) (g .walk) (sym (g .here) ∙ z))));
     few = g .few;
     spot = g .walk .spot;
     free = λ i. walk-free (g .held .trees) (g .walk) (sym (g .here) ∙ z);
@@ -125,10 +125,10 @@ module _ {o N : ℕ} {e w : List ℕ} {m a b p r at : ℕ} (g : Going o N e w m 
 
 -- ---- a side is met
 
-module _ {o N : ℕ} {e w : List ℕ} {m at p : ℕ} (a b : ℕ) (t : HeldApart o N e w m) (k : WalkedApart o N e w m a b at p) where
-  pub met-found : at ≢ 0 → MetApart o N e w m e w m (at - 1) (side a b)
+module _ {o N : ℕ} {e w : List ℕ} {m at p : ℕ} (a b : ℕ) (t : HeldInTwo o N e w m) (k : WalkedInTwo o N e w m a b at p) where
+  pub met-found : at ≢ 0 → MetInTwo o N e w m e w m (at - 1) (side a b)
   met-found h =
-      let q : place (side a b) (sidesAt e m) ≡ some (at - 1) = some-of at (place (side a b) (sidesAt e m)) (k .number) h in
+      let q : indexIn (side a b) (sidesAt e m) ≡ some (at - 1) = some-of at (indexIn (side a b) (sidesAt e m)) (k .number) h in
       record {
         held = t;
         now-met = sym (met-old (sidesAt e m) (side a b) _ q);
@@ -137,7 +137,7 @@ module _ {o N : ℕ} {e w : List ℕ} {m at p : ℕ} (a b : ℕ) (t : HeldApart 
         outside = record { same-ends = refl; same = refl; ends-behind = λ j l. refl; before = λ j l. refl; behind = λ j l. refl };
       }
 
-  pub met-added : at ≡ 0 → 2 * m + 2 ≤ length e → o + N + 2 * m + 2 ≤ length w → MetApart o N e w m (ends-stored e m a b) (links-stored o N w m p) (m + 1) m (side a b)
+  pub met-added : at ≡ 0 → 2 * m + 2 ≤ length e → o + N + 2 * m + 2 ≤ length w → MetInTwo o N e w m (ends-stored e m a b) (links-stored o N w m p) (m + 1) m (side a b)
   met-added z room room′ =
       let e′ = ends-stored e m a b in
       let w′ = links-stored o N w m p in
@@ -150,7 +150,7 @@ module _ {o N : ℕ} {e w : List ℕ} {m at p : ℕ} (a b : ℕ) (t : HeldApart 
         held-new = links-at o N w m p (k .spot) room′ ∙ add-one m;
         links-new = links-new o N w m p (k .spot) room′;
       } in
-      let out = none-of (place (side a b) (sidesAt e m)) (k .number) z in
+      let out = none-of (indexIn (side a b) (sidesAt e m)) (k .number) z in
       let new : sidesAt e′ (m + 1) ≡ sidesAt e m ++ (side a b ∷ []) = ap (pairs (loAt e′) (hiAt e′)) (add-one m) ∙ new-pairs d in
       let now : sidesAt e′ (m + 1) ≡ met (sidesAt e m) (side a b) = new ∙ sym (met-new (sidesAt e m) (side a b) out) in
       record {
@@ -162,7 +162,7 @@ module _ {o N : ℕ} {e w : List ℕ} {m at p : ℕ} (a b : ℕ) (t : HeldApart 
           numbered = rw now (met-numbered (sidesAt e m) (side a b) (t .numbered));
         };
         now-met = now;
-        number = rw new (place-end (side a b) (sidesAt e m) out ∙ ap some (length-pairs (loAt e) (hiAt e) m));
+        number = rw new (index-end (side a b) (sidesAt e m) out ∙ ap some (length-pairs (loAt e) (hiAt e) m));
         more = omega arith;
         outside = record {
           same-ends = ends-long e m a b room;
@@ -173,13 +173,13 @@ module _ {o N : ℕ} {e w : List ℕ} {m at p : ℕ} (a b : ℕ) (t : HeldApart 
         };
       }
 
-pub met-key : {o N : ℕ} {e w e′ w′ : List ℕ} {m m′ k : ℕ} (u v : ℕ) → u < v → MetApart o N e w m e′ w′ m′ k (side u v) → MetApart o N e w m e′ w′ m′ k (key u v)
+pub met-key : {o N : ℕ} {e w e′ w′ : List ℕ} {m m′ k : ℕ} (u v : ℕ) → u < v → MetInTwo o N e w m e′ w′ m′ k (side u v) → MetInTwo o N e w m e′ w′ m′ k (key u v)
 met-key u v h t = rw (⊎-elim (λ p. p .0) (λ p. absurd (omega (arith, p .1))) (key-either u v)) t
 
-pub met-key′ : {o N : ℕ} {e w e′ w′ : List ℕ} {m m′ k : ℕ} (u v : ℕ) → v ≤ u → MetApart o N e w m e′ w′ m′ k (side v u) → MetApart o N e w m e′ w′ m′ k (key u v)
+pub met-key′ : {o N : ℕ} {e w e′ w′ : List ℕ} {m m′ k : ℕ} (u v : ℕ) → v ≤ u → MetInTwo o N e w m e′ w′ m′ k (side v u) → MetInTwo o N e w m e′ w′ m′ k (key u v)
 met-key′ u v h t = rw (⊎-elim (λ p. absurd (omega (arith, p .1))) (λ p. p .0) (key-either u v)) t
 
-outside-more : {o N : ℕ} {e w e₁ w₁ e₂ w₂ : List ℕ} {m₁ m₂ : ℕ} → m₁ ≤ m₂ → OutsideApart o N e w m₁ e₁ w₁ → OutsideApart o N e₁ w₁ m₂ e₂ w₂ → OutsideApart o N e w m₂ e₂ w₂
+outside-more : {o N : ℕ} {e w e₁ w₁ e₂ w₂ : List ℕ} {m₁ m₂ : ℕ} → m₁ ≤ m₂ → OutsideInTwo o N e w m₁ e₁ w₁ → OutsideInTwo o N e₁ w₁ m₂ e₂ w₂ → OutsideInTwo o N e w m₂ e₂ w₂
 outside-more h p q = record {
   same-ends = q .same-ends ∙ p .same-ends;
   same = q .same ∙ p .same;
@@ -188,7 +188,7 @@ outside-more h p q = record {
   behind = λ j l. q .behind j l ∙ p .behind j (omega arith);
 }
 
-met-most : {o N : ℕ} {e w e′ w′ : List ℕ} {m m′ k : ℕ} {s : Side} → MetApart o N e w m e′ w′ m′ k s → m ≤ m′
+met-most : {o N : ℕ} {e w e′ w′ : List ℕ} {m m′ k : ℕ} {s : Side} → MetInTwo o N e w m e′ w′ m′ k s → m ≤ m′
 met-most {e = e} {e′ = e′} {m = m} {m′} {k} {s} t = go (find s (sidesAt e m))
   where
     len : length (met (sidesAt e m) s) ≡ m′
@@ -199,11 +199,11 @@ met-most {e = e} {e′ = e′} {m = m} {m′} {k} {s} t = go (find s (sidesAt e 
     go (missing f) = omega (arith, sym (ap length (met-new (sidesAt e m) s f)) ∙ len, length-pairs (loAt e) (hiAt e) m, length-append (sidesAt e m) (s ∷ []))
 
 pub met-three : {o N : ℕ} {e w e₁ w₁ e₂ w₂ e₃ w₃ : List ℕ} {m m₁ m₂ m₃ p q r : ℕ} (a b c : ℕ)
-    → MetApart o N e w m e₁ w₁ m₁ p (key a b) → MetApart o N e₁ w₁ m₁ e₂ w₂ m₂ q (key b c) → MetApart o N e₂ w₂ m₂ e₃ w₃ m₃ r (key c a)
-    → MetTriApart o N e w m e₃ w₃ m₃ p q r (tri a b c)
+    → MetInTwo o N e w m e₁ w₁ m₁ p (key a b) → MetInTwo o N e₁ w₁ m₁ e₂ w₂ m₂ q (key b c) → MetInTwo o N e₂ w₂ m₂ e₃ w₃ m₃ r (key c a)
+    → MetTriInTwo o N e w m e₃ w₃ m₃ p q r (tri a b c)
 unfolding metAll
 met-three {e₁ = e₁} {e₂ = e₂} {m₁ = m₁} {m₂} {m₃} {p} {q} {r} a b c x y z =
-    let p₂ : place (key a b) (sidesAt e₂ m₂) ≡ some p = rw (y .now-met) (met-keeps (sidesAt e₁ m₁) (key a b) (key b c) p (x .number)) in
+    let p₂ : indexIn (key a b) (sidesAt e₂ m₂) ≡ some p = rw (y .now-met) (met-keeps (sidesAt e₁ m₁) (key a b) (key b c) p (x .number)) in
     record {
       held = z .held;
       now-met = z .now-met ∙ rw (y .now-met, x .now-met);
@@ -219,15 +219,15 @@ met-three {e₁ = e₁} {e₂ = e₂} {m₁ = m₁} {m₂} {m₃} {p} {q} {r} a 
 
 -- ---- a side is looked for
 
-pub found-key : {o N : ℕ} {e w : List ℕ} {m at p : ℕ} (u v : ℕ) → u < v → WalkedApart o N e w m u v at p → (at ≡ oneMore (place (key u v) (sidesAt e m))) × (at ≤ m)
+pub found-key : {o N : ℕ} {e w : List ℕ} {m at p : ℕ} (u v : ℕ) → u < v → WalkedInTwo o N e w m u v at p → (at ≡ oneMore (indexIn (key u v) (sidesAt e m))) × (at ≤ m)
 found-key u v h t = rw (⊎-elim (λ p. p .0) (λ p. absurd (omega (arith, p .1))) (key-either u v)) (t .number, t .few)
 
-pub found-key′ : {o N : ℕ} {e w : List ℕ} {m at p : ℕ} (u v : ℕ) → v ≤ u → WalkedApart o N e w m v u at p → (at ≡ oneMore (place (key u v) (sidesAt e m))) × (at ≤ m)
+pub found-key′ : {o N : ℕ} {e w : List ℕ} {m at p : ℕ} (u v : ℕ) → v ≤ u → WalkedInTwo o N e w m v u at p → (at ≡ oneMore (indexIn (key u v) (sidesAt e m))) × (at ≤ m)
 found-key′ u v h t = rw (⊎-elim (λ p. absurd (omega (arith, p .1))) (λ p. p .0) (key-either u v)) (t .number, t .few)
 
 -- ---- an empty table, and one whose cells stay
 
-pub empty-apart : (o N : ℕ) (e w : List ℕ) → 0 < N → o + N ≤ length w → HeldApart o N e (sets w o (replicate N 0)) 0
+pub empty-apart : (o N : ℕ) (e w : List ℕ) → 0 < N → o + N ≤ length w → HeldInTwo o N e (sets w o (replicate N 0)) 0
 unfolding pairs
 empty-apart o N e w b r = record {
   buckets = b;
@@ -237,7 +237,7 @@ empty-apart o N e w b r = record {
   numbered = λ k l. absurd (omega arith);
 }
 
-pub held-still : {o N : ℕ} {e w w′ : List ℕ} {m : ℕ} → ((j : ℕ) → o ≤ j → j < o + N + 2 * m → getD w′ j 0 ≡ getD w j 0) → length w′ ≡ length w → HeldApart o N e w m → HeldApart o N e w′ m
+pub held-still : {o N : ℕ} {e w w′ : List ℕ} {m : ℕ} → ((j : ℕ) → o ≤ j → j < o + N + 2 * m → getD w′ j 0 ≡ getD w j 0) → length w′ ≡ length w → HeldInTwo o N e w m → HeldInTwo o N e w′ m
 held-still {N = N} same len t = record {
   buckets = t .buckets;
   ends-in = t .ends-in;

@@ -19,7 +19,7 @@ trisFrom c w zero = []
 trisFrom c w (suc i) = trisFrom c w i ++ (triFrom c w i ∷ [])
 
 -- there is room for t triangles: corners, numbers, table, in this order
-pub record Room (c e o N t len : ℕ) : Type 0 where
+pub record NumberingRoom (c e o N t len : ℕ) : Type 0 where
   pub corners : c + 3 * t ≤ e
   pub numbers : e + 3 * t ≤ o
   pub table : o + N + 12 * t ≤ len

@@ -12,7 +12,7 @@ use mathlib.Core.Option.{Option, none, some}
 use lib.Dec.{ltb}
 use lib.ListN.{length, getD}
 use lib.Seq.{sets}
-use Rattle.mesh.specs.Mesh.{Side, side, key, Tri, tri, sides, met, metAll, place, Numbered}
+use Rattle.mesh.specs.Mesh.{Side, side, key, Tri, tri, sides, met, metAll, indexIn, Numbered}
 use Rattle.edges.specs.declared.Table.{Table}
 
 -- the bucket of a side, of N buckets: its lower end, where there are so many
@@ -95,6 +95,10 @@ sidesIn o N w m = pairs (loOf o N w) (hiOf o N w) m
 abbrev pub rowOf : Table → ℕ → ℕ
 rowOf t k = t .base + t .buckets + 4 * k
 
+-- the sides of a table: in refinement and in a solve, the cut ones
+abbrev pub cutsIn : Table → List ℕ → List Side
+cutsIn t u = sidesIn (t .base) (t .buckets) u (t .sides)
+
 -- where a table ends in its slice
 abbrev pub endOf : Table → ℕ
 endOf t = t .base + t .buckets + 4 * t .sides
@@ -125,7 +129,7 @@ pub record Held (o N : ℕ) (w : List ℕ) (m : ℕ) : Type 0 where
 
 -- the walk to the side a b, by what is at its end: one more than its number; or 0 and an empty position p, where it is to be put
 pub record Walked (o N : ℕ) (w : List ℕ) (m a b at p : ℕ) : Type 0 where
-  pub number : at ≡ oneMore (place (side a b) (sidesIn o N w m))
+  pub number : at ≡ oneMore (indexIn (side a b) (sidesIn o N w m))
   pub few : at ≤ m
   pub spot : Spot o N (underOf o N) m p
   pub free : at ≡ 0 → Free o N (holdOf w) (underOf o N) m a b p
@@ -140,13 +144,13 @@ pub record Outside (o N : ℕ) (w : List ℕ) (m : ℕ) (w′ : List ℕ) : Type
 pub record Met (o N : ℕ) (w : List ℕ) (m : ℕ) (w′ : List ℕ) (m′ k : ℕ) (s : Side) : Type 0 where
   pub held : Held o N w′ m′
   pub now-met : sidesIn o N w′ m′ ≡ met (sidesIn o N w m) s
-  pub number : place s (sidesIn o N w′ m′) ≡ some k
+  pub number : indexIn s (sidesIn o N w′ m′) ≡ some k
   pub more : m′ ≤ m + 1
   pub outside : Outside o N w m′ w′
 
 -- the numbers of a triangle's sides in a list of sides
 abbrev pub NumbersOf : Tri → List Side → ℕ → ℕ → ℕ → Type 0
-NumbersOf (tri a b c) l p q r = (place (key a b) l ≡ some p) × (place (key b c) l ≡ some q) × (place (key c a) l ≡ some r)
+NumbersOf (tri a b c) l p q r = (indexIn (key a b) l ≡ some p) × (indexIn (key b c) l ≡ some q) × (indexIn (key c a) l ≡ some r)
 
 -- the three sides of a triangle were met, and have the numbers p, q and r
 pub record MetTri (o N : ℕ) (w : List ℕ) (m : ℕ) (w′ : List ℕ) (m′ p q r : ℕ) (t : Tri) : Type 0 where

@@ -1,8 +1,8 @@
 // Sides of triangles, numbered in the order first met, lower end first: the Rust's HashMap of sides, and its list of them, in lent numbers.
 // The table stands in one slice of numbers: its buckets, then four numbers for each of its sides (specs/Table.antt). No numbers are mixed to choose a bucket,
 // and no floor makes a search long: the sides of a bucket, which share their lower end, stand in a tree by the digits of their upper end.
-pub mod apart;
 pub mod numbers;
+pub mod two_slices;
 
 ghost use mathlib.Core.Path.{_≡_};
 ghost use mathlib.Core.Bool.{_&&_};
@@ -10,7 +10,7 @@ ghost use Prim.Native.Nat.{_+_, _*_, _<_, _≤_, _^_};
 ghost use lib.ListN.{length, replicate};
 ghost use lib.Seq.{sets};
 ghost use lib.Dec.{eqb};
-ghost use Rattle.mesh.specs.Mesh.{side, key, tri, place};
+ghost use Rattle.mesh.specs.Mesh.{side, key, tri, indexIn};
 ghost use Rattle.edges.specs.Table.{slotOf, pathOf, sidesIn, rowOf, endOf, Held, Walked, Met, MetTri, oneMore};
 
 // Where a table stands, of how many buckets, and how many sides it has.
@@ -117,7 +117,7 @@ fn walk(w: &[u32], t: Table, a: u32, b: u32) -> Spot
 // One more than the number of the side of u and v, or 0.
 pub fn find_side(w: &[u32], t: Table, u: u32, v: u32) -> usize
     requires { ⌜ Held (t .base) (t .buckets) (now w) (t .sides) ⌝ }
-    ensures { λ r. ⌜ (r ≡ oneMore (place (key u v) (sidesIn (t .base) (t .buckets) (now (w .entry)) (t .sides)))) × (r ≤ t .sides) ⌝ }
+    ensures { λ r. ⌜ (r ≡ oneMore (indexIn (key u v) (sidesIn (t .base) (t .buckets) (now (w .entry)) (t .sides)))) × (r ≤ t .sides) ⌝ }
 {
     if u < v {
         let s = walk(w, t, u, v);

@@ -6,7 +6,7 @@ ghost use mathlib.Core.List.{[], _∷_};
 ghost use lib.ListN.{length, getD, set};
 ghost use lib.Seq.{sets};
 ghost use Rattle.edges.specs.Table.{Held, endOf, fourths, split};
-ghost use Rattle.edges.specs.Numbering.{Room, NumberStep, NumberedTo, Below, Counted};
+ghost use Rattle.edges.specs.Numbering.{NumberingRoom, NumberStep, NumberedTo, Below, Counted};
 
 // Three numbers in a row.
 pub fn put_three(w: &mut [u32], at: usize, p: u32, q: u32, r: u32)
@@ -19,7 +19,7 @@ pub fn put_three(w: &mut [u32], at: usize, p: u32, q: u32, r: u32)
 }
 
 // How many triangles there are, where their corners stand and where the numbers of their sides go, three each; and the table behind both.
-pub struct Plan {
+pub struct NumberingPlan {
     pub triangles: usize,
     pub corners: usize,
     pub numbers: usize,
@@ -28,8 +28,8 @@ pub struct Plan {
 }
 
 // The sides of triangle i are met, and their numbers stored. How many sides there are then.
-fn number_triangle(w: &mut [u32], p: Plan, i: usize, m: usize) -> usize
-    requires { ⌜ Room (p .corners) (p .numbers) (p .table) (p .buckets) (p .triangles) (length (now w)) ⌝ }
+fn number_triangle(w: &mut [u32], p: NumberingPlan, i: usize, m: usize) -> usize
+    requires { ⌜ NumberingRoom (p .corners) (p .numbers) (p .table) (p .buckets) (p .triangles) (length (now w)) ⌝ }
     requires { ⌜ Held (p .table) (p .buckets) (now w) m ⌝ }
     requires { ⌜ (i < p .triangles) × (m ≤ 3 * i) ⌝ }
     ensures { λ r. ⌜ NumberStep (p .corners) (p .numbers) (p .table) (p .buckets) i (now (w .entry)) m (now (w .exit)) r ⌝ }
@@ -55,8 +55,8 @@ fn number_triangle(w: &mut [u32], p: Plan, i: usize, m: usize) -> usize
 }
 
 // The sides of all triangles are met in an empty table, and their numbers stored. How many sides there are.
-fn number_all(w: &mut [u32], p: Plan) -> usize
-    requires { ⌜ Room (p .corners) (p .numbers) (p .table) (p .buckets) (p .triangles) (length (now w)) ⌝ }
+fn number_all(w: &mut [u32], p: NumberingPlan) -> usize
+    requires { ⌜ NumberingRoom (p .corners) (p .numbers) (p .table) (p .buckets) (p .triangles) (length (now w)) ⌝ }
     requires { ⌜ Held (p .table) (p .buckets) (now w) 0 ⌝ }
     ensures { λ r. ⌜ NumberedTo (p .corners) (p .numbers) (p .table) (p .buckets) (p .triangles) (now (w .entry)) (now (w .exit)) r ⌝ }
 {
@@ -70,8 +70,8 @@ fn number_all(w: &mut [u32], p: Plan) -> usize
 }
 
 // The same, in a table that it clears itself.
-pub fn number_triangles(w: &mut [u32], p: Plan) -> usize
-    requires { ⌜ Room (p .corners) (p .numbers) (p .table) (p .buckets) (p .triangles) (length (now w)) ⌝ }
+pub fn number_triangles(w: &mut [u32], p: NumberingPlan) -> usize
+    requires { ⌜ NumberingRoom (p .corners) (p .numbers) (p .table) (p .buckets) (p .triangles) (length (now w)) ⌝ }
     ensures { λ r. ⌜ NumberedTo (p .corners) (p .numbers) (p .table) (p .buckets) (p .triangles) (now (w .entry)) (now (w .exit)) r ⌝ }
 {
     crate::clear(w, p.table, p.buckets);

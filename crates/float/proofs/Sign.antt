@@ -57,8 +57,8 @@ Flat nan = Unit {0}
 Flat (inf s) = ⊥
 Flat (fin s m e) = m ≡ 0
 
-abbrev pub Turned : Float → Float → Type 0
-Turned r r' = (r' ≡ neg r) ⊎ ((r' ≡ r) × Flat r)
+abbrev pub Opposite : Float → Float → Type 0
+Opposite r r' = (r' ≡ neg r) ⊎ ((r' ≡ r) × Flat r)
 
 zero-factor : (m u : ℕ) → 0 < u → m * u ≡ 0 → m ≡ 0
 zero-factor m u h e = eq-of-mul-eq-mul-right u h m 0 (e ∙ sym (zero-mul u))
@@ -77,18 +77,18 @@ flat-round f s n c C e = rw e (flat-value (round f s 0 c) s c C (round-exact f s
     big : (f : Format) → 0 * 2 ^ 0 < 2 ^ (low f + suc (emax f))
     big f = lib.Pow.pow-pos (low f + suc (emax f))
 
-sum-turned : (f : Format) (s t : Bool) (a b c : ℕ) → 0 < c → Turned (sum f s a (not t) b c) (sum f t b (not s) a c)
+sum-turned : (f : Format) (s t : Bool) (a b c : ℕ) → 0 < c → Opposite (sum f s a (not t) b c) (sum f t b (not s) a c)
 unfolding sum
 sum-turned f s t a b c C = go s t (ltb a b) (ltb b a) refl refl
   where
     flip : (s : Bool) (n : ℕ) → round f (not s) n c ≡ neg (round f s n c)
     flip s n = sym (round-neg f s n c)
 
-    level : a ≡ b → Turned (round f false (a - b) c) (round f false (b - a) c)
+    level : a ≡ b → Opposite (round f false (a - b) c) (round f false (b - a) c)
     level e = rw e (inr (refl, flat-round f false (b - b) c C (omega arith)))
 
     go : (s t l m : Bool) → ltb a b ≡ l → ltb b a ≡ m
-        → Turned (cond (Bool·beq s (not t)) (round f s (a + b) c) (cond l (round f (not t) (b - a) c) (round f (s && m) (a - b) c)))
+        → Opposite (cond (Bool·beq s (not t)) (round f s (a + b) c) (cond l (round f (not t) (b - a) c) (round f (s && m) (a - b) c)))
         (cond (Bool·beq t (not s)) (round f t (b + a) c) (cond m (round f (not s) (a - b) c) (round f (t && l) (b - a) c)))
     go true false l m p q = inl (rw (add-comm b a) (flip true (a + b)))
     go false true l m p q = inl (rw (add-comm b a) (flip false (a + b)))
@@ -101,22 +101,22 @@ sum-turned f s t a b c C = go s t (ltb a b) (ltb b a) refl refl
     go false false false true p q = inl (flip false (a - b))
     go false false false false p q = level (omega (arith, ltb-false a b p, ltb-false b a q))
 
-pub sub-turned : (f : Format) (x y : Float) → Turned (sub f x y) (sub f y x)
+pub sub-opposite : (f : Format) (x y : Float) → Opposite (sub f x y) (sub f y x)
 unfolding sub neg
-sub-turned f nan nan = inl refl
-sub-turned f nan (inf t) = inl refl
-sub-turned f nan (fin t n d) = inl refl
-sub-turned f (inf s) nan = inl refl
-sub-turned f (inf true) (inf true) = inl refl
-sub-turned f (inf true) (inf false) = inl refl
-sub-turned f (inf false) (inf true) = inl refl
-sub-turned f (inf false) (inf false) = inl refl
-sub-turned f (inf s) (fin t n d) = inl refl
-sub-turned f (fin s m e) nan = inl refl
-sub-turned f (fin s m e) (inf true) = inl refl
-sub-turned f (fin s m e) (inf false) = inl refl
-sub-turned f (fin s m e) (fin t n d) =
-    subst (λ (c : ℕ). Turned (sum f s (m * up e * down d) (not t) (n * up d * down e) (down e * down d)) (sum f t (n * up d * down e) (not s) (m * up e * down d) c)) (mul-comm (down e) (down d))
+sub-opposite f nan nan = inl refl
+sub-opposite f nan (inf t) = inl refl
+sub-opposite f nan (fin t n d) = inl refl
+sub-opposite f (inf s) nan = inl refl
+sub-opposite f (inf true) (inf true) = inl refl
+sub-opposite f (inf true) (inf false) = inl refl
+sub-opposite f (inf false) (inf true) = inl refl
+sub-opposite f (inf false) (inf false) = inl refl
+sub-opposite f (inf s) (fin t n d) = inl refl
+sub-opposite f (fin s m e) nan = inl refl
+sub-opposite f (fin s m e) (inf true) = inl refl
+sub-opposite f (fin s m e) (inf false) = inl refl
+sub-opposite f (fin s m e) (fin t n d) =
+    subst (λ (c : ℕ). Opposite (sum f s (m * up e * down d) (not t) (n * up d * down e) (down e * down d)) (sum f t (n * up d * down e) (not s) (m * up e * down d) c)) (mul-comm (down e) (down d))
     (sum-turned f s t (m * up e * down d) (n * up d * down e) (down e * down d) (mul-pos (down-pos e) (down-pos d)))
 
 -- ---- a value and its negative

@@ -12,8 +12,8 @@ use Rattle.geometry.specs.declared.Geometry.{Geometry}
 use Rattle.geometry.specs.declared.Geometry.the-variants.{Triangle, Degenerate}
 
 -- twice the signed area of a b c
-unfoldable pub turn : Pair → Pair → Pair → Float
-turn a b c = cross2 (sub2 b a) (sub2 c a)
+unfoldable pub orientation : Pair → Pair → Pair → Float
+orientation a b c = cross2 (sub2 b a) (sub2 c a)
 
 -- the squared length of the side from p to q
 unfoldable pub side2 : Pair → Pair → Float
@@ -35,7 +35,7 @@ placed i j k p q r w t = cond (degenerate p q r w) (Degenerate t) (Triangle (rec
 
 -- where the area is negative, corners 1 and 2 are exchanged together with their positions
 unfoldable pub geometry : ℕ → ℕ → ℕ → Pair → Pair → Pair → ℕ → Geometry
-geometry i j k p q r t = cond (lt (turn p q r) (lit 0)) (placed i k j p r q (areaOf (turn p q r)) t) (placed i j k p q r (areaOf (turn p q r)) t)
+geometry i j k p q r t = cond (lt (orientation p q r) (lit 0)) (placed i k j p r q (areaOf (orientation p q r)) t) (placed i j k p q r (areaOf (orientation p q r)) t)
 
 -- the refusal's number and place that an answer stands for: 0 and none where it is no refusal
 abbrev pub number : Geometry → ℕ
@@ -60,7 +60,7 @@ gradient p q r sp sq sr area =
 
 -- ---- the same of arrays of three, which is how the program passes corners and positions
 abbrev pub twiceArea : List Pair → Float
-twiceArea ps = turn (getD ps 0 no-pair) (getD ps 1 no-pair) (getD ps 2 no-pair)
+twiceArea ps = orientation (getD ps 0 no-pair) (getD ps 1 no-pair) (getD ps 2 no-pair)
 
 abbrev pub longestOf : List Pair → Float
 longestOf ps = longest (getD ps 0 no-pair) (getD ps 1 no-pair) (getD ps 2 no-pair)

@@ -11,7 +11,7 @@ use borrow.Author.Tests.{eq-eqb, ne-eqb}
 use lib.ListN.{length, getD, length-append, List·getD-append}
 use lib.Seq.{getD-append-seam}
 use lib.Dec.{T, ltb, ltb→lt, nltb→le}
-use Rattle.mesh.specs.Mesh.{Tri, Side, side, key, same, next, place, isNone, met, marked, above, mid, Numbered, Same, Mids, All}
+use Rattle.mesh.specs.Mesh.{Tri, Side, side, key, same, next, indexIn, isNone, met, marked, above, mid, Numbered, Same, Mids, All}
 
 -- ---- sides
 
@@ -57,13 +57,13 @@ same-cases (side a b) (side c d) = go (ℕ-discrete a c) (ℕ-discrete b d)
 -- ---- the place of a side
 
 -- what a step of the search for s comes to
-pub place-here : (s t : Side) (l : List Side) → s ≡ t → place s (t ∷ l) ≡ some zero
-unfolding place
-place-here s t l h = ⊎-elim (λ p. rw (p .0)) (λ p. absurd (p .1 h)) (same-cases s t)
+pub index-here : (s t : Side) (l : List Side) → s ≡ t → indexIn s (t ∷ l) ≡ some zero
+unfolding indexIn
+index-here s t l h = ⊎-elim (λ p. rw (p .0)) (λ p. absurd (p .1 h)) (same-cases s t)
 
-pub place-past : (s t : Side) (l : List Side) → s ≢ t → place s (t ∷ l) ≡ next (place s l)
-unfolding place
-place-past s t l h = ⊎-elim (λ p. absurd (h (p .1))) (λ p. rw (p .0)) (same-cases s t)
+pub index-past : (s t : Side) (l : List Side) → s ≢ t → indexIn s (t ∷ l) ≡ next (indexIn s l)
+unfolding indexIn
+index-past s t l h = ⊎-elim (λ p. absurd (h (p .1))) (λ p. rw (p .0)) (same-cases s t)
 
 pub side-discrete : (s t : Side) → Dec (s ≡ t)
 side-discrete s t = ⊎-elim (λ p. yes (p .1)) (λ p. no (p .1)) (same-cases s t)
@@ -89,106 +89,106 @@ above-none n none h = refl
 above-none n (some k) h = never (some (n + k)) (n + k) h refl
 
 -- at one place there is one side
-pub place-only : (s t : Side) (l : List Side) (k : ℕ) → place s l ≡ some k → place t l ≡ some k → s ≡ t
-unfolding place
-place-only s t [] k h h′ = never none k refl h
-place-only s t (x ∷ l) k h h′ = go (λ j. place-only s t l j) (side-discrete s x) (side-discrete t x)
+pub index-only : (s t : Side) (l : List Side) (k : ℕ) → indexIn s l ≡ some k → indexIn t l ≡ some k → s ≡ t
+unfolding indexIn
+index-only s t [] k h h′ = never none k refl h
+index-only s t (x ∷ l) k h h′ = go (λ j. index-only s t l j) (side-discrete s x) (side-discrete t x)
   where
-    go : ((j : ℕ) → place s l ≡ some j → place t l ≡ some j → s ≡ t) → Dec (s ≡ x) → Dec (t ≡ x) → s ≡ t
+    go : ((j : ℕ) → indexIn s l ≡ some j → indexIn t l ≡ some j → s ≡ t) → Dec (s ≡ x) → Dec (t ≡ x) → s ≡ t
     go ih (yes p) (yes q) = cc
     go ih (yes p) (no q) =
-        let r = next-some (place t l) k (sym (place-past t x l q) ∙ h′) in
-        let z : zero ≡ k = cc (place-here s x l p) in
+        let r = next-some (indexIn t l) k (sym (index-past t x l q) ∙ h′) in
+        let z : zero ≡ k = cc (index-here s x l p) in
         absurd (omega (arith, r .2))
     go ih (no p) (yes q) =
-        let r = next-some (place s l) k (sym (place-past s x l p) ∙ h) in
-        let z : zero ≡ k = cc (place-here t x l q) in
+        let r = next-some (indexIn s l) k (sym (index-past s x l p) ∙ h) in
+        let z : zero ≡ k = cc (index-here t x l q) in
         absurd (omega (arith, r .2))
     go ih (no p) (no q) =
-        let r = next-some (place s l) k (sym (place-past s x l p) ∙ h) in
-        let r′ = next-some (place t l) k (sym (place-past t x l q) ∙ h′) in
+        let r = next-some (indexIn s l) k (sym (index-past s x l p) ∙ h) in
+        let r′ = next-some (indexIn t l) k (sym (index-past t x l q) ∙ h′) in
         ih (r .0) (r .1) (r′ .1 ∙ ap some (omega (arith, r .2, r′ .2)))
 
 -- a place is below the length
-pub place-below : (s : Side) (l : List Side) (k : ℕ) → place s l ≡ some k → k < length l
-unfolding place
-place-below s [] k h = never none k refl h
-place-below s (x ∷ l) k h = go (λ j. place-below s l j) (side-discrete s x)
+pub index-below : (s : Side) (l : List Side) (k : ℕ) → indexIn s l ≡ some k → k < length l
+unfolding indexIn
+index-below s [] k h = never none k refl h
+index-below s (x ∷ l) k h = go (λ j. index-below s l j) (side-discrete s x)
   where
-    go : ((j : ℕ) → place s l ≡ some j → j < length l) → Dec (s ≡ x) → k < suc (length l)
-    go ih (yes p) = let z : zero ≡ k = cc (place-here s x l p) in omega arith
-    go ih (no p) = let d = next-some (place s l) k (sym (place-past s x l p) ∙ h) in omega (arith, d .2, ih (d .0) (d .1))
+    go : ((j : ℕ) → indexIn s l ≡ some j → j < length l) → Dec (s ≡ x) → k < suc (length l)
+    go ih (yes p) = let z : zero ≡ k = cc (index-here s x l p) in omega arith
+    go ih (no p) = let d = next-some (indexIn s l) k (sym (index-past s x l p) ∙ h) in omega (arith, d .2, ih (d .0) (d .1))
 
 -- (d) the midpoints of any list of sides: each at or above n, and no two sides with one
 pub mids : (n : ℕ) (l : List Side) → Mids n (mid n l)
 unfolding mid
 mids n l =
     record {
-      flip = λ u v. ap (λ (s : Side). above n (place s l)) (key-flip u v);
-      high = λ u v p h. omega (arith, above-some n (place (key u v) l) p h .2);
+      flip = λ u v. ap (λ (s : Side). above n (indexIn s l)) (key-flip u v);
+      high = λ u v p h. omega (arith, above-some n (indexIn (key u v) l) p h .2);
       only = λ u v x y p h k.
-          let r = above-some n (place (key u v) l) p h in
-          let r′ = above-some n (place (key x y) l) p k in
-          key-same u v x y (place-only (key u v) (key x y) l (r .0) (r .1) (r′ .1 ∙ ap some (omega (arith, r .2, r′ .2))));
+          let r = above-some n (indexIn (key u v) l) p h in
+          let r′ = above-some n (indexIn (key x y) l) p k in
+          key-same u v x y (index-only (key u v) (key x y) l (r .0) (r .1) (r′ .1 ∙ ap some (omega (arith, r .2, r′ .2))));
     }
 
 -- ---- a list with one more
 
-pub place-keep : (s : Side) (l r : List Side) (k : ℕ) → place s l ≡ some k → place s (l ++ r) ≡ some k
-unfolding place
-place-keep s [] r k h = never none k refl h
-place-keep s (x ∷ l) r k h = go (λ j. place-keep s l r j) (side-discrete s x)
+pub index-keep : (s : Side) (l r : List Side) (k : ℕ) → indexIn s l ≡ some k → indexIn s (l ++ r) ≡ some k
+unfolding indexIn
+index-keep s [] r k h = never none k refl h
+index-keep s (x ∷ l) r k h = go (λ j. index-keep s l r j) (side-discrete s x)
   where
-    go : ((j : ℕ) → place s l ≡ some j → place s (l ++ r) ≡ some j) → Dec (s ≡ x) → place s (x ∷ (l ++ r)) ≡ some k
-    go ih (yes p) = cc (place-here s x l p, place-here s x (l ++ r) p)
+    go : ((j : ℕ) → indexIn s l ≡ some j → indexIn s (l ++ r) ≡ some j) → Dec (s ≡ x) → indexIn s (x ∷ (l ++ r)) ≡ some k
+    go ih (yes p) = cc (index-here s x l p, index-here s x (l ++ r) p)
     go ih (no p) =
-        let d = next-some (place s l) k (sym (place-past s x l p) ∙ h) in
-        place-past s x (l ++ r) p ∙ ap next (ih (d .0) (d .1)) ∙ ap some (sym (d .2))
+        let d = next-some (indexIn s l) k (sym (index-past s x l p) ∙ h) in
+        index-past s x (l ++ r) p ∙ ap next (ih (d .0) (d .1)) ∙ ap some (sym (d .2))
 
-pub place-out : (s t : Side) (l : List Side) → place s l ≡ none → s ≢ t → place s (l ++ (t ∷ [])) ≡ none
-unfolding place
-place-out s t [] h d = place-past s t [] d
-place-out s t (x ∷ l) h d = go (place-out s t l) (side-discrete s x)
+pub index-out : (s t : Side) (l : List Side) → indexIn s l ≡ none → s ≢ t → indexIn s (l ++ (t ∷ [])) ≡ none
+unfolding indexIn
+index-out s t [] h d = index-past s t [] d
+index-out s t (x ∷ l) h d = go (index-out s t l) (side-discrete s x)
   where
-    go : (place s l ≡ none → s ≢ t → place s (l ++ (t ∷ [])) ≡ none) → Dec (s ≡ x) → place s (x ∷ (l ++ (t ∷ []))) ≡ none
-    go ih (yes p) = never (place s (x ∷ l)) zero h (place-here s x l p)
-    go ih (no p) = place-past s x (l ++ (t ∷ [])) p ∙ ap next (ih (next-none (place s l) (sym (place-past s x l p) ∙ h)) d)
+    go : (indexIn s l ≡ none → s ≢ t → indexIn s (l ++ (t ∷ [])) ≡ none) → Dec (s ≡ x) → indexIn s (x ∷ (l ++ (t ∷ []))) ≡ none
+    go ih (yes p) = never (indexIn s (x ∷ l)) zero h (index-here s x l p)
+    go ih (no p) = index-past s x (l ++ (t ∷ [])) p ∙ ap next (ih (next-none (indexIn s l) (sym (index-past s x l p) ∙ h)) d)
 
-pub place-end : (s : Side) (l : List Side) → place s l ≡ none → place s (l ++ (s ∷ [])) ≡ some (length l)
-unfolding place
-place-end s [] h = place-here s s [] refl
-place-end s (x ∷ l) h = go (place-end s l) (side-discrete s x)
+pub index-end : (s : Side) (l : List Side) → indexIn s l ≡ none → indexIn s (l ++ (s ∷ [])) ≡ some (length l)
+unfolding indexIn
+index-end s [] h = index-here s s [] refl
+index-end s (x ∷ l) h = go (index-end s l) (side-discrete s x)
   where
-    go : (place s l ≡ none → place s (l ++ (s ∷ [])) ≡ some (length l)) → Dec (s ≡ x) → place s (x ∷ (l ++ (s ∷ []))) ≡ some (suc (length l))
-    go ih (yes p) = never (place s (x ∷ l)) zero h (place-here s x l p)
-    go ih (no p) = place-past s x (l ++ (s ∷ [])) p ∙ ap next (ih (next-none (place s l) (sym (place-past s x l p) ∙ h)))
+    go : (indexIn s l ≡ none → indexIn s (l ++ (s ∷ [])) ≡ some (length l)) → Dec (s ≡ x) → indexIn s (x ∷ (l ++ (s ∷ []))) ≡ some (suc (length l))
+    go ih (yes p) = never (indexIn s (x ∷ l)) zero h (index-here s x l p)
+    go ih (no p) = index-past s x (l ++ (s ∷ [])) p ∙ ap next (ih (next-none (indexIn s l) (sym (index-past s x l p) ∙ h)))
 
 -- ---- a side that is met
 
 -- "in order first met": a side that is met goes behind all that were met before, unless it is there
-met-behind : (l : List Side) (s : Side) → met l s ≡ l ++ cond (isNone (place s l)) (s ∷ []) []
+met-behind : (l : List Side) (s : Side) → met l s ≡ l ++ cond (isNone (indexIn s l)) (s ∷ []) []
 unfolding met
-met-behind l s = go (isNone (place s l))
+met-behind l s = go (isNone (indexIn s l))
   where
     go : (b : Bool) → cond b (l ++ (s ∷ [])) l ≡ l ++ cond b (s ∷ []) []
     go true = refl
     go false = sym (append-nil l)
 
-pub met-new : (l : List Side) (s : Side) → place s l ≡ none → met l s ≡ l ++ (s ∷ [])
+pub met-new : (l : List Side) (s : Side) → indexIn s l ≡ none → met l s ≡ l ++ (s ∷ [])
 met-new l s h = met-behind l s ∙ rw h
 
-pub met-old : (l : List Side) (s : Side) (k : ℕ) → place s l ≡ some k → met l s ≡ l
+pub met-old : (l : List Side) (s : Side) (k : ℕ) → indexIn s l ≡ some k → met l s ≡ l
 met-old l s k h = met-behind l s ∙ rw h (append-nil l)
 
 -- in the list, or not
 pub data Found (s : Side) (l : List Side) : Type 0 where
-  found : (k : ℕ) → place s l ≡ some k → Found s l
-  missing : place s l ≡ none → Found s l
+  found : (k : ℕ) → indexIn s l ≡ some k → Found s l
+  missing : indexIn s l ≡ none → Found s l
 
 pub find : (s : Side) (l : List Side) → Found s l
-find s l = go (place s l) refl
+find s l = go (indexIn s l) refl
   where
-    go : (o : Option ℕ) → place s l ≡ o → Found s l
+    go : (o : Option ℕ) → indexIn s l ≡ o → Found s l
     go none h = missing h
     go (some k) h = found k h
 
@@ -204,11 +204,11 @@ met-numbered l s h = go (find s l)
         each : Numbered (l ++ (s ∷ []))
         each k b = at (ℕ-discrete k (length l))
           where
-            at : Dec (k ≡ length l) → place (getD (l ++ (s ∷ [])) k (side 0 0)) (l ++ (s ∷ [])) ≡ some k
-            at (yes e) = rw (e, getD-append-seam l s [] (side 0 0)) (place-end s l f)
+            at : Dec (k ≡ length l) → indexIn (getD (l ++ (s ∷ [])) k (side 0 0)) (l ++ (s ∷ [])) ≡ some k
+            at (yes e) = rw (e, getD-append-seam l s [] (side 0 0)) (index-end s l f)
             at (no e) =
                 let j : k < length l = omega (arith, simp length-append at b) in
-                rw (List·getD-append l (s ∷ []) (side 0 0) k j) (place-keep (getD l k (side 0 0)) l (s ∷ []) k (h k j))
+                rw (List·getD-append l (s ∷ []) (side 0 0) k j) (index-keep (getD l k (side 0 0)) l (s ∷ []) k (h k j))
 
 -- ---- the flagged triangles
 

@@ -9,7 +9,7 @@ use mathlib.Core.Bool.{Bool, true, false, _||_}
 use mathlib.Core.List.{List, [], _∷_, _++_}
 use mathlib.Core.Option.{Option, none, some}
 use lib.Dec.{T, eqb, eqb→eq, eqb-refl}
-use Rattle.mesh.specs.Mesh.{Tri, tri, Same, Mids, Good, All, Apart, SameCorners, at, one, isNone, total, places, count, pieces, refined}
+use Rattle.mesh.specs.Mesh.{Tri, tri, Same, Mids, Good, All, AllDifferent, SameCorners, at, one, isNone, total, places, count, pieces, refined}
 use Rattle.mesh.proofs.Weigh.{F, F-sym, F-zero, F-pair, F-le, or-T, around, parts, inner}
 use Rattle.mesh.proofs.Local.{Distinct, inner-zero, mids-differ, weighed}
 use Rattle.mesh.proofs.Whole.{All-map, All-both, count-around, counted, good-distinct, total-times, total-zero}
@@ -55,7 +55,7 @@ module _ (P : Tri → Type 0) (f : Tri → ℕ) (apart : (s t : Tri) → P s →
   none-left s [] p h d k = refl
   none-left s (t ∷ ts) p h d k = omega (arith, apart s t p (h .0) (d .0) k, none-left s ts p (h .1) (d .1) k)
 
-  one-place : ((t : Tri) → P t → f t ≤ 1) → (ts : List Tri) → All P ts → Apart ts → total f ts ≤ 1
+  one-place : ((t : Tri) → P t → f t ≤ 1) → (ts : List Tri) → All P ts → AllDifferent ts → total f ts ≤ 1
   one-place le [] h d = omega arith
   one-place le (t ∷ ts) h d = go (ℕ-discrete (f t) 0) (one-place le ts (h .1) (d .1))
     where
@@ -223,7 +223,7 @@ module _ (n : ℕ) (m : ℕ → ℕ → Option ℕ) (M : Mids n m) where
         ∙ omega arith
 
     -- (c) a side of a new triangle that is no old side and no half lies in two new triangles
-    pub inner-side : (ts : List Tri) → All (Good n) ts → Apart ts → count x y (refined m ts) ≢ 0 → count x y ts ≡ 0 → count x y (refined m ts) ≡ 2
+    pub inner-side : (ts : List Tri) → All (Good n) ts → AllDifferent ts → count x y (refined m ts) ≢ 0 → count x y ts ≡ 0 → count x y (refined m ts) ≡ 2
     inner-side ts h d some-new no-old =
         let zero-old : All (λ t. around (F x y) t ≡ 0) ts = total-zero (around (F x y)) ts (sym (count-around x y ne ts (All-map (Good n) Distinct (good-distinct n) ts h)) ∙ no-old) in
         let twice : count x y (refined m ts) ≡ 2 * total (inn x y) ts =

@@ -8,56 +8,56 @@ use mathlib.Core.Bool.{Bool}
 use mathlib.Core.List.{List, [], _∷_, _++_, append-assoc, append-nil}
 use mathlib.Core.Option.{Option, none, some}
 use lib.ListN.{length}
-use Rattle.mesh.specs.Mesh.{Tri, tri, Side, key, place, met, metAll, marked, sidesAfter, cuts, Numbered, Good, All}
+use Rattle.mesh.specs.Mesh.{Tri, tri, Side, key, indexIn, met, metAll, marked, sidesAfter, cuts, Numbered, Good, All}
 use Rattle.mesh.specs.Claim.{listed, FirstMet, LowerFirst, TwoEnds, InRange, CutSides}
 use Rattle.mesh.proofs.Whole.{All-append}
-use Rattle.mesh.proofs.Cuts.{key-either, side-discrete, never, place-below, place-keep, place-out, place-end, met-new, met-old, Found, found, missing, find, met-numbered, marked-all}
+use Rattle.mesh.proofs.Cuts.{key-either, side-discrete, never, index-below, index-keep, index-out, index-end, met-new, met-old, Found, found, missing, find, met-numbered, marked-all}
 
 -- ---- a list with one more side
 
 one-place : (o : Option ℕ) (j k : ℕ) → o ≡ some j → o ≡ some k → j ≡ k
 one-place o j k h g = cc
 
-more-out : (s t : Side) (l : List Side) → (place s (l ++ (t ∷ [])) ≡ none) ↔ ((place s l ≡ none) × (s ≢ t))
-more-out s t l = (λ e. go e (find s l), λ e. place-out s t l (e .0) (e .1))
+more-out : (s t : Side) (l : List Side) → (indexIn s (l ++ (t ∷ [])) ≡ none) ↔ ((indexIn s l ≡ none) × (s ≢ t))
+more-out s t l = (λ e. go e (find s l), λ e. index-out s t l (e .0) (e .1))
   where
-    go : place s (l ++ (t ∷ [])) ≡ none → Found s l → (place s l ≡ none) × (s ≢ t)
-    go e (found k f) = never (place s (l ++ (t ∷ []))) k e (place-keep s l (t ∷ []) k f)
-    go e (missing f) = (f, λ q. never (place s (l ++ (t ∷ []))) (length l) e (subst (λ (x : Side). place s (l ++ (x ∷ [])) ≡ some (length l)) q (place-end s l f)))
+    go : indexIn s (l ++ (t ∷ [])) ≡ none → Found s l → (indexIn s l ≡ none) × (s ≢ t)
+    go e (found k f) = never (indexIn s (l ++ (t ∷ []))) k e (index-keep s l (t ∷ []) k f)
+    go e (missing f) = (f, λ q. never (indexIn s (l ++ (t ∷ []))) (length l) e (subst (λ (x : Side). indexIn s (l ++ (x ∷ [])) ≡ some (length l)) q (index-end s l f)))
 
 -- a side that is found is found before the last, or is the last
 data Found-more (s t : Side) (l : List Side) (k : ℕ) : Type 0 where
-  before : place s l ≡ some k → Found-more s t l k
+  before : indexIn s l ≡ some k → Found-more s t l k
   last : s ≡ t → k ≡ length l → Found-more s t l k
 
-find-more : (s t : Side) (l : List Side) (k : ℕ) → place t l ≡ none → place s (l ++ (t ∷ [])) ≡ some k → Found-more s t l k
+find-more : (s t : Side) (l : List Side) (k : ℕ) → indexIn t l ≡ none → indexIn s (l ++ (t ∷ [])) ≡ some k → Found-more s t l k
 find-more s t l k out h = go (find s l)
   where
     go : Found s l → Found-more s t l k
-    go (found j f) = before (f ∙ ap some (one-place (place s (l ++ (t ∷ []))) j k (place-keep s l (t ∷ []) j f) h))
+    go (found j f) = before (f ∙ ap some (one-place (indexIn s (l ++ (t ∷ []))) j k (index-keep s l (t ∷ []) j f) h))
     go (missing f) = end (side-discrete s t)
       where
         end : Dec (s ≡ t) → Found-more s t l k
-        end (yes e) = last e (one-place (place s (l ++ (t ∷ []))) k (length l) h (rw e (place-end t l out)))
-        end (no e) = never (place s (l ++ (t ∷ []))) k (place-out s t l f e) h
+        end (yes e) = last e (one-place (indexIn s (l ++ (t ∷ []))) k (length l) h (rw e (index-end t l out)))
+        end (no e) = never (indexIn s (l ++ (t ∷ []))) k (index-out s t l f e) h
 
 -- ---- in the order first met
 
 module _ (all l : List Side) (t : Side) (h : FirstMet all l) where
   -- the side t is met again
-  again : (k : ℕ) → place t l ≡ some k → FirstMet (all ++ (t ∷ [])) l
+  again : (k : ℕ) → indexIn t l ≡ some k → FirstMet (all ++ (t ∷ [])) l
   again k here = record {
-    same = λ s. (λ e. place-out s t all (h .same s .0 e) (λ q. never (place s l) k e (rw q here)), λ o. h .same s .1 (more-out s t all .0 o .0));
+    same = λ s. (λ e. index-out s t all (h .same s .0 e) (λ q. never (indexIn s l) k e (rw q here)), λ o. h .same s .1 (more-out s t all .0 o .0));
     once = h .once;
     order = λ s u i j p q a b c d. h .order s u i j p q a b (still s i p a (find s all) c) (still u j q b (find u all) d);
   }
     where
-      still : (s : Side) (j p : ℕ) → place s l ≡ some j → Found s all → place s (all ++ (t ∷ [])) ≡ some p → place s all ≡ some p
-      still s j p e (found i f) c = f ∙ ap some (one-place (place s (all ++ (t ∷ []))) i p (place-keep s all (t ∷ []) i f) c)
-      still s j p e (missing f) c = never (place s l) j (h .same s .1 f) e
+      still : (s : Side) (j p : ℕ) → indexIn s l ≡ some j → Found s all → indexIn s (all ++ (t ∷ [])) ≡ some p → indexIn s all ≡ some p
+      still s j p e (found i f) c = f ∙ ap some (one-place (indexIn s (all ++ (t ∷ []))) i p (index-keep s all (t ∷ []) i f) c)
+      still s j p e (missing f) c = never (indexIn s l) j (h .same s .1 f) e
 
   -- the side t is met for the first time: it is later than all that stand in the list
-  first : place t l ≡ none → FirstMet (all ++ (t ∷ [])) (l ++ (t ∷ []))
+  first : indexIn t l ≡ none → FirstMet (all ++ (t ∷ [])) (l ++ (t ∷ []))
   first out = record {
     same = λ s. (
       λ e. let r = more-out s t l .0 e in more-out s t all .1 (h .same s .0 (r .0), r .1),
@@ -67,15 +67,15 @@ module _ (all l : List Side) (t : Side) (h : FirstMet all l) where
     order = λ s u i j p q a b c d. ordered s u i j p q (find-more s t l i out a) (find-more s t all p none-before c) (find-more u t all q none-before d) (find-more u t l j out b);
   }
     where
-      none-before : place t all ≡ none
+      none-before : indexIn t all ≡ none
       none-before = h .same t .0 out
 
       ordered : (s u : Side) (i j p q : ℕ) → Found-more s t l i → Found-more s t all p → Found-more u t all q → Found-more u t l j → i < j → p < q
       ordered s u i j p q (before a) (before c) (before d) (before b) g = h .order s u i j p q a b c d g
-      ordered s u i j p q (before a) (before c) (before d) (last e b) g = never (place t all) q none-before (rw (sym e) d)
-      ordered s u i j p q (before a) (before c) (last e d) y g = let k = place-below s all p c in omega arith
-      ordered s u i j p q (before a) (last e c) x y g = never (place t l) i out (rw (sym e) a)
-      ordered s u i j p q (last e a) x y (before b) g = let k = place-below u l j b in absurd (omega arith)
+      ordered s u i j p q (before a) (before c) (before d) (last e b) g = never (indexIn t all) q none-before (rw (sym e) d)
+      ordered s u i j p q (before a) (before c) (last e d) y g = let k = index-below s all p c in omega arith
+      ordered s u i j p q (before a) (last e c) x y g = never (indexIn t l) i out (rw (sym e) a)
+      ordered s u i j p q (last e a) x y (before b) g = let k = index-below u l j b in absurd (omega arith)
       ordered s u i j p q (last e a) x y (last f b) g = absurd (omega arith)
 
 met-more : (all l : List Side) (t : Side) → FirstMet all l → FirstMet (all ++ (t ∷ [])) (met l t)
@@ -91,7 +91,7 @@ all-met all l [] h = rw (append-nil all) h
 all-met all l (s ∷ ss) h = subst (λ (x : List Side). FirstMet x (metAll (met l s) ss)) (append-assoc all (s ∷ []) ss) (all-met (all ++ (s ∷ [])) (met l s) ss (met-more all l s h))
 
 none-met : FirstMet [] []
-unfolding place
+unfolding indexIn
 none-met = record { same = λ s. (λ e. e, λ e. e); once = λ k l. absurd (not-suc-le-zero l); order = λ s t j k p q a. never none j refl a }
 
 -- the cut sides are the listed sides of the flagged triangles, met one after the other

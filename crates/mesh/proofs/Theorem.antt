@@ -7,32 +7,32 @@ use mathlib.Core.Bool.{Bool, and-comm}
 use mathlib.Core.List.{List, [], _∷_, _++_, append-assoc}
 use mathlib.Core.Option.{Option, none, some}
 use lib.ListN.{length}
-use Rattle.mesh.specs.Mesh.{Tri, tri, Side, key, next, place, mid, cuts, above, marked, Good, All, at, lies, one, total, count, split, pieces, refined, refine}
+use Rattle.mesh.specs.Mesh.{Tri, tri, Side, key, next, indexIn, mid, cuts, above, marked, Good, All, at, lies, one, total, count, split, pieces, refined, refine}
 use Rattle.mesh.specs.Claim.{listed, InRange, Refines, cutsOf}
 use Rattle.mesh.proofs.Weigh.{F, F-zero, F-one, around}
 use Rattle.mesh.proofs.Local.{Distinct}
 use Rattle.mesh.proofs.Whole.{All-map, good-distinct, good-in-range, count-around, total-zero, old-side, half-side}
 use Rattle.mesh.proofs.Inner.{inner-side}
-pub use Rattle.mesh.proofs.Cuts.{place-below}
-use Rattle.mesh.proofs.Cuts.{key-same, same-key, side-discrete, place-here, place-past, next-none, above-some, above-none, never, mids, marked-all}
+pub use Rattle.mesh.proofs.Cuts.{index-below}
+use Rattle.mesh.proofs.Cuts.{key-same, same-key, side-discrete, index-here, index-past, next-none, above-some, above-none, never, mids, marked-all}
 use Rattle.mesh.proofs.Order.{cuts-met, cut-sides, good-ends}
 
 -- ---- which sides are cut
 
-cons-out : (s t : Side) (l : List Side) → (place s (t ∷ l) ≡ none) ↔ ((s ≢ t) × (place s l ≡ none))
-cons-out s t l = (λ e. (λ q. never (place s (t ∷ l)) zero e (place-here s t l q), go e (side-discrete s t)), λ e. place-past s t l (e .0) ∙ ap next (e .1))
+cons-out : (s t : Side) (l : List Side) → (indexIn s (t ∷ l) ≡ none) ↔ ((s ≢ t) × (indexIn s l ≡ none))
+cons-out s t l = (λ e. (λ q. never (indexIn s (t ∷ l)) zero e (index-here s t l q), go e (side-discrete s t)), λ e. index-past s t l (e .0) ∙ ap next (e .1))
   where
-    go : place s (t ∷ l) ≡ none → Dec (s ≡ t) → place s l ≡ none
-    go e (yes q) = never (place s (t ∷ l)) zero e (place-here s t l q)
-    go e (no q) = next-none (place s l) (sym (place-past s t l q) ∙ e)
+    go : indexIn s (t ∷ l) ≡ none → Dec (s ≡ t) → indexIn s l ≡ none
+    go e (yes q) = never (indexIn s (t ∷ l)) zero e (index-here s t l q)
+    go e (no q) = next-none (indexIn s l) (sym (index-past s t l q) ∙ e)
 
 -- a side that is none of a triangle's
 abbrev Lacks : Side → Tri → Type 0
 Lacks s (tri a b c) = (s ≢ key a b) × (s ≢ key b c) × (s ≢ key c a)
 
-listed-out : (s : Side) (ts : List Tri) → (place s (listed ts) ≡ none) ↔ All (Lacks s) ts
+listed-out : (s : Side) (ts : List Tri) → (indexIn s (listed ts) ≡ none) ↔ All (Lacks s) ts
 unfolding listed
-listed-out s [] = (λ e. tt, λ e. unfold place in refl)
+listed-out s [] = (λ e. tt, λ e. unfold indexIn in refl)
 listed-out s (tri a b c ∷ ts) =
     let o₁ = cons-out s (key a b) (key b c ∷ key c a ∷ listed ts) in
     let o₂ = cons-out s (key b c) (key c a ∷ listed ts) in
@@ -116,11 +116,11 @@ module _ (n : ℕ) (f : Tri → Bool) (ts : List Tri) (good : All (Good n) ts) w
 
   midpoint-range : (u v k : ℕ) → mid n (cuts f ts) u v ≡ some k → (n ≤ k) × (k < n + length (cuts f ts))
   unfolding mid
-  midpoint-range u v k h = let d = above-some n (place (key u v) (cuts f ts)) k h in omega (arith, d .2, place-below (key u v) (cuts f ts) (d .0) (d .1))
+  midpoint-range u v k h = let d = above-some n (indexIn (key u v) (cuts f ts)) k h in omega (arith, d .2, index-below (key u v) (cuts f ts) (d .0) (d .1))
 
-  number-of : (u v k : ℕ) → (mid n (cuts f ts) u v ≡ some (n + k)) ↔ (place (key u v) (cuts f ts) ≡ some k)
+  number-of : (u v k : ℕ) → (mid n (cuts f ts) u v ≡ some (n + k)) ↔ (indexIn (key u v) (cuts f ts) ≡ some k)
   unfolding mid
-  number-of u v k = (λ h. let d = above-some n (place (key u v) (cuts f ts)) (n + k) h in d .1 ∙ ap some (omega (arith, d .2)), λ h. ap (above n) h)
+  number-of u v k = (λ h. let d = above-some n (indexIn (key u v) (cuts f ts)) (n + k) h in d .1 ∙ ap some (omega (arith, d .2)), λ h. ap (above n) h)
 
   pub refines : Refines n f ts (refine n f ts) (cuts f ts) (mid n (cuts f ts))
   unfolding refine

@@ -7,7 +7,7 @@ use mathlib.Core.Bool.{Bool, not}
 use mathlib.Core.List.{List, [], _∷_, _++_}
 use mathlib.Core.Option.{Option, none, some}
 use lib.ListN.{length}
-use Rattle.mesh.specs.Mesh.{Tri, tri, Side, side, key, place, Same, Numbered, marked, count, Good, All, Apart, pieces, refined, one, isNone}
+use Rattle.mesh.specs.Mesh.{Tri, tri, Side, side, key, indexIn, Same, Numbered, marked, count, Good, All, AllDifferent, pieces, refined, one, isNone}
 
 -- ---- the list of cut sides
 
@@ -19,11 +19,11 @@ listed (tri a b c ∷ ts) = key a b ∷ key b c ∷ key c a ∷ listed ts
 -- l has the sides that the list `all` has, each once, in the order first met
 pub record FirstMet (all l : List Side) : Type 0 where
   -- a side is in the one exactly if it is in the other
-  pub same : (s : Side) → (place s l ≡ none) ↔ (place s all ≡ none)
+  pub same : (s : Side) → (indexIn s l ≡ none) ↔ (indexIn s all ≡ none)
   -- each once
   pub once : Numbered l
   -- of two sides, the one that stands first in l was met first
-  pub order : (s t : Side) (j k p q : ℕ) → place s l ≡ some j → place t l ≡ some k → place s all ≡ some p → place t all ≡ some q → j < k → p < q
+  pub order : (s t : Side) (j k p q : ℕ) → indexIn s l ≡ some j → indexIn t l ≡ some k → indexIn s all ≡ some p → indexIn t all ≡ some q → j < k → p < q
 
 -- two of n points, the lower first
 abbrev pub LowerFirst : ℕ → Side → Type 0
@@ -60,7 +60,7 @@ pub record Refines (n : ℕ) (f : Tri → Bool) (ts new : List Tri) (l : List Si
   pub cut-sides : CutSides n f ts l
   pub two-ends : All TwoEnds l
   -- "midpoints are numbered from n": the side at place k of the list, and no other, has the midpoint n + k
-  pub numbers : (u v k : ℕ) → (m u v ≡ some (n + k)) ↔ (place (key u v) l ≡ some k)
+  pub numbers : (u v k : ℕ) → (m u v ≡ some (n + k)) ↔ (indexIn (key u v) l ≡ some k)
   -- a midpoint is one of the new points, which follow the n old ones
   pub midpoint : (u v k : ℕ) → m u v ≡ some k → (n ≤ k) × (k < n + length l)
   -- "a midpoint m that no other side has", and the same one either way round
@@ -72,7 +72,7 @@ pub record Refines (n : ℕ) (f : Tri → Bool) (ts new : List Tri) (l : List Si
   pub gone : (x y k : ℕ) → x < n → y < n → x ≢ y → m x y ≡ some k → count x y new ≡ 0
   pub halves : (x y k : ℕ) → x < n → y < n → x ≢ y → m x y ≡ some k → (count x k new ≡ count x y ts) × (count k y new ≡ count x y ts)
   -- "an inner side is any side of a new triangle that is neither an old side nor a half": it lies in exactly two, if no two old triangles have the same three corners
-  pub inner : Apart ts → (x y : ℕ) → x ≢ y → count x y new ≢ 0 → count x y ts ≡ 0 → ((u v k : ℕ) → m u v ≡ some k → Same x y u k → ⊥) → count x y new ≡ 2
+  pub inner : AllDifferent ts → (x y : ℕ) → x ≢ y → count x y new ≢ 0 → count x y ts ≡ 0 → ((u v k : ℕ) → m u v ≡ some k → Same x y u k → ⊥) → count x y new ≡ 2
   -- "the pieces of a triangle with k cut sides are the next k + 1 new triangles in list order"
   pub order : (s r : List Tri) (t : Tri) → ts ≡ s ++ t ∷ r → new ≡ refined m s ++ (pieces m t ++ refined m r)
   pub pieces-of : (t : Tri) → length (pieces m t) ≡ suc (cutsOf m t)

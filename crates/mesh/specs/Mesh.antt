@@ -8,10 +8,15 @@ use mathlib.Core.List.{List, [], _∷_, _++_}
 use mathlib.Core.Option.{Option, none, some}
 use lib.Dec.{T, eqb, ltb}
 use lib.ListN.{length, getD}
+use Rattle.mesh.specs.declared.ThreeCorners.{ThreeCorners}
 
 -- a place of the triangle list: three corners, each the number of a point
 pub data Tri : Type 0 where
   tri : ℕ → ℕ → ℕ → Tri
+
+-- the corners that a list of numbers holds from `at` on
+abbrev pub cornersAt : List ℕ → ℕ → ThreeCorners
+cornersAt l at = record { a = getD l at 0; b = getD l (at + 1) 0; c = getD l (at + 2) 0 }
 
 -- a side, as it is listed: two numbers of points
 pub data Side : Type 0 where
@@ -31,9 +36,9 @@ next none = none
 next (some k) = some (suc k)
 
 -- the first place of a side in a list of sides, if it is there
-unfoldable pub place : Side → List Side → Option ℕ
-place s [] = none
-place s (t ∷ ts) = cond (same s t) (some zero) (next (place s ts))
+unfoldable pub indexIn : Side → List Side → Option ℕ
+indexIn s [] = none
+indexIn s (t ∷ ts) = cond (same s t) (some zero) (next (indexIn s ts))
 
 abbrev pub isNone : Option ℕ → Bool
 isNone none = true
@@ -43,7 +48,7 @@ isNone (some k) = false
 -- So the list grows at its end alone, and a side keeps its place whatever is met later:
 -- a list kept sorted by the ends of its sides would not do
 unfoldable pub met : List Side → Side → List Side
-met l s = cond (isNone (place s l)) (l ++ (s ∷ [])) l
+met l s = cond (isNone (indexIn s l)) (l ++ (s ∷ [])) l
 
 unfoldable pub metAll : List Side → List Side → List Side
 metAll l [] = l
@@ -73,7 +78,7 @@ above n (some k) = some (n + k)
 
 -- "midpoints are numbered from n in order first met": the midpoint of the side of u and v if it is among the cut sides l, refine_once's `midpoint`
 unfoldable pub mid : ℕ → List Side → ℕ → ℕ → Option ℕ
-mid n l u v = above n (place (key u v) l)
+mid n l u v = above n (indexIn (key u v) l)
 
 -- ---- the pieces
 
@@ -133,7 +138,7 @@ Same x y a b = ((x ≡ a) × (y ≡ b)) ⊎ ((x ≡ b) × (y ≡ a))
 
 -- each side is found at its own place, so that no side is listed twice
 abbrev pub Numbered : List Side → Type 0
-Numbered l = (k : ℕ) → k < length l → place (getD l k (side 0 0)) l ≡ some k
+Numbered l = (k : ℕ) → k < length l → indexIn (getD l k (side 0 0)) l ≡ some k
 
 -- m gives each cut side a midpoint, at or above n, that no other side has
 pub record Mids (n : ℕ) (m : ℕ → ℕ → Option ℕ) : Type 0 where
@@ -153,6 +158,6 @@ abbrev pub SameCorners : Tri → Tri → Type 0
 SameCorners s t = (v : ℕ) → T (at v s) ↔ T (at v t)
 
 -- no two places of the list have the same three corners
-abbrev pub Apart : List Tri → Type 0
-Apart [] = Unit {0}
-Apart (t ∷ ts) = All (λ s. ¬ SameCorners t s) ts × Apart ts
+abbrev pub AllDifferent : List Tri → Type 0
+AllDifferent [] = Unit {0}
+AllDifferent (t ∷ ts) = All (λ s. ¬ SameCorners t s) ts × AllDifferent ts

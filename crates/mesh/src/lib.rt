@@ -1,10 +1,32 @@
 // The combinatorial side of refinement: triangles and sides as numbers, which sides are cut, the pieces of a triangle, and the proved claim that
 // no side is lost and none cracks. specs/Mesh.antt has the definitions, specs/Claim.antt the claim, proofs/Theorem.antt its proof.
 ghost use mathlib.Core.Path.{_≡_};
+ghost use Prim.Native.Nat.{_+_, _≤_};
+ghost use lib.ListN.{length};
+ghost use Rattle.mesh.specs.Mesh.{cornersAt};
+
+// The corners of a triangle: three numbers of points.
+pub struct ThreeCorners {
+    pub a: u32,
+    pub b: u32,
+    pub c: u32,
+}
 
 // A point's number as an index.
 pub fn index(point: u32) -> usize
     ensures { λ r. ⌜ r ≡ point ⌝ }
 {
     point as usize
+}
+
+// The corners that a list holds from `at` on.
+pub fn corners(list: &[u32], at: usize) -> ThreeCorners
+    requires { ⌜ at + 3 ≤ length (now list) ⌝ }
+    ensures { λ r. ⌜ r ≡ cornersAt (now (list .entry)) at ⌝ }
+{
+    ThreeCorners {
+        a: list[at],
+        b: list[at + 1],
+        c: list[at + 2],
+    }
 }

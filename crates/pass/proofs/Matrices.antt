@@ -52,7 +52,7 @@ triangles-in l w u = length-tris (l .given) u (l .triangles)
 -- ---- room
 
 module _ (l : Layout) (m : ℕ) {reals words : ℕ} (ok : Ordered l reals words) (few : m ≤ 3 * l .triangles) where
-  pub assembly-room : work.Room reals words (planAt l) (massAt l m) (energyAt l m)
+  pub assembly-room : work.AssemblyRoom reals words (planAt l) (massAt l m) (energyAt l m)
   assembly-room = record {
     x-below = omega arith;
     y-below = omega arith;
@@ -76,7 +76,7 @@ module _ (l : Layout) (m : ℕ) {reals words : ℕ} (ok : Ordered l reals words)
   pub trace-room : (mode : Mode) (w : List Float) (u : List ℕ) → length w ≡ reals → length u ≡ words → {w₁ : List Float}
       → w₁ ≡ assembledTo mode w u (planAt l) (massAt l m) (energyAt l m) (l .triangles) → TraceRoom (length w₁) (massAt l m) (energyAt l m)
   trace-room mode w u a b {w₁} e =
-      let fits : work.Room (length w) (length u) (planAt l) (massAt l m) (energyAt l m) = rw (a, b) assembly-room in
+      let fits : work.AssemblyRoom (length w) (length u) (planAt l) (massAt l m) (energyAt l m) = rw (a, b) assembly-room in
       let k : length w₁ ≡ reals = ap length e ∙ assembled-length mode w u (planAt l) (massAt l m) (energyAt l m) fits (l .triangles) ∙ a in
       record { mass-in = omega arith; energy-in = omega arith }
 
@@ -89,7 +89,7 @@ module _ (l : Layout) (m : ℕ) (w : List Float) (u : List ℕ) (o : Options) (o
   abbrev built : List Float
   built = assembledTo (modeOf o) w u (planAt l) (massAt l m) (energyAt l m) (l .triangles)
 
-  room : work.Room (length w) (length u) (planAt l) (massAt l m) (energyAt l m)
+  room : work.AssemblyRoom (length w) (length u) (planAt l) (massAt l m) (energyAt l m)
   room = assembly-room l m ok (s .edged .few)
 
   holds : lists.Holds w u (planAt l) (l .points) m (floorIn l w u .xs) (floorIn l w u .ys) (woundOf (floorIn l w u)) (areasOf (floorIn l w u)) (edgesOf (floorIn l w u)) (transportsOf (floorIn l w u))

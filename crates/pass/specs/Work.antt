@@ -6,7 +6,7 @@ use mathlib.Core.List.{List}
 use lib.Ieee.{Float, nan}
 use Rattle.linear_cells.specs.Region.{region}
 use Rattle.pass_terms.specs.declared.Mode.{Mode}
-use Rattle.pass_assembly.specs.declared.Plan.{Plan}
+use Rattle.pass_assembly.specs.declared.AssemblyPlan.{AssemblyPlan}
 use Rattle.pass_assembly.specs.Work.{assembledTo}
 use Rattle.pass_shift.specs.declared.Traces.{Traces}
 use Rattle.pass_shift.specs.Shift.{tracesOf}
@@ -31,7 +31,7 @@ unfoldable pub fieldIn : Layout → Options → Asked → List Float → List �
 fieldIn l o a w u = fieldOver (floorIn l w u) o (guidanceAt l a w) (a .iterations)
 
 -- what is assembled
-abbrev pub planAt : Layout → Plan
+abbrev pub planAt : Layout → AssemblyPlan
 planAt l = record { x = l .x; y = l .y; areas = l .areas; transports = l .transports; corners = l .wound; numbers = l .numbers; triangles = l .triangles }
 
 -- both matrices, with m edges, before any shift; and their traces

@@ -1,6 +1,6 @@
 // One pass: the Rust's solve_mesh, from a floor in the work slices to the angles of its field, or a refusal by rows 19 to 24.
 // specs/Pass.antt says what it finds, as one function of lists, and specs/Work.antt where it reads and writes.
-use pass_assembly::Plan;
+use pass_assembly::AssemblyPlan;
 use pass_branches::Search;
 use pass_layout::Base;
 use pass_layout::Layout;
@@ -30,10 +30,10 @@ pub struct Asked {
     pub iterations: usize,
 }
 
-fn plan_at(l: Layout) -> Plan
+fn plan_at(l: Layout) -> AssemblyPlan
     ensures { λ r. ⌜ r ≡ planAt l ⌝ }
 {
-    Plan {
+    AssemblyPlan {
         x: l.x,
         y: l.y,
         areas: l.areas,

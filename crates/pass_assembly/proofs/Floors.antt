@@ -13,9 +13,9 @@ use Rattle.pass_terms.specs.declared.Mode.{Mode}
 use Rattle.linear_cells.specs.Cell.{getC}
 use Rattle.linear_hermitian.specs.declared.Hermitian.{Hermitian}
 use Rattle.pass_assembly.specs.declared.Triple.{Triple}
-use Rattle.pass_assembly.specs.declared.Plan.{Plan}
+use Rattle.pass_assembly.specs.declared.AssemblyPlan.{AssemblyPlan}
 use Rattle.pass_assembly.specs.Assembly.{Floor, transportsOn, termsOn, termsAt}
-use Rattle.pass_assembly.specs.Work.{tripleFrom, floorFrom, Within, Room, TermsIn, Indexed}
+use Rattle.pass_assembly.specs.Work.{tripleFrom, floorFrom, Within, AssemblyRoom, TermsIn, Indexed}
 use Rattle.pass_assembly.proofs.Sums.{SameTo}
 
 -- the three indices of triangle t
@@ -44,7 +44,7 @@ terms-agree m f g t c s a h = terms-on m f g (f .corners t) (f .numbers t) (f .a
 
 -- ---- a slice that is the same below the matrices
 
-module _ (w w′ : List Float) (u : List ℕ) (l : Plan) (mass energy : Hermitian) {lenw lenu : ℕ} (ok : Room lenw lenu l mass energy) (ix : Indexed u l (mass .size) (mass .edges))
+module _ (w w′ : List Float) (u : List ℕ) (l : AssemblyPlan) (mass energy : Hermitian) {lenw lenu : ℕ} (ok : AssemblyRoom lenw lenu l mass energy) (ix : Indexed u l (mass .size) (mass .edges))
     (h : (j : ℕ) → j < mass .diagonal → getD w′ j nan ≡ getD w j nan) where
   position : (i : ℕ) → i < mass .size → at (coordsFrom w′ (l .x)) (coordsFrom w′ (l .y)) i ≡ at (coordsFrom w (l .x)) (coordsFrom w (l .y)) i
   position i k = rw (h (l .x + i) (omega (arith, ok .x-below)), h (l .y + i) (omega (arith, ok .y-below)))
@@ -74,7 +74,7 @@ module _ (w w′ : List Float) (u : List ℕ) (l : Plan) (mass energy : Hermitia
 
 -- ---- what is asked of triangle t
 
-pub terms-in : {lenw lenu : ℕ} (l : Plan) (mass energy : Hermitian) → Room lenw lenu l mass energy → (t : ℕ) → t < l .triangles → TermsIn lenw l (mass .size) (mass .edges) t
+pub terms-in : {lenw lenu : ℕ} (l : AssemblyPlan) (mass energy : Hermitian) → AssemblyRoom lenw lenu l mass energy → (t : ℕ) → t < l .triangles → TermsIn lenw l (mass .size) (mass .edges) t
 terms-in {lenw} l mass energy ok t h =
     let r = ok .matrices .matrices-in in
     let k : mass .diagonal ≤ lenw = omega arith in
@@ -85,7 +85,7 @@ terms-in {lenw} l mass energy ok t h =
       transports-in = omega (arith, ok .transports-below);
     }
 
-pub both-within : (u : List ℕ) (l : Plan) {n e t : ℕ} {c s : Triple} → Indexed u l n e → t < l .triangles → c ≡ tripleFrom (l .corners) u t → s ≡ tripleFrom (l .numbers) u t
+pub both-within : (u : List ℕ) (l : AssemblyPlan) {n e t : ℕ} {c s : Triple} → Indexed u l n e → t < l .triangles → c ≡ tripleFrom (l .corners) u t → s ≡ tripleFrom (l .numbers) u t
     → Within n c × Within e s
 both-within u l {n} {e} {t} ix h p q =
     (subst (Within n) (sym p) (within n (l .corners) u t (l .triangles) (ix .points) h), subst (Within e) (sym q) (within e (l .numbers) u t (l .triangles) (ix .sides) h))

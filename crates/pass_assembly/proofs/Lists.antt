@@ -9,7 +9,7 @@ use lib.Ieee.{Float, nan}
 use Rattle.complex.specs.declared.Complex.{Complex}
 use Rattle.complex.specs.Complex.{cnan}
 use Rattle.mesh.specs.Mesh.{Side, Tri, tri, key}
-use Rattle.mesh.proofs.Theorem.{place-below}
+use Rattle.mesh.proofs.Theorem.{index-below}
 use Rattle.edges.specs.Numbering.{triFrom, Below}
 use Rattle.edges.specs.Table.{NumbersOf}
 use Rattle.geometry.specs.Triangle.{at}
@@ -22,16 +22,16 @@ use Rattle.linear_cells.proofs.Cells.{getD-regionC}
 use Rattle.linear_hermitian.specs.declared.Hermitian.{Hermitian}
 use Rattle.linear_hermitian.specs.Work.{matrix}
 use Rattle.pass_assembly.specs.declared.Triple.{Triple}
-use Rattle.pass_assembly.specs.declared.Plan.{Plan}
+use Rattle.pass_assembly.specs.declared.AssemblyPlan.{AssemblyPlan}
 use Rattle.pass_assembly.specs.Lists.{tripleOf, numberIn, numbersIn, floorOf}
 use Rattle.pass_assembly.specs.Assembly.{massOf, energyOf}
-use Rattle.pass_assembly.specs.Work.{tripleFrom, floorFrom, assembledTo, Room, Indexed}
+use Rattle.pass_assembly.specs.Work.{tripleFrom, floorFrom, assembledTo, AssemblyRoom, Indexed}
 use Rattle.pass_assembly.proofs.Sums.{SameTo}
 use Rattle.pass_assembly.proofs.Floors.{within, terms-agree}
 use Rattle.pass_assembly.proofs.Matrices.{mass-same, energy-same, mass-matrix, energy-matrix}
 
 -- n points, e sides and the triangles of a plan stand in the slices
-pub record Holds (w : List Float) (u : List ℕ) (l : Plan) (n e : ℕ) (xs ys : List Float) (ts : List Tri) (areas : List Float) (sides : List Side) (rs : List Complex) : Type 0 where
+pub record Holds (w : List Float) (u : List ℕ) (l : AssemblyPlan) (n e : ℕ) (xs ys : List Float) (ts : List Tri) (areas : List Float) (sides : List Side) (rs : List Complex) : Type 0 where
   pub all-x : region nan w (l .x) n ≡ xs
   pub all-y : region nan w (l .y) n ≡ ys
   pub all-areas : region nan w (l .areas) (l .triangles) ≡ areas
@@ -44,7 +44,7 @@ numbers-in : (s : Tri) (l : List Side) (p q r : ℕ) → NumbersOf s l p q r →
 unfolding numberIn
 numbers-in (tri a b c) l p q r h = sym (rw (h .0, h .1, h .2))
 
-pub floor-lists : (m : Mode) (w : List Float) (u : List ℕ) (l : Plan) (n e : ℕ) (xs ys : List Float) (ts : List Tri) (areas : List Float) (sides : List Side) (rs : List Complex)
+pub floor-lists : (m : Mode) (w : List Float) (u : List ℕ) (l : AssemblyPlan) (n e : ℕ) (xs ys : List Float) (ts : List Tri) (areas : List Float) (sides : List Side) (rs : List Complex)
     → Indexed u l n e → Holds w u l n e xs ys ts areas sides rs → SameTo m (floorFrom w u l e) (floorOf xs ys ts areas sides rs) (l .triangles)
 unfolding floorFrom floorOf
 floor-lists m w u l n e xs ys ts areas sides rs ix h t k =
@@ -77,7 +77,7 @@ floor-lists m w u l n e xs ys ts areas sides rs ix h t k =
 
 -- ---- the matrices
 
-module _ (m : Mode) (w : List Float) (u : List ℕ) (l : Plan) (mass energy : Hermitian) {lenu : ℕ} (ok : Room (length w) lenu l mass energy) (ix : Indexed u l (mass .size) (mass .edges))
+module _ (m : Mode) (w : List Float) (u : List ℕ) (l : AssemblyPlan) (mass energy : Hermitian) {lenu : ℕ} (ok : AssemblyRoom (length w) lenu l mass energy) (ix : Indexed u l (mass .size) (mass .edges))
     (xs ys : List Float) (ts : List Tri) (areas : List Float) (sides : List Side) (rs : List Complex) (h : Holds w u l (mass .size) (mass .edges) xs ys ts areas sides rs) where
   pub mass-lists : (a b : List ℕ) → length a ≡ mass .edges
       → matrix (assembledTo m w u l mass energy (l .triangles)) mass a b ≡ massOf m (floorOf xs ys ts areas sides rs) (mass .size) (l .triangles) a b
@@ -94,7 +94,7 @@ module _ (m : Mode) (w : List Float) (u : List ℕ) (l : Plan) (mass energy : He
 -- ---- belongs in crate edges: the numbers that `NumberedTo` says of are those of sides
 
 three-below : (s : Tri) (l : List Side) (p q r : ℕ) → NumbersOf s l p q r → (p < length l) × ((q < length l) × (r < length l))
-three-below (tri a b c) l p q r h = (place-below (key a b) l p (h .0), (place-below (key b c) l q (h .1), place-below (key c a) l r (h .2)))
+three-below (tri a b c) l p q r h = (index-below (key a b) l p (h .0), (index-below (key b c) l q (h .1), index-below (key c a) l r (h .2)))
 
 pub numbers-below : (ts : ℕ → Tri) (l : List Side) (b : ℕ) (u : List ℕ) (t : ℕ)
     → ((i : ℕ) → i < t → NumbersOf (ts i) l (getD u (b + 3 * i) 0) (getD u (b + 3 * i + 1) 0) (getD u (b + 3 * i + 2) 0)) → Below (length l) b u (3 * t)

@@ -14,9 +14,9 @@ use Rattle.linear_cells.proofs.Regions.{region-else}
 use Rattle.linear_cells.proofs.Cells.{length-flat}
 use Rattle.linear_hermitian.specs.declared.Hermitian.{Hermitian}
 use Rattle.linear_hermitian.specs.Work.{matrix}
-use Rattle.pass_assembly.specs.declared.Plan.{Plan}
+use Rattle.pass_assembly.specs.declared.AssemblyPlan.{AssemblyPlan}
 use Rattle.pass_assembly.specs.Assembly.{Floor, massOf, energyOf}
-use Rattle.pass_assembly.specs.Work.{Sums, floorFrom, lay, sumsTo, assembledTo, Room}
+use Rattle.pass_assembly.specs.Work.{Sums, floorFrom, lay, sumsTo, assembledTo, AssemblyRoom}
 use Rattle.pass_assembly.proofs.Lays.{Sized, get-mass-diagonal, get-mass-off, get-energy-diagonal, get-energy-off, length-lay, lay-region}
 use Rattle.pass_assembly.proofs.Sums.{SameTo, sums-sized, sums-same}
 
@@ -44,7 +44,7 @@ energy-same m f g n t a b h =
     ∙ ap (λ (s : Sums). record { diagonal = s .energyDiagonal; off = s .energyOff; edgeA = a; edgeB = b }) (sums-same m f g n (length a) t h)
     ∙ of-energy m g n (length a) t a b refl
 
-module _ (m : Mode) (w : List Float) (u : List ℕ) (l : Plan) (mass energy : Hermitian) {lenu : ℕ} (ok : Room (length w) lenu l mass energy) (t : ℕ) where
+module _ (m : Mode) (w : List Float) (u : List ℕ) (l : AssemblyPlan) (mass energy : Hermitian) {lenu : ℕ} (ok : AssemblyRoom (length w) lenu l mass energy) (t : ℕ) where
   sized : Sized mass energy (sumsTo m (floorFrom w u l (mass .edges)) (mass .size) (mass .edges) t)
   sized = sums-sized m (floorFrom w u l (mass .edges)) t mass energy (ok .matrices .one-size) (ok .matrices .one-graph)
 

@@ -7,7 +7,7 @@ use lib.ListN.{getD}
 use lib.Ieee.{Float, nan}
 use Rattle.complex.specs.declared.Complex.{Complex}
 use Rattle.complex.specs.Complex.{cnan}
-use Rattle.mesh.specs.Mesh.{Side, Tri, tri, key, place}
+use Rattle.mesh.specs.Mesh.{Side, Tri, tri, key, indexIn}
 use Rattle.pass_assembly.specs.declared.Triple.{Triple}
 use Rattle.pass_assembly.specs.Assembly.{Floor}
 
@@ -20,7 +20,7 @@ found none = 0
 found (some e) = e
 
 unfoldable pub numberIn : List Side → ℕ → ℕ → ℕ
-numberIn l i j = found (place (key i j) l)
+numberIn l i j = found (indexIn (key i j) l)
 
 abbrev pub numbersIn : List Side → Tri → Triple
 numbersIn l (tri i j k) = record { i = numberIn l i j; j = numberIn l j k; k = numberIn l k i }

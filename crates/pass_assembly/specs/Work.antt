@@ -21,7 +21,7 @@ use Rattle.linear_cells.specs.Cell.{getC, flat, regionC, putC}
 use Rattle.linear_cells.specs.Rows.{Row, row, laid, Ranged}
 use Rattle.linear_hermitian.specs.declared.Hermitian.{Hermitian}
 use Rattle.pass_assembly.specs.declared.Triple.{Triple}
-use Rattle.pass_assembly.specs.declared.Plan.{Plan}
+use Rattle.pass_assembly.specs.declared.AssemblyPlan.{AssemblyPlan}
 use Rattle.pass_assembly.specs.Assembly.{Floor, thrice, termsOn, massDiagonalTo, massOffTo, energyDiagonalTo, energyOffTo}
 
 -- ---- the floor
@@ -30,7 +30,7 @@ abbrev pub tripleFrom : ℕ → List ℕ → ℕ → Triple
 tripleFrom b u t = record { i = getD u (b + 3 * t) 0; j = getD u (b + 3 * t + 1) 0; k = getD u (b + 3 * t + 2) 0 }
 
 -- its e sides have their transports in one vector
-unfoldable pub floorFrom : List Float → List ℕ → Plan → ℕ → Floor
+unfoldable pub floorFrom : List Float → List ℕ → AssemblyPlan → ℕ → Floor
 floorFrom w u l e = record {
   x = coordsFrom w (l .x);
   y = coordsFrom w (l .y);
@@ -41,7 +41,7 @@ floorFrom w u l e = record {
 }
 
 -- what triangle t adds
-unfoldable pub termsFrom : Mode → List Float → Plan → ℕ → Triple → Triple → ℕ → Terms
+unfoldable pub termsFrom : Mode → List Float → AssemblyPlan → ℕ → Triple → Triple → ℕ → Terms
 termsFrom m w l e c s t = termsOn m (coordsFrom w (l .x)) (coordsFrom w (l .y)) (getC w (l .transports) e) c s (coordsFrom w (l .areas) t)
 
 -- ---- the two matrices
@@ -81,7 +81,7 @@ sumsTo m f n e t = record {
 }
 
 -- w with the matrices of its floor: their values are those of `massOf` and `energyOf`, and all else is as it was
-unfoldable pub assembledTo : Mode → List Float → List ℕ → Plan → Hermitian → Hermitian → ℕ → List Float
+unfoldable pub assembledTo : Mode → List Float → List ℕ → AssemblyPlan → Hermitian → Hermitian → ℕ → List Float
 assembledTo m w u l mass energy t = lay w mass energy (sumsTo m (floorFrom w u l (mass .edges)) (mass .size) (mass .edges) t)
 
 -- ---- what is required
@@ -93,7 +93,7 @@ pub record AddRoom (len : ℕ) (mass energy : Hermitian) : Type 0 where
   pub one-graph : energy .edges ≡ mass .edges
 
 -- the planes lie below the two matrices, which are of one size and come one after the other
-pub record Room (lenw lenu : ℕ) (l : Plan) (mass energy : Hermitian) : Type 0 where
+pub record AssemblyRoom (lenw lenu : ℕ) (l : AssemblyPlan) (mass energy : Hermitian) : Type 0 where
   pub x-below : l .x + mass .size ≤ mass .diagonal
   pub y-below : l .y + mass .size ≤ mass .diagonal
   pub areas-below : l .areas + l .triangles ≤ mass .diagonal
@@ -103,7 +103,7 @@ pub record Room (lenw lenu : ℕ) (l : Plan) (mass energy : Hermitian) : Type 0 
   pub numbers-in : l .numbers + 3 * l .triangles ≤ lenu
 
 -- every corner is a point, and every number that of a side
-pub record Indexed (u : List ℕ) (l : Plan) (n e : ℕ) : Type 0 where
+pub record Indexed (u : List ℕ) (l : AssemblyPlan) (n e : ℕ) : Type 0 where
   pub points : Below n (l .corners) u (3 * l .triangles)
   pub sides : Below e (l .numbers) u (3 * l .triangles)
 
@@ -116,7 +116,7 @@ abbrev pub MatrixIn : ℕ → Hermitian → Type 0
 MatrixIn len h = (h .diagonal + h .size ≤ h .off) × (h .off + 2 * h .edges ≤ len)
 
 -- what one triangle's terms are read from
-pub record TermsIn (len : ℕ) (l : Plan) (n e t : ℕ) : Type 0 where
+pub record TermsIn (len : ℕ) (l : AssemblyPlan) (n e t : ℕ) : Type 0 where
   pub x-in : l .x + n ≤ len
   pub y-in : l .y + n ≤ len
   pub area-in : l .areas + t < len
@@ -154,7 +154,7 @@ added h c s z v = record {
 }
 
 -- w with triangle t added to both matrices
-unfoldable pub triangleAdded : Mode → List ℕ → Plan → Hermitian → Hermitian → ℕ → List Float → List Float
+unfoldable pub triangleAdded : Mode → List ℕ → AssemblyPlan → Hermitian → Hermitian → ℕ → List Float → List Float
 triangleAdded m u l mass energy t w =
     lay w mass energy
     (added (m .holomorphic) (tripleFrom (l .corners) u t) (tripleFrom (l .numbers) u t)

@@ -20,12 +20,12 @@ ghost use Rattle.complex.specs.Complex.{cnan, cadd};
 ghost use Rattle.linear_cells.specs.Region.{region, put};
 ghost use Rattle.linear_cells.specs.Cell.{getC, regionC, putC};
 ghost use Rattle.pass_assembly.specs.Assembly.{directed, directedSides, directedPart, directedTerms, transportsOn};
-ghost use Rattle.pass_assembly.specs.Work.{tripleFrom, termsFrom, assembledTo, Room, Indexed, Within, MatrixIn, AddRoom, TermsIn};
+ghost use Rattle.pass_assembly.specs.Work.{tripleFrom, termsFrom, assembledTo, AssemblyRoom, Indexed, Within, MatrixIn, AddRoom, TermsIn};
 ghost use Rattle.pass_assembly.specs.Work.{addIn, cornersAdded, sidesAdded, correctionAdded, partAdded, added, triangleAdded, cleared, read, lay};
 
 // Where a floor stands: in the one slice the coordinates of its points, the areas of its triangles and the transports along its sides; in the other the
 // corners of its triangles, counter-clockwise, and the numbers of their sides.
-pub struct Plan {
+pub struct AssemblyPlan {
     pub x: usize,
     pub y: usize,
     pub areas: usize,
@@ -108,7 +108,15 @@ fn transports_on(w: &[f64], base: usize, e: usize, c: Triple, s: Triple) -> Side
 }
 
 // What triangle t, of the corners c and the sides s, adds; the matrices are as large as h.
-fn terms_at(w: &[f64], l: Plan, m: Mode, h: Hermitian, c: Triple, s: Triple, t: usize) -> Terms
+fn terms_at(
+    w: &[f64],
+    l: AssemblyPlan,
+    m: Mode,
+    h: Hermitian,
+    c: Triple,
+    s: Triple,
+    t: usize,
+) -> Terms
     requires { ⌜ TermsIn (length (now w)) l (h .size) (h .edges) t ⌝ }
     requires { ⌜ Within (h .size) c × Within (h .edges) s ⌝ }
     ensures { λ r. ⌜ r ≡ termsFrom m (now (w .entry)) l (h .edges) c s t ⌝ }
@@ -198,13 +206,13 @@ fn add_terms(
 fn add_triangle(
     w: &mut [f64],
     u: &[u32],
-    l: Plan,
+    l: AssemblyPlan,
     mass: Hermitian,
     energy: Hermitian,
     m: Mode,
     t: usize,
 )
-    requires { ⌜ Room (length (now w)) (length (now u)) l mass energy × (t < l .triangles) ⌝ }
+    requires { ⌜ AssemblyRoom (length (now w)) (length (now u)) l mass energy × (t < l .triangles) ⌝ }
     requires { ⌜ Indexed (now u) l (mass .size) (mass .edges) ⌝ }
     ensures { λ _. ⌜ now (w .exit) ≡ triangleAdded m (now (u .entry)) l mass energy t (now (w .entry)) ⌝ }
 {
@@ -215,8 +223,15 @@ fn add_triangle(
 }
 
 // Adds every triangle to both matrices, over zeros.
-fn add_triangles(w: &mut [f64], u: &[u32], l: Plan, mass: Hermitian, energy: Hermitian, m: Mode)
-    requires { ⌜ Room (length (now w)) (length (now u)) l mass energy ⌝ }
+fn add_triangles(
+    w: &mut [f64],
+    u: &[u32],
+    l: AssemblyPlan,
+    mass: Hermitian,
+    energy: Hermitian,
+    m: Mode,
+)
+    requires { ⌜ AssemblyRoom (length (now w)) (length (now u)) l mass energy ⌝ }
     requires { ⌜ Indexed (now u) l (mass .size) (mass .edges) × (now w ≡ assembledTo m (now w) (now u) l mass energy 0) ⌝ }
     ensures { λ _. ⌜ now (w .exit) ≡ assembledTo m (now (w .entry)) (now (u .entry)) l mass energy (l .triangles) ⌝ }
 {
@@ -235,8 +250,15 @@ fn clear(w: &mut [f64], h: Hermitian)
 }
 
 // The mass and the energy matrix of the floor at l, over what stood there.
-pub fn assemble(w: &mut [f64], u: &[u32], l: Plan, mass: Hermitian, energy: Hermitian, m: Mode)
-    requires { ⌜ Room (length (now w)) (length (now u)) l mass energy ⌝ }
+pub fn assemble(
+    w: &mut [f64],
+    u: &[u32],
+    l: AssemblyPlan,
+    mass: Hermitian,
+    energy: Hermitian,
+    m: Mode,
+)
+    requires { ⌜ AssemblyRoom (length (now w)) (length (now u)) l mass energy ⌝ }
     requires { ⌜ Indexed (now u) l (mass .size) (mass .edges) ⌝ }
     ensures { λ _. ⌜ now (w .exit) ≡ assembledTo m (now (w .entry)) (now (u .entry)) l mass energy (l .triangles) ⌝ }
 {

@@ -8,9 +8,9 @@ use mathlib.Core.Logic.{_⊎_, inl, inr}
 use mathlib.Core.List.{List, [], _∷_, _++_}
 use mathlib.Core.Option.{some}
 use lib.ListN.{length, getD}
-use Rattle.mesh.specs.Mesh.{Side, side, key, same, Tri, tri, place, sides, isNone}
+use Rattle.mesh.specs.Mesh.{Side, side, key, same, Tri, tri, indexIn, sides, isNone}
 use Rattle.mesh.proofs.Cuts.{key-flip}
-use Rattle.mesh.proofs.Theorem.{place-below}
+use Rattle.mesh.proofs.Theorem.{index-below}
 use Rattle.edges.specs.Table.{loOf, hiOf, NumbersOf}
 use Rattle.edges.specs.Numbering.{triFrom, trisFrom, NumberedTo, Below, times, listed}
 use Rattle.edges.proofs.Tree.{length-pairs}
@@ -54,7 +54,7 @@ listed-alike s c v u (suc i) h =
 
 -- ---- the sides of a triangle as given have numbers
 
-in-of : (s : Side) (l : List Side) (k : ℕ) → place s l ≡ some k → In s l
+in-of : (s : Side) (l : List Side) (k : ℕ) → indexIn s l ≡ some k → In s l
 in-of s l k e = ap isNone e
 
 all-in : (x y : Tri) (l : List Side) (p q r : ℕ) → Alike x y → NumbersOf y l p q r → AllIn x l
@@ -63,12 +63,12 @@ all-in (tri a b c) y l p q r (inl e) n =
     (in-of (key a b) l p (m .0), (in-of (key b c) l q (m .1), in-of (key c a) l r (m .2)))
 all-in (tri a b c) y l p q r (inr e) n =
     let m : NumbersOf (tri a c b) l p q r = subst (λ (t : Tri). NumbersOf t l p q r) e n in
-    (in-of (key a b) l r (ap (λ (s : Side). place s l) (key-flip a b) ∙ m .2), (in-of (key b c) l q (ap (λ (s : Side). place s l) (key-flip b c) ∙ m .1), in-of (key c a) l p (ap (λ (s : Side). place s l) (key-flip c a) ∙ m .0)))
+    (in-of (key a b) l r (ap (λ (s : Side). indexIn s l) (key-flip a b) ∙ m .2), (in-of (key b c) l q (ap (λ (s : Side). indexIn s l) (key-flip b c) ∙ m .1), in-of (key c a) l p (ap (λ (s : Side). indexIn s l) (key-flip c a) ∙ m .0)))
 
 -- ---- the numbers are below their count (belongs in crate edges)
 
-low-number : (l : List Side) {m : ℕ} → length l ≡ m → (s : Side) (k : ℕ) → place s l ≡ some k → k < m
-low-number l {m} e s k h = omega (arith, place-below s l k h)
+low-number : (l : List Side) {m : ℕ} → length l ≡ m → (s : Side) (k : ℕ) → indexIn s l ≡ some k → k < m
+low-number l {m} e s k h = omega (arith, index-below s l k h)
 
 below-to : (e m : ℕ) (l : List Side) → length l ≡ m → (w : List ℕ) (ts : ℕ → Tri) (i : ℕ) → ((k : ℕ) → k < i → NumbersOf (ts k) l (getD w (e + 3 * k) 0) (getD w (e + 3 * k + 1) 0) (getD w (e + 3 * k + 2) 0)) → Below m e w (3 * i)
 below-to e m l z w ts zero h = λ j g. absurd (omega arith)

@@ -24,8 +24,8 @@ use Rattle.linear_cells.proofs.Loops.{apart}
 use Rattle.linear_cells.proofs.Regions.{getD-region}
 use Rattle.linear_cells.proofs.Cells.{length-setC}
 use Rattle.linear_cells.proofs.Changes.{cell-at, cell-else, real-else, region-same}
-use Rattle.mesh.specs.Mesh.{Side, side, key, Tri, place, isNone}
-use Rattle.mesh.proofs.Cuts.{place-only}
+use Rattle.mesh.specs.Mesh.{Side, side, key, Tri, indexIn, isNone}
+use Rattle.mesh.proofs.Cuts.{index-only}
 use Rattle.edges.specs.Table.{loOf, hiOf, Held, oneMore}
 use Rattle.edges.specs.Numbering.{triFrom, trisFrom, times, listed}
 use Rattle.edges.proofs.Tree.{length-pairs}
@@ -43,19 +43,19 @@ number : (o : Option ℕ) → isNone o ≡ false → (k : ℕ) × (o ≡ some k)
 number none h = let n : _≡_ {A = ℕ} 1 0 = ap (λ (b : Bool). cond b 1 0) h in absurd (omega arith)
 number (some k) h = (k, refl)
 
-module _ (l : Listing) (u : List ℕ) (a b : ℕ) {at : ℕ} (held : Held (l .table) (l .buckets) u (l .sides)) (found : In (key a b) (tableOf l u)) (at-is : at ≡ oneMore (place (key a b) (tableOf l u))) where
+module _ (l : Listing) (u : List ℕ) (a b : ℕ) {at : ℕ} (held : Held (l .table) (l .buckets) u (l .sides)) (found : In (key a b) (tableOf l u)) (at-is : at ≡ oneMore (indexIn (key a b) (tableOf l u))) where
   pub found-first : 0 < at
-  found-first = let k = number (place (key a b) (tableOf l u)) found in omega (arith, at-is ∙ ap oneMore (k .1))
+  found-first = let k = number (indexIn (key a b) (tableOf l u)) found in omega (arith, at-is ∙ ap oneMore (k .1))
 
   pub found-once : Counts l u → at ≤ l .sides → eqb (getD u (l .counts + at - 1) 0) 1 ≡ once (trisIn l u) (side a b)
   unfolding once
   found-once counts few =
-      let k = number (place (key a b) (tableOf l u)) found in
+      let k = number (indexIn (key a b) (tableOf l u)) found in
       let z : at ≡ suc (k .0) = at-is ∙ ap oneMore (k .1) in
       let e : l .counts + at - 1 ≡ l .counts + k .0 = omega arith in
       let low : k .0 < l .sides = omega arith in
       let here : getD (tableOf l u) (k .0) (side 0 0) ≡ key a b =
-      place-only (getD (tableOf l u) (k .0) (side 0 0)) (key a b) (tableOf l u) (k .0) (held .numbered (k .0) (omega (arith, length-pairs (loOf (l .table) (l .buckets) u) (hiOf (l .table) (l .buckets) u) (l .sides)))) (k .1) in
+      index-only (getD (tableOf l u) (k .0) (side 0 0)) (key a b) (tableOf l u) (k .0) (held .numbered (k .0) (omega (arith, length-pairs (loOf (l .table) (l .buckets) u) (hiOf (l .table) (l .buckets) u) (l .sides)))) (k .1) in
       rw e (ap (λ (c : ℕ). eqb c 1) (counts (k .0) low ∙ ap (λ (s : Side). times s (listed (trisIn l u))) here))
 
 -- ---- a side's direction

@@ -11,7 +11,7 @@ use Rattle.complex.specs.declared.Complex.{Complex}
 use Rattle.complex.specs.Complex.{czero, cone, cnan}
 use Rattle.linear_cells.specs.Region.{tab, region, put}
 use Rattle.linear_cells.specs.Cell.{getC, setC, regionC, putC}
-use Rattle.mesh.specs.Mesh.{Side, side, key, Tri, tri, isNone, place}
+use Rattle.mesh.specs.Mesh.{Side, side, key, Tri, tri, isNone, indexIn}
 use Rattle.edges.specs.Table.{sidesIn, Held}
 use Rattle.edges.specs.Numbering.{triFrom, trisFrom, occurs, Below, times, listed}
 use Rattle.pass_boundary.specs.declared.Listing.{Listing}
@@ -65,7 +65,7 @@ pub record PlaneRoom (p : Planes) (len : ℕ) : Type 0 where
 -- ---- facts of the data
 
 abbrev pub In : Side → List Side → Type 0
-In s l = isNone (place s l) ≡ false
+In s l = isNone (indexIn s l) ≡ false
 
 -- the three sides of a triangle are among those of a list
 abbrev pub AllIn : Tri → List Side → Type 0

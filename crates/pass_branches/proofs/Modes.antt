@@ -31,7 +31,7 @@ module _ {len : ℕ} (h mass : Hermitian) (l : Vectors) (at : ℕ) (t : Terms) (
   pub solve-room : {len′ : ℕ} → len′ ≡ len → SolverRoom len′ h l × (at + h .size ≤ l .x)
   solve-room e = (rw e (ok .system-room .soft-room .h-room), below)
 
-  pub vector-room : (PencilRoom len mass h l × PlaneRoom (h .size) l o) × (at + h .size ≤ l .x)
+  pub vector-room : (PencilRoom len mass h l × PlanesBelow (h .size) l o) × (at + h .size ≤ l .x)
   vector-room =
       let s = ok .system-room .soft-room in
       ((record { one-size = s .shift-room .one-size; mass-room = s .mass-room; energy-room = s .h-room }, ok .plane-room), below)

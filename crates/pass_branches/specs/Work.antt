@@ -62,7 +62,7 @@ pub record Leaves (w w′ : List Float) (at n : ℕ) (p : Passed) (r : Stage) : 
 -- below the vectors
 pub record BranchRoom (len : ℕ) (h mass : Hermitian) (l : Vectors) (at : ℕ) (t : Terms) (o : Outer) : Type 0 where
   pub system-room : SystemRoom len h mass l t
-  pub plane-room : PlaneRoom (h .size) l o
+  pub plane-room : PlanesBelow (h .size) l o
   pub angles-below : at + h .size ≤ h .diagonal
   pub angles-below-off : at + h .size ≤ h .off
 

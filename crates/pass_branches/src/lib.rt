@@ -136,7 +136,7 @@ fn vector_field(
     from: &[u32],
     to: &[u32],
 ) -> Stage
-    requires { ⌜ (PencilRoom (length (now w)) mass h l × PlaneRoom (h .size) l o) × (angles + h .size ≤ l .x) ⌝ }
+    requires { ⌜ (PencilRoom (length (now w)) mass h l × PlanesBelow (h .size) l o) × (angles + h .size ≤ l .x) ⌝ }
     requires { ⌜ Graphs mass h (now from) (now to) ⌝ }
     ensures { λ r. ⌜ LeavesVector (now (w .entry)) (now (w .exit)) h mass angles (now (from .entry)) (now (to .entry)) o r ⌝ }
 {

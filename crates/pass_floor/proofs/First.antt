@@ -9,13 +9,12 @@ use Rattle.linear_cells.specs.Region.{put}
 use Rattle.linear_cells.proofs.Regions.{length-put, put-within}
 use Rattle.mesh.specs.Mesh.{Side, Tri}
 use Rattle.areas.specs.Points.{midpoints, morePoints, midSizes, moreSizes}
-use Rattle.edges.specs.Table.{pairs}
+use Rattle.edges.specs.Table.{pairs, cutsIn}
 use Rattle.edges.specs.Numbering.{trisFrom, Below}
 use Rattle.refine_floor.specs.Guidance.{midAngles, moreAngles}
 use Rattle.refinement.specs.Floor.{tris, trisOf}
 use Rattle.refinement.proofs.Triangles.{tris-held}
 use Rattle.edges.specs.declared.Table.{Table}
-use Rattle.pass_planes.specs.Planes.{cutsIn}
 use Rattle.pass_refusal.specs.declared.Stage.{Stage}
 use Rattle.pass_layout.specs.Layout.{Fits}
 use Rattle.pass_options.specs.declared.Options.{Options}
@@ -29,7 +28,7 @@ abbrev pub no-cuts : Table
 no-cuts = record { base = 0; buckets = 0; sides = 0 }
 
 none-cut : (u : List ℕ) → cutsIn no-cuts u ≡ []
-unfolding cutsIn pairs
+unfolding pairs
 none-cut u = refl
 
 same-points : (points : List Float) → morePoints points [] ≡ points

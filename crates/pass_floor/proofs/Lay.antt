@@ -18,7 +18,7 @@ use Rattle.refine_floor.specs.Guidance.{midAngleOn, midAngles, moreAngles}
 use Rattle.edges.specs.declared.Table.{Table}
 use Rattle.pass_planes.specs.declared.Mean.{Mean}
 use Rattle.pass_planes.specs.declared.Mean.the-variants.{Half, Angle}
-use Rattle.pass_planes.specs.Planes.{cutsIn, coordinateAt, coordinatePlane, meanOf, meanOn, valuePlane}
+use Rattle.pass_planes.specs.Planes.{coordinateAt, coordinatePlane, meanOf, meanOn, valuePlane}
 use Rattle.pass_planes.proofs.Points.{cuts-length, length-plane}
 use Rattle.floor.specs.Floor.{Floor}
 use Rattle.pass_refusal.specs.declared.Stage.{Stage}
@@ -35,6 +35,7 @@ use Rattle.pass.proofs.Below.{below-regions}
 use Rattle.pass.specs.declared.Asked.{Asked}
 use Rattle.pass.specs.Pass.{passOf}
 use Rattle.pass.specs.Work.{guidanceAt, passIn}
+use Rattle.edges.specs.Table.{cutsIn}
 use Rattle.pass_floor.specs.Lay.{pointsLaid, guidanceLaid, passOver, passAt, LayRoom, GuidanceRoom, LaidRoom, Made}
 
 -- ---- the planes are those of the refined floor

@@ -9,11 +9,11 @@ use Rattle.linear_cells.specs.Region.{region, put}
 use Rattle.mesh.specs.Mesh.{Side, Tri}
 use Rattle.areas.specs.Points.{morePoints, moreSizes}
 use Rattle.edges.specs.declared.Table.{Table}
-use Rattle.edges.specs.Table.{endOf}
+use Rattle.edges.specs.Table.{endOf, cutsIn}
 use Rattle.edges.specs.Numbering.{trisFrom}
 use Rattle.refine_floor.specs.Guidance.{moreAngles}
 use Rattle.pass_planes.specs.declared.Mean.the-variants.{Half, Angle}
-use Rattle.pass_planes.specs.Planes.{cutsIn, coordinatePlane, valuePlane}
+use Rattle.pass_planes.specs.Planes.{coordinatePlane, valuePlane}
 use Rattle.pass_layout.specs.declared.Base.{Base}
 use Rattle.pass_layout.specs.declared.Layout.{Layout}
 use Rattle.pass_layout.specs.Layout.{Fits}

@@ -11,7 +11,7 @@ ghost use mathlib.Core.Path.{_≡_};
 ghost use Prim.Native.Nat.{_*_, _/_};
 ghost use lib.ListN.{length};
 ghost use Rattle.edges.specs.Numbering.{Below};
-ghost use Rattle.pass_planes.specs.Planes.{cutsIn};
+ghost use Rattle.edges.specs.Table.{cutsIn};
 ghost use Rattle.pass_floor.specs.Lay.{pointsLaid, guidanceLaid, passAt, LayRoom, GuidanceRoom, LaidRoom, Made};
 ghost use Rattle.pass_floor.specs.First.{firstBase, firstOver, FirstRoom};
 

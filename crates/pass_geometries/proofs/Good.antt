@@ -15,7 +15,7 @@ use Rattle.floor.proofs.Lowest.{lowest-most, lowest-before}
 use Rattle.geometry.specs.declared.Geometry.{Geometry}
 use Rattle.geometry.specs.declared.Geometry.the-variants.{Triangle, Degenerate}
 use Rattle.geometry.specs.Triangle.{number}
-use Rattle.geometry.proofs.Turn.{three-corners}
+use Rattle.geometry.proofs.Orientation.{three-corners}
 use Rattle.pass_geometries.specs.Geometries.{geometryOn, isDegenerate, cornersOn, cornersOf, firstDegenerate, woundUpTo, Cornered}
 use Rattle.pass_geometries.proofs.Steps.{kept-corners, one-area}
 use Rattle.pass_geometries.proofs.Joined.{joined-length, joined-at}

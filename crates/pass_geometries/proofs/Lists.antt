@@ -13,8 +13,8 @@ use Rattle.runs.proofs.Runs.{sets-before, sets-within}
 use Rattle.floor.proofs.Lowest.{lowest-same}
 use Rattle.geometry.specs.declared.Geometry.{Geometry}
 use Rattle.geometry.specs.declared.Geometry.the-variants.{Triangle, Degenerate}
-use Rattle.pass_geometries.specs.declared.Plan.{Plan}
-use Rattle.pass_geometries.specs.Geometries.{geometryOn, isDegenerate, areaOn, cornersOf, areaOf, firstDegenerate, joined, areasUpTo, woundUpTo, xsIn, ysIn, geometryIn, Cornered, Room, Kept}
+use Rattle.pass_geometries.specs.declared.GeometriesPlan.{GeometriesPlan}
+use Rattle.pass_geometries.specs.Geometries.{geometryOn, isDegenerate, areaOn, cornersOf, areaOf, firstDegenerate, joined, areasUpTo, woundUpTo, xsIn, ysIn, geometryIn, Cornered, GeometriesRoom, Kept}
 use Rattle.pass_geometries.proofs.Steps.{corners-below, kept-cornered, one-area}
 use Rattle.pass_geometries.proofs.Joined.{joined-length, joined-at}
 use Rattle.pass_geometries.proofs.Good.{sound-before, first-most, wound-length, kept-tri}
@@ -47,7 +47,7 @@ one : (g : Geometry) → getD (areaOn g) 0 nan ≡ areaOf g
 one (Triangle g) = refl
 one (Degenerate t) = refl
 
-module _ {p : Plan} {r : ℕ} {w w′ : List Float} {u u′ : List ℕ} (room : Room p (length w) (length u)) (below : Below (p .points) (p .given) u (3 * p .triangles)) (k : Kept p w u w′ u′ r) where
+module _ {p : GeometriesPlan} {r : ℕ} {w w′ : List Float} {u u′ : List ℕ} (room : GeometriesRoom p (length w) (length u)) (below : Below (p .points) (p .given) u (3 * p .triangles)) (k : Kept p w u w′ u′ r) where
   -- what stands before the areas and before the kept corners stays
   pub reals-before : (j : ℕ) → j < p .areas → getD w′ j nan ≡ getD w j nan
   reals-before j h = ap (λ (l : List Float). getD l j nan) (k .areas) ∙ sets-before w (p .areas) (areasUpTo (xsIn p w) (ysIn p w) (triFrom (p .given) u) r) j nan h

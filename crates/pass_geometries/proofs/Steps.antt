@@ -20,8 +20,8 @@ use Rattle.geometry.specs.declared.TriangleGeometry.{TriangleGeometry}
 use Rattle.geometry.specs.declared.Geometry.{Geometry}
 use Rattle.geometry.specs.declared.Geometry.the-variants.{Triangle, Degenerate}
 use Rattle.geometry.specs.Triangle.{geometry, placed, degenerate, turn, areaOf as area, at}
-use Rattle.pass_geometries.specs.declared.Plan.{Plan}
-use Rattle.pass_geometries.specs.Geometries.{geometryOn, isDegenerate, cornersOn, areaOn, cornersOf, firstDegenerate, joined, woundUpTo, areasUpTo, coordsFrom, xsIn, ysIn, geometryIn, Cornered, Room, Looked, Kept}
+use Rattle.pass_geometries.specs.declared.GeometriesPlan.{GeometriesPlan}
+use Rattle.pass_geometries.specs.Geometries.{geometryOn, isDegenerate, cornersOn, areaOn, cornersOf, firstDegenerate, joined, woundUpTo, areasUpTo, coordsFrom, xsIn, ysIn, geometryIn, Cornered, GeometriesRoom, Looked, Kept}
 
 -- ---- one triangle
 
@@ -63,7 +63,7 @@ kept-cornered X Y m t (tri i j k) b h = ⊎-elim (λ e. subst (Cornered m) (sym 
 
 -- ---- the triangle is looked at
 
-module _ (p : Plan) (i : ℕ) (w : List Float) (u : List ℕ) {f : Geometry} (read : f ≡ geometryIn p w u i) where
+module _ (p : GeometriesPlan) (i : ℕ) (w : List Float) (u : List ℕ) {f : Geometry} (read : f ≡ geometryIn p w u i) where
   pub looked-none : (t : ℕ) → f ≡ Degenerate t → Looked p i w u w u false
   looked-none t h =
       let z : geometryIn p w u i ≡ Degenerate t = sym read ∙ h in
@@ -93,14 +93,14 @@ module _ (p : Plan) (i : ℕ) (w : List Float) (u : List ℕ) {f : Geometry} (re
 -- ---- all the triangles
 
 -- the first i triangles have a geometry, and are kept
-pub record To (p : Plan) (i : ℕ) (w₀ : List Float) (u₀ : List ℕ) (w : List Float) (u : List ℕ) : Type 0 where
+pub record To (p : GeometriesPlan) (i : ℕ) (w₀ : List Float) (u₀ : List ℕ) (w : List Float) (u : List ℕ) : Type 0 where
   pub sound : i ≡ firstDegenerate (xsIn p w₀) (ysIn p w₀) (triFrom (p .given) u₀) i
   pub areas : w ≡ sets w₀ (p .areas) (areasUpTo (xsIn p w₀) (ysIn p w₀) (triFrom (p .given) u₀) i)
   pub wound : u ≡ sets u₀ (p .wound) (woundUpTo (xsIn p w₀) (ysIn p w₀) (triFrom (p .given) u₀) i)
   pub many : length (areasUpTo (xsIn p w₀) (ysIn p w₀) (triFrom (p .given) u₀) i) ≡ i
   pub thrice : length (woundUpTo (xsIn p w₀) (ysIn p w₀) (triFrom (p .given) u₀) i) ≡ 3 * i
 
-pub to-none : (p : Plan) (w : List Float) (u : List ℕ) → To p 0 w u w u
+pub to-none : (p : GeometriesPlan) (w : List Float) (u : List ℕ) → To p 0 w u w u
 unfolding areasUpTo woundUpTo joined firstDegenerate
 to-none p w u = record { sound = lowest-none _; areas = refl; wound = refl; many = refl; thrice = refl }
 
@@ -122,11 +122,11 @@ nothing : (g : Geometry) → isDegenerate g ≡ true → (areaOn g ≡ []) × (c
 nothing (Triangle g) h = let z : _≡_ {A = ℕ} (cond false 0 1) (cond true 0 1) = ap (λ (b : Bool). cond b 0 1) h in absurd (omega (arith, z))
 nothing (Degenerate d) h = (refl, refl)
 
-pub to-lengths : {p : Plan} {i : ℕ} {w₀ w : List Float} {u₀ u : List ℕ} → To p i w₀ u₀ w u → (length w ≡ length w₀) × (length u ≡ length u₀)
+pub to-lengths : {p : GeometriesPlan} {i : ℕ} {w₀ w : List Float} {u₀ u : List ℕ} → To p i w₀ u₀ w u → (length w ≡ length w₀) × (length u ≡ length u₀)
 to-lengths {p} {i} {w₀} {w} {u₀} k =
     (ap length (k .areas) ∙ length-sets w₀ (p .areas) (areasUpTo (xsIn p w₀) (ysIn p w₀) (triFrom (p .given) u₀) i), ap length (k .wound) ∙ length-sets u₀ (p .wound) (woundUpTo (xsIn p w₀) (ysIn p w₀) (triFrom (p .given) u₀) i))
 
-module _ {p : Plan} {i : ℕ} {w₀ w : List Float} {u₀ u : List ℕ} (room : Room p (length w₀) (length u₀)) (below : Below (p .points) (p .given) u₀ (3 * p .triangles)) (it : i < p .triangles) (k : To p i w₀ u₀ w u) where
+module _ {p : GeometriesPlan} {i : ℕ} {w₀ w : List Float} {u₀ u : List ℕ} (room : GeometriesRoom p (length w₀) (length u₀)) (below : Below (p .points) (p .given) u₀ (3 * p .triangles)) (it : i < p .triangles) (k : To p i w₀ u₀ w u) where
   -- what is read stands as it did
   coord-same : (b j : ℕ) → b + p .points ≤ p .areas → j < p .points → coordsFrom w b j ≡ coordsFrom w₀ b j
   coord-same b j h g = ap (λ (l : List Float). getD l (b + j) nan) (k .areas) ∙ sets-before w₀ (p .areas) (areasUpTo (xsIn p w₀) (ysIn p w₀) (triFrom (p .given) u₀) i) (b + j) nan (omega arith)
@@ -137,7 +137,7 @@ module _ {p : Plan} {i : ℕ} {w₀ w : List Float} {u₀ u : List ℕ} (room : 
   pub below-now : Below (p .points) (p .given) u (3 * p .triangles)
   below-now j h = rw (corner-same (p .given + j) (omega arith)) (below j (omega arith))
 
-  pub room-now : Room p (length w) (length u)
+  pub room-now : GeometriesRoom p (length w) (length u)
   room-now = rw (to-lengths k .0, to-lengths k .1) room
 
   at-same : (j : ℕ) → j < p .points → at (xsIn p w) (ysIn p w) j ≡ at (xsIn p w₀) (ysIn p w₀) j
@@ -178,9 +178,9 @@ module _ {p : Plan} {i : ℕ} {w₀ w : List Float} {u₀ u : List ℕ} (room : 
         wound = s .corners ∙ ap (sets u (p .wound + 3 * i)) (ap cornersOn same-geometry ∙ nothing G bad .1) ∙ k .wound;
       }
 
-pub kept-done : {p : Plan} {i : ℕ} {w₀ w : List Float} {u₀ u : List ℕ} → i ≡ p .triangles → To p i w₀ u₀ w u → Kept p w₀ u₀ w u i
+pub kept-done : {p : GeometriesPlan} {i : ℕ} {w₀ w : List Float} {u₀ u : List ℕ} → i ≡ p .triangles → To p i w₀ u₀ w u → Kept p w₀ u₀ w u i
 kept-done {p} {i} {w₀} {w} {u₀} {u} e k = record { first = k .sound ∙ ap (firstDegenerate (xsIn p w₀) (ysIn p w₀) (triFrom (p .given) u₀)) e; areas = k .areas; wound = k .wound }
 
-pub kept-lengths : {p : Plan} {r : ℕ} {w₀ w : List Float} {u₀ u : List ℕ} → Kept p w₀ u₀ w u r → (length w ≡ length w₀) × (length u ≡ length u₀)
+pub kept-lengths : {p : GeometriesPlan} {r : ℕ} {w₀ w : List Float} {u₀ u : List ℕ} → Kept p w₀ u₀ w u r → (length w ≡ length w₀) × (length u ≡ length u₀)
 kept-lengths {p} {r} {w₀} {w} {u₀} {u} k =
     (ap length (k .areas) ∙ length-sets w₀ (p .areas) (areasUpTo (xsIn p w₀) (ysIn p w₀) (triFrom (p .given) u₀) r), ap length (k .wound) ∙ length-sets u₀ (p .wound) (woundUpTo (xsIn p w₀) (ysIn p w₀) (triFrom (p .given) u₀) r))

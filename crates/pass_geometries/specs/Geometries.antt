@@ -14,7 +14,7 @@ use Rattle.floor.specs.Checks.{lowest}
 use Rattle.geometry.specs.declared.Geometry.{Geometry}
 use Rattle.geometry.specs.declared.Geometry.the-variants.{Triangle, Degenerate}
 use Rattle.geometry.specs.Triangle.{geometry, at}
-use Rattle.pass_geometries.specs.declared.Plan.{Plan}
+use Rattle.pass_geometries.specs.declared.GeometriesPlan.{GeometriesPlan}
 
 -- the geometry of triangle t, whose corners are i, j and k
 abbrev pub geometryOn : (ℕ → Float) → (ℕ → Float) → Tri → ℕ → Geometry
@@ -64,14 +64,14 @@ areasUpTo X Y ts i = joined (λ j. areaOn (geometryOn X Y (ts j) j)) i
 abbrev pub coordsFrom : List Float → ℕ → ℕ → Float
 coordsFrom w b v = getD w (b + v) nan
 
-abbrev pub xsIn : Plan → List Float → ℕ → Float
+abbrev pub xsIn : GeometriesPlan → List Float → ℕ → Float
 xsIn p w = coordsFrom w (p .x)
 
-abbrev pub ysIn : Plan → List Float → ℕ → Float
+abbrev pub ysIn : GeometriesPlan → List Float → ℕ → Float
 ysIn p w = coordsFrom w (p .y)
 
 -- the geometry of triangle i as given
-abbrev pub geometryIn : Plan → List Float → List ℕ → ℕ → Geometry
+abbrev pub geometryIn : GeometriesPlan → List Float → List ℕ → ℕ → Geometry
 geometryIn p w u i = geometryOn (xsIn p w) (ysIn p w) (triFrom (p .given) u i) i
 
 -- a triangle's corners are among n points
@@ -79,7 +79,7 @@ abbrev pub Cornered : ℕ → Tri → Type 0
 Cornered n (tri a b c) = (a < n) × ((b < n) × (c < n))
 
 -- there is room: the coordinates, then the areas; the corners as given, then those put counter-clockwise
-pub record Room (p : Plan) (reals words : ℕ) : Type 0 where
+pub record GeometriesRoom (p : GeometriesPlan) (reals words : ℕ) : Type 0 where
   pub x-in : p .x + p .points ≤ p .areas
   pub y-in : p .y + p .points ≤ p .areas
   pub areas-in : p .areas + p .triangles ≤ reals
@@ -88,13 +88,13 @@ pub record Room (p : Plan) (reals words : ℕ) : Type 0 where
   pub narrow : p .points ≤ 2 ^ 32
 
 -- triangle i was looked at: b says whether it has a geometry, which is then kept
-pub record Looked (p : Plan) (i : ℕ) (w : List Float) (u : List ℕ) (w′ : List Float) (u′ : List ℕ) (b : Bool) : Type 0 where
+pub record Looked (p : GeometriesPlan) (i : ℕ) (w : List Float) (u : List ℕ) (w′ : List Float) (u′ : List ℕ) (b : Bool) : Type 0 where
   pub sound : b ≡ not (isDegenerate (geometryIn p w u i))
   pub area : w′ ≡ sets w (p .areas + i) (areaOn (geometryIn p w u i))
   pub corners : u′ ≡ sets u (p .wound + 3 * i) (cornersOn (geometryIn p w u i))
 
 -- the triangles before the first degenerate one, r, are kept
-pub record Kept (p : Plan) (w : List Float) (u : List ℕ) (w′ : List Float) (u′ : List ℕ) (r : ℕ) : Type 0 where
+pub record Kept (p : GeometriesPlan) (w : List Float) (u : List ℕ) (w′ : List Float) (u′ : List ℕ) (r : ℕ) : Type 0 where
   pub first : r ≡ firstDegenerate (xsIn p w) (ysIn p w) (triFrom (p .given) u) (p .triangles)
   pub areas : w′ ≡ sets w (p .areas) (areasUpTo (xsIn p w) (ysIn p w) (triFrom (p .given) u) r)
   pub wound : u′ ≡ sets u (p .wound) (woundUpTo (xsIn p w) (ysIn p w) (triFrom (p .given) u) r)

@@ -11,11 +11,11 @@ ghost use lib.Seq.{sets};
 ghost use Rattle.edges.specs.Numbering.{Below};
 ghost use Rattle.mesh.specs.Mesh.{tri};
 ghost use Rattle.geometry.specs.Triangle.{at};
-ghost use Rattle.pass_geometries.specs.Geometries.{geometryOn, coordsFrom, xsIn, ysIn, geometryIn, Cornered, Room, Looked, Kept};
+ghost use Rattle.pass_geometries.specs.Geometries.{geometryOn, coordsFrom, xsIn, ysIn, geometryIn, Cornered, GeometriesRoom, Looked, Kept};
 
 // How many points and triangles there are, and where: in the f64 work the coordinates, and the areas that are kept; in the u32 work the corners as
 // given, and those that are kept.
-pub struct Plan {
+pub struct GeometriesPlan {
     pub points: usize,
     pub triangles: usize,
     pub x: usize,
@@ -37,7 +37,7 @@ pub fn position(work: &[f64], x: usize, y: usize, v: usize) -> Pair
 }
 
 // Triangle t, of the corners i, j and k.
-fn geometry_of(work: &[f64], p: Plan, i: usize, j: usize, k: usize, t: usize) -> Geometry
+fn geometry_of(work: &[f64], p: GeometriesPlan, i: usize, j: usize, k: usize, t: usize) -> Geometry
     requires { ⌜ (p .x + p .points ≤ length (now work)) × (p .y + p .points ≤ length (now work)) ⌝ }
     requires { ⌜ Cornered (p .points) (tri i j k) ⌝ }
     ensures { λ r. ⌜ r ≡ geometryOn (xsIn p (now (work .entry))) (ysIn p (now (work .entry))) (tri i j k) t ⌝ }
@@ -49,8 +49,8 @@ fn geometry_of(work: &[f64], p: Plan, i: usize, j: usize, k: usize, t: usize) ->
 }
 
 // Triangle t as given.
-fn geometry_at(work: &[f64], words: &[u32], p: Plan, t: usize) -> Geometry
-    requires { ⌜ Room p (length (now work)) (length (now words)) × (t < p .triangles) ⌝ }
+fn geometry_at(work: &[f64], words: &[u32], p: GeometriesPlan, t: usize) -> Geometry
+    requires { ⌜ GeometriesRoom p (length (now work)) (length (now words)) × (t < p .triangles) ⌝ }
     requires { ⌜ Below (p .points) (p .given) (now words) (3 * p .triangles) ⌝ }
     ensures { λ r. ⌜ r ≡ geometryIn p (now (work .entry)) (now (words .entry)) t ⌝ }
 {
@@ -62,8 +62,8 @@ fn geometry_at(work: &[f64], words: &[u32], p: Plan, t: usize) -> Geometry
 }
 
 // Keeps the area and the corners of triangle t.
-fn keep(work: &mut [f64], words: &mut [u32], p: Plan, t: usize, g: TriangleGeometry)
-    requires { ⌜ Room p (length (now work)) (length (now words)) × (t < p .triangles) ⌝ }
+fn keep(work: &mut [f64], words: &mut [u32], p: GeometriesPlan, t: usize, g: TriangleGeometry)
+    requires { ⌜ GeometriesRoom p (length (now work)) (length (now words)) × (t < p .triangles) ⌝ }
     requires { ⌜ Cornered (2 ^ 32) (tri (g .i) (g .j) (g .k)) ⌝ }
     ensures { λ _. ⌜ now (work .exit) ≡ sets (now (work .entry)) (p .areas + t) (g .area ∷ []) ⌝ }
     ensures { λ _. ⌜ now (words .exit) ≡ sets (now (words .entry)) (p .wound + 3 * t) (g .i ∷ g .j ∷ g .k ∷ []) ⌝ }
@@ -73,8 +73,8 @@ fn keep(work: &mut [f64], words: &mut [u32], p: Plan, t: usize, g: TriangleGeome
 }
 
 // Looks at triangle t: whether it has a geometry, which is then kept.
-fn look(work: &mut [f64], words: &mut [u32], p: Plan, t: usize) -> bool
-    requires { ⌜ Room p (length (now work)) (length (now words)) × (t < p .triangles) ⌝ }
+fn look(work: &mut [f64], words: &mut [u32], p: GeometriesPlan, t: usize) -> bool
+    requires { ⌜ GeometriesRoom p (length (now work)) (length (now words)) × (t < p .triangles) ⌝ }
     requires { ⌜ Below (p .points) (p .given) (now words) (3 * p .triangles) ⌝ }
     ensures { λ b. ⌜ Looked p t (now (work .entry)) (now (words .entry)) (now (work .exit)) (now (words .exit)) b ⌝ }
 {
@@ -87,8 +87,8 @@ fn look(work: &mut [f64], words: &mut [u32], p: Plan, t: usize) -> bool
 }
 
 // Keeps the geometry of the triangles before the first degenerate one, and answers that one's number, or how many there are where there is none.
-pub fn geometries(work: &mut [f64], words: &mut [u32], p: Plan) -> usize
-    requires { ⌜ Room p (length (now work)) (length (now words)) ⌝ }
+pub fn geometries(work: &mut [f64], words: &mut [u32], p: GeometriesPlan) -> usize
+    requires { ⌜ GeometriesRoom p (length (now work)) (length (now words)) ⌝ }
     requires { ⌜ Below (p .points) (p .given) (now words) (3 * p .triangles) ⌝ }
     ensures { λ r. ⌜ Kept p (now (work .entry)) (now (words .entry)) (now (work .exit)) (now (words .exit)) r ⌝ }
 {

@@ -22,11 +22,11 @@ use Rattle.linear_cells.proofs.Regions.{length-put, put-within, put-else}
 use Rattle.edges.specs.Numbering.{triFrom, Below}
 use Rattle.pass_geometries.specs.Geometries.{coordsFrom, Cornered}
 use Rattle.pass_geometries.proofs.Steps.{corners-below}
-use Rattle.pass_gradients.specs.declared.Plan.{Plan}
-use Rattle.pass_gradients.specs.Gradients.{gradientOn, addCorner, addTri, sumTo, weighedX, weighedY, Room, gradientIn, partX, partY, addAt, addThree, addTriangle, GatheredTriangle, GatheredTo}
+use Rattle.pass_gradients.specs.declared.GradientsPlan.{GradientsPlan}
+use Rattle.pass_gradients.specs.Gradients.{gradientOn, addCorner, addTri, sumTo, weighedX, weighedY, GradientsRoom, gradientIn, partX, partY, addAt, addThree, addTriangle, GatheredTriangle, GatheredTo}
 
 -- a triangle whose corners and gradient were read
-pub added : (p : Plan) (t : ℕ) (u : List ℕ) (w : List Float) (a : Float) {w′ : List Float} {i j k : ℕ} {d : Pair} → i ≡ getD u (p .wound + 3 * t) 0 → j ≡ getD u (p .wound + 3 * t + 1) 0 → k ≡ getD u (p .wound + 3 * t + 2) 0
+pub added : (p : GradientsPlan) (t : ℕ) (u : List ℕ) (w : List Float) (a : Float) {w′ : List Float} {i j k : ℕ} {d : Pair} → i ≡ getD u (p .wound + 3 * t) 0 → j ≡ getD u (p .wound + 3 * t + 1) 0 → k ≡ getD u (p .wound + 3 * t + 2) 0
     → a ≡ coordsFrom w (p .areas) t → d ≡ gradientIn p w (tri i j k) a → w′ ≡ addTriangle (p .gradients) (p .points) (tri i j k) (a ⊗ d .x) (a ⊗ d .y) a w → GatheredTriangle p t u w w′
 added p t u w a e f g l h q = q ∙ rw (h, ← e, ← f, ← g, ← l)
 
@@ -54,7 +54,7 @@ sum-same ts ts′ f f′ v zero p q = refl
 sum-same ts ts′ f f′ v (suc t) p q = rw (sum-same ts ts′ f f′ v t (λ i h. p i (omega arith)) (λ i h. q i (omega arith)), p t (omega arith), q t (omega arith))
 
 -- a slice that is the same before the sums
-module _ (p : Plan) (u : List ℕ) (w w′ : List Float) {reals : ℕ} (room : Room p reals (length u)) (below : Below (p .points) (p .wound) u (3 * p .triangles)) (same : (j : ℕ) → j < p .gradients → getD w′ j nan ≡ getD w j nan) where
+module _ (p : GradientsPlan) (u : List ℕ) (w w′ : List Float) {reals : ℕ} (room : GradientsRoom p reals (length u)) (below : Below (p .points) (p .wound) u (3 * p .triangles)) (same : (j : ℕ) → j < p .gradients → getD w′ j nan ≡ getD w j nan) where
   plane : (b n : ℕ) → b + n ≤ p .gradients → (v : ℕ) → v < n → coordsFrom w′ b v ≡ coordsFrom w b v
   plane b n h v g = same (b + v) (omega arith)
 
@@ -176,7 +176,7 @@ module _ (g n : ℕ) (i j k : ℕ) (x y a : Float) (w : List Float) (hi : i < n)
 
 -- ---- all the triangles
 
-pub gathered-more : {p : Plan} {t : ℕ} {u : List ℕ} {w₀ w w′ : List Float} → Room p (length w₀) (length u) → Below (p .points) (p .wound) u (3 * p .triangles) → t < p .triangles → GatheredTo p t u w₀ w → GatheredTriangle p t u w w′
+pub gathered-more : {p : GradientsPlan} {t : ℕ} {u : List ℕ} {w₀ w w′ : List Float} → GradientsRoom p (length w₀) (length u) → Below (p .points) (p .wound) u (3 * p .triangles) → t < p .triangles → GatheredTo p t u w₀ w → GatheredTriangle p t u w w′
     → GatheredTo p (t + 1) u w₀ w′
 unfolding sumTo
 gathered-more {p} {t} {u} {w₀} {w} {w′} room below h k e =
@@ -226,7 +226,7 @@ gathered-more {p} {t} {u} {w₀} {w} {w′} room below h k e =
 
 -- ---- over sums of 0
 
-module _ (p : Plan) (u : List ℕ) (w : List Float) {w₁ : List Float} (room : Room p (length w) (length u)) (filled : w₁ ≡ put w (p .gradients) (replicate (3 * p .points) (lit 0))) where
+module _ (p : GradientsPlan) (u : List ℕ) (w : List Float) {w₁ : List Float} (room : GradientsRoom p (length w) (length u)) (filled : w₁ ≡ put w (p .gradients) (replicate (3 * p .points) (lit 0))) where
   zero-at : (j : ℕ) → j < 3 * p .points → getD w₁ (p .gradients + j) nan ≡ lit 0
   zero-at j h =
       ap (λ (l : List Float). getD l (p .gradients + j) nan) filled

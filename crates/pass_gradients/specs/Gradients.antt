@@ -18,7 +18,7 @@ use Rattle.floor.specs.declared.Check.the-variants.{Sound, Refused}
 use Rattle.floor.specs.Checks.{lowest, rowAt}
 use Rattle.geometry.specs.Triangle.{gradient, at}
 use Rattle.pass_geometries.specs.Geometries.{coordsFrom}
-use Rattle.pass_gradients.specs.declared.Plan.{Plan}
+use Rattle.pass_gradients.specs.declared.GradientsPlan.{GradientsPlan}
 
 -- the gradient of the sizes over a triangle of the area a
 abbrev pub gradientOn : (ℕ → Float) → (ℕ → Float) → (ℕ → Float) → Tri → Float → Pair
@@ -67,7 +67,7 @@ checkMeans X Y W n = cond (ltb (firstRefused X Y W n) n) (Refused (rowAt (rowOfP
 -- ---- in the work slices
 
 -- there is room: coordinates, sizes and areas before the sums, three for each point; corners
-pub record Room (p : Plan) (reals words : ℕ) : Type 0 where
+pub record GradientsRoom (p : GradientsPlan) (reals words : ℕ) : Type 0 where
   pub x-in : p .x + p .points ≤ p .gradients
   pub y-in : p .y + p .points ≤ p .gradients
   pub sizes-in : p .sizes + p .points ≤ p .gradients
@@ -76,13 +76,13 @@ pub record Room (p : Plan) (reals words : ℕ) : Type 0 where
   pub wound-in : p .wound + 3 * p .triangles ≤ words
 
 -- the gradient over a triangle, and what triangle t adds at its corners, of what stands there
-abbrev pub gradientIn : Plan → List Float → Tri → Float → Pair
+abbrev pub gradientIn : GradientsPlan → List Float → Tri → Float → Pair
 gradientIn p w s a = gradientOn (coordsFrom w (p .x)) (coordsFrom w (p .y)) (coordsFrom w (p .sizes)) s a
 
-abbrev pub partX : Plan → List Float → List ℕ → ℕ → Float
+abbrev pub partX : GradientsPlan → List Float → List ℕ → ℕ → Float
 partX p w u = weighedX (coordsFrom w (p .x)) (coordsFrom w (p .y)) (coordsFrom w (p .sizes)) (triFrom (p .wound) u) (coordsFrom w (p .areas))
 
-abbrev pub partY : Plan → List Float → List ℕ → ℕ → Float
+abbrev pub partY : GradientsPlan → List Float → List ℕ → ℕ → Float
 partY p w u = weighedY (coordsFrom w (p .x)) (coordsFrom w (p .y)) (coordsFrom w (p .sizes)) (triFrom (p .wound) u) (coordsFrom w (p .areas))
 
 -- the sums and the weights of n points, which stand from g on: n first parts, then n second parts, then n weights
@@ -106,11 +106,11 @@ abbrev pub addTriangle : ℕ → ℕ → Tri → Float → Float → Float → L
 addTriangle g n (tri i j k) x y a w = addThree g n k x y a (addThree g n j x y a (addThree g n i x y a w))
 
 -- triangle t was added
-abbrev pub GatheredTriangle : Plan → ℕ → List ℕ → List Float → List Float → Type 0
+abbrev pub GatheredTriangle : GradientsPlan → ℕ → List ℕ → List Float → List Float → Type 0
 GatheredTriangle p t u w w′ = w′ ≡ addTriangle (p .gradients) (p .points) (triFrom (p .wound) u t) (partX p w u t) (partY p w u t) (coordsFrom w (p .areas) t) w
 
 -- the sums of the first t triangles stand there; all else is as it was
-pub record GatheredTo (p : Plan) (t : ℕ) (u : List ℕ) (w w′ : List Float) : Type 0 where
+pub record GatheredTo (p : GradientsPlan) (t : ℕ) (u : List ℕ) (w w′ : List Float) : Type 0 where
   pub same-length : length w′ ≡ length w
   pub sums-x : (v : ℕ) → v < p .points → sumsX (p .gradients) (p .points) w′ v ≡ sumTo (triFrom (p .wound) u) (partX p w u) v t
   pub sums-y : (v : ℕ) → v < p .points → sumsY (p .gradients) (p .points) w′ v ≡ sumTo (triFrom (p .wound) u) (partY p w u) v t

@@ -7,11 +7,11 @@ ghost use lib.ListN.{length};
 ghost use Rattle.mesh.specs.Mesh.{tri};
 ghost use Rattle.edges.specs.Numbering.{Below};
 ghost use Rattle.pass_geometries.specs.Geometries.{Cornered};
-ghost use Rattle.pass_gradients.specs.Gradients.{gradientIn, Room, addAt, addThree, addTriangle, GatheredTriangle, GatheredTo, notFinite, rowOf, divideAt, DividedPoint, Divided};
+ghost use Rattle.pass_gradients.specs.Gradients.{gradientIn, GradientsRoom, addAt, addThree, addTriangle, GatheredTriangle, GatheredTo, notFinite, rowOf, divideAt, DividedPoint, Divided};
 
 // How many points and triangles there are, and where: in the f64 work the points' coordinates and sizes and the triangles' areas, and the sums, n first
 // parts, then n second parts, then n weights; in the u32 work the corners, counter-clockwise.
-pub struct Plan {
+pub struct GradientsPlan {
     pub points: usize,
     pub triangles: usize,
     pub x: usize,
@@ -40,7 +40,16 @@ fn add_three(work: &mut [f64], sums: usize, n: usize, v: usize, x: f64, y: f64, 
 }
 
 // Adds to the sums of the three corners i, j and k.
-fn add_triangle(work: &mut [f64], p: Plan, i: usize, j: usize, k: usize, x: f64, y: f64, a: f64)
+fn add_triangle(
+    work: &mut [f64],
+    p: GradientsPlan,
+    i: usize,
+    j: usize,
+    k: usize,
+    x: f64,
+    y: f64,
+    a: f64,
+)
     requires { ⌜ Cornered (p .points) (tri i j k) × (p .gradients + 3 * p .points ≤ length (now work)) ⌝ }
     ensures { λ _. ⌜ now (work .exit) ≡ addTriangle (p .gradients) (p .points) (tri i j k) x y a (now (work .entry)) ⌝ }
 {
@@ -50,7 +59,7 @@ fn add_triangle(work: &mut [f64], p: Plan, i: usize, j: usize, k: usize, x: f64,
 }
 
 // The gradient of the sizes over the triangle i j k of the area a.
-fn gradient_of(work: &[f64], p: Plan, i: usize, j: usize, k: usize, a: f64) -> Pair
+fn gradient_of(work: &[f64], p: GradientsPlan, i: usize, j: usize, k: usize, a: f64) -> Pair
     requires { ⌜ (p .x + p .points ≤ length (now work)) × (p .y + p .points ≤ length (now work)) × (p .sizes + p .points ≤ length (now work)) ⌝ }
     requires { ⌜ Cornered (p .points) (tri i j k) ⌝ }
     ensures { λ r. ⌜ r ≡ gradientIn p (now (work .entry)) (tri i j k) a ⌝ }
@@ -63,8 +72,8 @@ fn gradient_of(work: &[f64], p: Plan, i: usize, j: usize, k: usize, a: f64) -> P
 }
 
 // Adds triangle t's gradient, weighed by its area, at its corners.
-fn gather_triangle(work: &mut [f64], words: &[u32], p: Plan, t: usize)
-    requires { ⌜ Room p (length (now work)) (length (now words)) × (t < p .triangles) ⌝ }
+fn gather_triangle(work: &mut [f64], words: &[u32], p: GradientsPlan, t: usize)
+    requires { ⌜ GradientsRoom p (length (now work)) (length (now words)) × (t < p .triangles) ⌝ }
     requires { ⌜ Below (p .points) (p .wound) (now words) (3 * p .triangles) ⌝ }
     ensures { λ _. ⌜ GatheredTriangle p t (now (words .entry)) (now (work .entry)) (now (work .exit)) ⌝ }
 {
@@ -78,8 +87,8 @@ fn gather_triangle(work: &mut [f64], words: &[u32], p: Plan, t: usize)
 }
 
 // Gathers all triangles, over sums of 0.
-fn gather_all(work: &mut [f64], words: &[u32], p: Plan)
-    requires { ⌜ Room p (length (now work)) (length (now words)) ⌝ }
+fn gather_all(work: &mut [f64], words: &[u32], p: GradientsPlan)
+    requires { ⌜ GradientsRoom p (length (now work)) (length (now words)) ⌝ }
     requires { ⌜ Below (p .points) (p .wound) (now words) (3 * p .triangles) × GatheredTo p 0 (now words) (now work) (now work) ⌝ }
     ensures { λ _. ⌜ GatheredTo p (p .triangles) (now (words .entry)) (now (work .entry)) (now (work .exit)) ⌝ }
 {
@@ -91,8 +100,8 @@ fn gather_all(work: &mut [f64], words: &[u32], p: Plan)
 }
 
 // Gathers the gradients and areas of the triangles at their corners.
-pub fn gather(work: &mut [f64], words: &[u32], p: Plan)
-    requires { ⌜ Room p (length (now work)) (length (now words)) ⌝ }
+pub fn gather(work: &mut [f64], words: &[u32], p: GradientsPlan)
+    requires { ⌜ GradientsRoom p (length (now work)) (length (now words)) ⌝ }
     requires { ⌜ Below (p .points) (p .wound) (now words) (3 * p .triangles) ⌝ }
     ensures { λ _. ⌜ GatheredTo p (p .triangles) (now (words .entry)) (now (work .entry)) (now (work .exit)) ⌝ }
 {

@@ -36,7 +36,7 @@ pub record PencilRoom (len : ℕ) (mass energy : Hermitian) (l : Vectors) : Type
   pub energy-room : SolverRoom len energy l
 
 -- the coordinates do too
-pub record PlaneRoom (n : ℕ) (l : Vectors) (o : Outer) : Type 0 where
+pub record PlanesBelow (n : ℕ) (l : Vectors) (o : Outer) : Type 0 where
   pub x-below : o .x + n ≤ l .x
   pub y-below : o .y + n ≤ l .x
 

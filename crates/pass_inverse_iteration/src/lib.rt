@@ -7,7 +7,7 @@ ghost use lib.ListN.{length};
 ghost use Rattle.linear_conjugate_gradient.specs.Work.{SolverRoom, VectorRoom};
 ghost use Rattle.linear_hermitian.specs.Work.{Graph};
 ghost use Rattle.pass_inverse_iteration.specs.Inverse.{averageOf};
-ghost use Rattle.pass_inverse_iteration.specs.Work.{PencilRoom, PlaneRoom, Graphs};
+ghost use Rattle.pass_inverse_iteration.specs.Work.{PencilRoom, PlanesBelow, Graphs};
 ghost use Rattle.pass_inverse_iteration.specs.Work.{Quotients, Relative, Judges, TakesNext, IteratesOnce, Iterates, Starts, Inverts};
 
 const OUTER_TOLERANCE: f64 = 1e-8;
@@ -162,7 +162,7 @@ fn iterate(
 
 // The start vector, normalised.
 fn begin(work: &mut [f64], mass: Hermitian, l: Vectors, from: &[u32], to: &[u32], o: Outer) -> Stage
-    requires { ⌜ SolverRoom (length (now work)) mass l × PlaneRoom (mass .size) l o ⌝ }
+    requires { ⌜ SolverRoom (length (now work)) mass l × PlanesBelow (mass .size) l o ⌝ }
     requires { ⌜ Graph mass (now from) (now to) ⌝ }
     ensures { λ r. ⌜ Starts (now (work .entry)) (now (work .exit)) mass l (now (from .entry)) (now (to .entry)) o r ⌝ }
 {
@@ -186,7 +186,7 @@ pub fn inverse_iteration(
     to: &[u32],
     o: Outer,
 ) -> Stage
-    requires { ⌜ PencilRoom (length (now work)) mass energy l × PlaneRoom (energy .size) l o ⌝ }
+    requires { ⌜ PencilRoom (length (now work)) mass energy l × PlanesBelow (energy .size) l o ⌝ }
     requires { ⌜ Graphs mass energy (now from) (now to) ⌝ }
     ensures { λ r. ⌜ Inverts (now (work .entry)) (now (work .exit)) mass energy l (now (from .entry)) (now (to .entry)) o r ⌝ }
 {

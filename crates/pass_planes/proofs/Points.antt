@@ -12,9 +12,9 @@ use Rattle.mesh.specs.Mesh.{Side, side}
 use Rattle.areas.specs.Area.{halfway}
 use Rattle.areas.specs.Points.{midpoint, midpoints, morePoints}
 use Rattle.edges.specs.declared.Table.{Table}
-use Rattle.edges.specs.Table.{loOf, hiOf}
+use Rattle.edges.specs.Table.{loOf, hiOf, cutsIn}
 use Rattle.edges.proofs.Tree.{length-pairs, pair-at}
-use Rattle.pass_planes.specs.Planes.{cutsIn, midwayAt, coordinateAt, coordinatePlane, meanOn, cutAt, valuePlane}
+use Rattle.pass_planes.specs.Planes.{midwayAt, coordinateAt, coordinatePlane, meanOn, cutAt, valuePlane}
 use Rattle.pass_planes.specs.declared.Mean.{Mean}
 
 mids-at : (pts : List Float) (l : List Side) (j k : ℕ) → k < 3 → j < length l → getD (midpoints pts l) (3 * j + k) nan ≡ getD (midpoint pts (getD l j (side 0 0))) k nan
@@ -26,7 +26,6 @@ mids-at pts (s ∷ l) (suc j) k b h =
     rw e (getD-append-add (midpoint pts s) (midpoints pts l) (3 * j + k) nan ∙ mids-at pts l j k b (omega arith))
 
 pub cuts-length : (t : Table) (u : List ℕ) → length (cutsIn t u) ≡ t .sides
-unfolding cutsIn
 cuts-length t u = length-pairs (loOf (t .base) (t .buckets) u) (hiOf (t .base) (t .buckets) u) (t .sides)
 
 -- an old point
@@ -56,7 +55,7 @@ new-coordinate pts t u k v b whole h g =
     ∙ midpoint-at pts (getD (cutsIn t u) j (side 0 0)) (loOf (t .base) (t .buckets) u j) (hiOf (t .base) (t .buckets) u j) k b (at j (omega arith)))
   where
     at : (j : ℕ) → j < t .sides → getD (cutsIn t u) j (side 0 0) ≡ side (loOf (t .base) (t .buckets) u j) (hiOf (t .base) (t .buckets) u j)
-    at j h = unfold cutsIn in pair-at (loOf (t .base) (t .buckets) u) (hiOf (t .base) (t .buckets) u) (t .sides) j h
+    at j h = pair-at (loOf (t .base) (t .buckets) u) (hiOf (t .base) (t .buckets) u) (t .sides) j h
 
 -- ---- the loop
 
@@ -68,7 +67,6 @@ plane-done w at pts t u k e = e ∙ rw (cuts-length t u)
 -- ---- one value for each point
 
 pub cut-at : (t : Table) (u : List ℕ) (j : ℕ) → j < t .sides → getD (cutsIn t u) j (side 0 0) ≡ cutAt t u j
-unfolding cutsIn
 cut-at t u j h = pair-at (loOf (t .base) (t .buckets) u) (hiOf (t .base) (t .buckets) u) (t .sides) j h
 
 map-at : (f : Side → Float) (l : List Side) (j : ℕ) → j < length l → getD (map f l) j nan ≡ f (getD l j (side 0 0))

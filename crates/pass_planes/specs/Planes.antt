@@ -9,14 +9,10 @@ use Rattle.mesh.specs.Mesh.{Side, side}
 use Rattle.areas.specs.Area.{halfway}
 use Rattle.areas.specs.Points.{morePoints}
 use Rattle.edges.specs.declared.Table.{Table}
-use Rattle.edges.specs.Table.{sidesIn, loOf, hiOf, endOf}
+use Rattle.edges.specs.Table.{loOf, hiOf, endOf}
 use Rattle.guidance.specs.Guidance.{midAngle}
 use Rattle.pass_planes.specs.declared.Mean.{Mean}
 use Rattle.pass_planes.specs.declared.Mean.the-variants.{Half, Angle}
-
--- the cut sides, in a table
-unfoldable pub cutsIn : Table → List ℕ → List Side
-cutsIn t u = sidesIn (t .base) (t .buckets) u (t .sides)
 
 -- x of the midpoint of cut side j where k is 0, and y where it is 1
 unfoldable pub midwayAt : List Float → Table → List ℕ → ℕ → ℕ → Float
@@ -52,7 +48,7 @@ pub record PointsIn (points : ℕ) (t : Table) (k numbers : ℕ) : Type 0 where
   pub x-or-y : k < 2
   pub table-in : endOf t ≤ numbers
 
-pub record PlaneRoom (points : ℕ) (t : Table) (k numbers at work : ℕ) : Type 0 where
+pub record CoordinateRoom (points : ℕ) (t : Table) (k numbers at work : ℕ) : Type 0 where
   pub points-in : PointsIn points t k numbers
   pub plane-in : at + (points / 3 + t .sides) ≤ work
 

@@ -6,8 +6,8 @@ ghost use Prim.Native.Nat.{_+_, _*_, _/_, _<_, _≤_};
 ghost use lib.ListN.{length, getD, set};
 ghost use lib.Ieee.{nan};
 ghost use Rattle.linear_cells.specs.Region.{put};
-ghost use Rattle.edges.specs.Table.{endOf};
-ghost use Rattle.pass_planes.specs.Planes.{cutsIn, midwayAt, coordinateAt, coordinatePlane, PointsIn, PlaneRoom};
+ghost use Rattle.edges.specs.Table.{endOf, cutsIn};
+ghost use Rattle.pass_planes.specs.Planes.{midwayAt, coordinateAt, coordinatePlane, PointsIn, CoordinateRoom};
 ghost use Rattle.pass_planes.specs.Planes.{cutAt, meanOf, meanOn, valuePlane, ValueRoom};
 
 // x of point v as given where k is 0, and y where it is 1.
@@ -42,7 +42,7 @@ fn coordinate(points: &[f64], numbers: &[u32], table: Table, k: usize, v: usize)
     midway(points, numbers, table, k, v - n)
 }
 
-fn coordinate_turn(
+fn coordinate_step(
     points: &[f64],
     numbers: &[u32],
     table: Table,
@@ -51,7 +51,7 @@ fn coordinate_turn(
     at: usize,
     v: usize,
 )
-    requires { ⌜ PlaneRoom (length (now points)) table k (length (now numbers)) at (length (now work)) × (v < length (now points) / 3 + table .sides) ⌝ }
+    requires { ⌜ CoordinateRoom (length (now points)) table k (length (now numbers)) at (length (now work)) × (v < length (now points) / 3 + table .sides) ⌝ }
     ensures { λ _. ⌜ now (work .exit) ≡ set (now (work .entry)) (at + v) (coordinateAt (now (points .entry)) (cutsIn table (now (numbers .entry))) k v) ⌝ }
 {
     let x = coordinate(points, numbers, table, k, v);
@@ -67,12 +67,12 @@ pub fn put_plane(
     work: &mut [f64],
     at: usize,
 )
-    requires { ⌜ PlaneRoom (length (now points)) table k (length (now numbers)) at (length (now work)) ⌝ }
+    requires { ⌜ CoordinateRoom (length (now points)) table k (length (now numbers)) at (length (now work)) ⌝ }
     ensures { λ _. ⌜ now (work .exit) ≡ put (now (work .entry)) at (coordinatePlane (now (points .entry)) (cutsIn table (now (numbers .entry))) k) ⌝ }
 {
     let count = points.len() / 3 + table.sides;
     for v in 0..count {
-        coordinate_turn(points, numbers, table, k, work, at, v);
+        coordinate_step(points, numbers, table, k, work, at, v);
     }
 }
 
@@ -114,7 +114,7 @@ fn value(values: &[f64], numbers: &[u32], table: Table, kind: Mean, v: usize) ->
     mean_on(values, numbers, table, kind, v - n)
 }
 
-fn value_turn(
+fn value_step(
     values: &[f64],
     numbers: &[u32],
     table: Table,
@@ -144,7 +144,7 @@ pub fn put_values(
 {
     let count = values.len() + table.sides;
     for v in 0..count {
-        value_turn(values, numbers, table, kind, work, at, v);
+        value_step(values, numbers, table, kind, work, at, v);
     }
 }
 

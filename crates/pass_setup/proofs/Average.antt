@@ -30,11 +30,11 @@ use Rattle.pass_refusal.specs.Refusal.{row}
 use Rattle.pass_setup.specs.declared.Setup.{Setup}
 use Rattle.pass_setup.specs.declared.Setup.the-variants.{Refused}
 use Rattle.pass_setup.specs.Setup.{woundOf, areasOf, sumX, sumY, weightOf, meansOf, gradientsX, gradientsY, setupOf}
-use Rattle.pass_setup.specs.Work.{gradientsAt, Turned, Averaged, SetUp}
+use Rattle.pass_setup.specs.Work.{gradientsAt, Wound, Averaged, SetUp}
 use Rattle.pass_setup.proofs.Slices.{value-at, points-of, triangles-of, all-x, all-y, all-sizes, Stays, refused-by}
 
-module _ (l : Layout) (w : List Float) (u : List ℕ) (f : Floor) (o : Ordered l (length w) (length u)) (t : Turned l f w u) where
-  pub room : gradients.Room (gradientsAt l) (length w) (length u)
+module _ (l : Layout) (w : List Float) (u : List ℕ) (f : Floor) (o : Ordered l (length w) (length u)) (t : Wound l f w u) where
+  pub room : gradients.GradientsRoom (gradientsAt l) (length w) (length u)
   room = record { x-in = omega arith; y-in = omega arith; sizes-in = omega arith; areas-in = omega arith; sums-in = omega arith; wound-in = omega arith }
 
   n-of : pointsOf f ≡ l .points
@@ -135,7 +135,7 @@ module _ (l : Layout) (w : List Float) (u : List ℕ) (f : Floor) (o : Ordered l
       }
 
 -- rows 20 and 21
-module _ (l : Layout) (w : List Float) (u : List ℕ) (o : Ordered l (length w) (length u)) (t : Turned l (floorIn l w u) w u) {w₁ w₂ : List Float}
+module _ (l : Layout) (w : List Float) (u : List ℕ) (o : Ordered l (length w) (length u)) (t : Wound l (floorIn l w u) w u) {w₁ w₂ : List Float}
     (g : GatheredTo (gradientsAt l) (l .triangles) u w w₁) {c : Check} (d : Divided (l .gradients) (l .points) w₁ w₂ c) where
   pub row-20 : (x : Found) → c ≡ check.Refused x → {s : Setup} → s ≡ Refused (row (x .number) (x .place)) → SetUp l w u w₂ u s
   row-20 x e q = refused-by (row (x .number) (x .place)) (stays l w u (floorIn l w u) o t g d) q told

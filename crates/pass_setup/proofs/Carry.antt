@@ -29,7 +29,7 @@ use Rattle.pass_refusal.specs.Refusal.{between}
 use Rattle.pass_setup.specs.declared.Setup.{Setup}
 use Rattle.pass_setup.specs.declared.Setup.the-variants.{Edges, Refused}
 use Rattle.pass_setup.specs.Setup.{degenerateOf, edgesOf, lowersOf, uppersOf, pointsIn, transportsOf, meansOf, afterTransports, setupOf}
-use Rattle.pass_setup.specs.Work.{transportsAt, Turned, Joined, Stands, SetUp}
+use Rattle.pass_setup.specs.Work.{transportsAt, Wound, Joined, Stands, SetUp}
 use Rattle.pass_setup.proofs.Slices.{all-x, all-y, all-sizes, Stays, refused-by}
 
 -- the answer of a floor that rows 19 to 21 let pass
@@ -38,7 +38,7 @@ unfolding setupOf
 rest f none sound e = rw (none, le-ltb (trianglesOf f) (trianglesOf f) (omega arith), sound, e)
 
 module _ {l : Layout} {m : ℕ} {w : List Float} {u : List ℕ} (o : Ordered l (length w) (length u)) (j : Joined l m (floorIn l w u) w u) where
-  t : Turned l (floorIn l w u) w u
+  t : Wound l (floorIn l w u) w u
   t = j .averaged .turned
 
   graph : Graph (massAt l m) (lowersOf (floorIn l w u)) (uppersOf (floorIn l w u))
@@ -59,7 +59,7 @@ module _ {l : Layout} {m : ℕ} {w : List Float} {u : List ℕ} (o : Ordered l (
   part-to = let e : l .to + m - l .to ≡ m = omega arith in ap (λ (k : ℕ). take k (drop (l .to) u)) e ∙ part-region 0 u (l .to) m (omega (arith, j .edged .few)) ∙ j .uppers
 
   -- what `transports` requires
-  pub room : {from : List ℕ} → from ≡ lowersOf (floorIn l w u) → transports.Room (length w) (transportsAt l) (length from)
+  pub room : {from : List ℕ} → from ≡ lowersOf (floorIn l w u) → transports.TransportsRoom (length w) (transportsAt l) (length from)
   room e =
       let few = ap length e ∙ graph .all-a in
       record { x-below = omega arith; y-below = omega arith; sizes-below = omega arith; gradients-below = omega arith; transports-in = omega (arith, few, j .edged .few) }

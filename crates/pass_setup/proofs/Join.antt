@@ -60,7 +60,7 @@ graph-of l f m n-of e k = record {
 -- ---- in the slice
 
 module _ (l : Layout) (w : List Float) (u : List ℕ) (f : Floor) (o : Ordered l (length w) (length u)) (a : Averaged l f w u) where
-  pub number-room : numbering.Room (l .wound) (l .numbers) (l .table) (l .buckets) (l .triangles) (length u)
+  pub number-room : numbering.NumberingRoom (l .wound) (l .numbers) (l .table) (l .buckets) (l .triangles) (length u)
   number-room = record { corners = o .wound-in; numbers = o .numbers-in; table = omega arith; narrow = omega arith; buckets = o .some-buckets; few-buckets = o .few-buckets }
 
   t-of : trianglesOf f ≡ l .triangles

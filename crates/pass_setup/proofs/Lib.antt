@@ -1,7 +1,7 @@
 pub mod Keyed
 pub mod Floors
 pub mod Slices
-pub mod Turn
+pub mod Wind
 pub mod Average
 pub mod Join
 pub mod Carry

@@ -10,9 +10,9 @@ use Rattle.edges.specs.Table.{NumbersOf}
 use Rattle.edges.specs.Numbering.{triFrom, Below}
 use Rattle.floor.specs.declared.Check.the-variants.{Sound}
 use Rattle.floor.specs.Floor.{Floor, trianglesOf, triangleAt}
-use Rattle.pass_geometries.specs.declared.Plan as geometries
-use Rattle.pass_gradients.specs.declared.Plan as gradients
-use Rattle.pass_transports.specs.declared.Plan as transports
+use Rattle.pass_geometries.specs.declared.GeometriesPlan.{GeometriesPlan}
+use Rattle.pass_gradients.specs.declared.GradientsPlan.{GradientsPlan}
+use Rattle.pass_transports.specs.declared.TransportsPlan.{TransportsPlan}
 use Rattle.pass_layout.specs.declared.Layout.{Layout}
 use Rattle.pass_layout.specs.Work.{floorIn, fromIn, toIn, Edged}
 use Rattle.pass_setup.specs.declared.Setup.{Setup}
@@ -21,10 +21,10 @@ use Rattle.pass_setup.specs.Setup.{degenerateOf, woundOf, areasOf, means
 
 -- ---- where the stages read and write
 
-abbrev pub geometriesAt : Layout → geometries.Plan
+abbrev pub geometriesAt : Layout → GeometriesPlan
 geometriesAt l = record { points = l .points; triangles = l .triangles; x = l .x; y = l .y; areas = l .areas; given = l .given; wound = l .wound }
 
-abbrev pub gradientsAt : Layout → gradients.Plan
+abbrev pub gradientsAt : Layout → GradientsPlan
 gradientsAt l = record {
   points = l .points;
   triangles = l .triangles;
@@ -36,12 +36,12 @@ gradientsAt l = record {
   wound = l .wound;
 }
 
-abbrev pub transportsAt : Layout → transports.Plan
+abbrev pub transportsAt : Layout → TransportsPlan
 transportsAt l = record { points = l .points; x = l .x; y = l .y; sizes = l .sizes; gradients = l .gradients; transports = l .transports }
 
 -- ---- what stands there of the floor f: after row 19, after rows 20 and 21, and after its m edges were numbered
 
-pub record Turned (l : Layout) (f : Floor) (w : List Float) (u : List ℕ) : Type 0 where
+pub record Wound (l : Layout) (f : Floor) (w : List Float) (u : List ℕ) : Type 0 where
   pub floor : floorIn l w u ≡ f
   pub given-below : Below (l .points) (l .given) u (3 * l .triangles)
   pub none : degenerateOf f ≡ trianglesOf f
@@ -50,7 +50,7 @@ pub record Turned (l : Layout) (f : Floor) (w : List Float) (u : List ℕ) : Typ
   pub corners-below : Below (l .points) (l .wound) u (3 * l .triangles)
 
 pub record Averaged (l : Layout) (f : Floor) (w : List Float) (u : List ℕ) : Type 0 where
-  pub turned : Turned l f w u
+  pub turned : Wound l f w u
   pub sound : meansOf f ≡ Sound
   pub all-x : region nan w (l .gradients) (l .points) ≡ gradientsX f
   pub all-y : region nan w (l .gradients + l .points) (l .points) ≡ gradientsY f

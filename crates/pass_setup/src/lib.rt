@@ -11,7 +11,7 @@ ghost use Rattle.edges.specs.Numbering.{Below};
 ghost use Rattle.pass_refusal.specs.Refusal.{row, between};
 ghost use Rattle.pass_layout.specs.Layout.{Ordered};
 ghost use Rattle.pass_layout.specs.Work.{floorIn};
-ghost use Rattle.pass_setup.specs.Work.{Turned, Averaged, Joined, SetUp};
+ghost use Rattle.pass_setup.specs.Work.{Wound, Averaged, Joined, SetUp};
 
 // How many edges the floor has; or a refusal.
 pub enum Setup {
@@ -47,7 +47,7 @@ fn take_transports(work: &mut [f64], words: &[u32], l: Layout, m: usize) -> Setu
     requires { ⌜ Joined l m (floorIn l (now work) (now words)) (now work) (now words) ⌝ }
     ensures { λ r. ⌜ SetUp l (now (work .entry)) (now (words .entry)) (now (work .exit)) (now (words .entry)) r ⌝ }
 {
-    let p = pass_transports::Plan {
+    let p = pass_transports::TransportsPlan {
         points: l.points,
         x: l.x,
         y: l.y,
@@ -74,7 +74,7 @@ fn number_edges(work: &mut [f64], words: &mut [u32], l: Layout) -> Setup
     requires { ⌜ Averaged l (floorIn l (now work) (now words)) (now work) (now words) ⌝ }
     ensures { λ r. ⌜ SetUp l (now (work .entry)) (now (words .entry)) (now (work .exit)) (now (words .exit)) r ⌝ }
 {
-    let p = edges::numbers::Plan {
+    let p = edges::numbers::NumberingPlan {
         triangles: l.triangles,
         corners: l.wound,
         numbers: l.numbers,
@@ -94,10 +94,10 @@ fn number_edges(work: &mut [f64], words: &mut [u32], l: Layout) -> Setup
 // The size gradients, up to the first point that row 20 or 21 refuses, and then the rest.
 fn take_gradients(work: &mut [f64], words: &mut [u32], l: Layout) -> Setup
     requires { ⌜ Ordered l (length (now work)) (length (now words)) ⌝ }
-    requires { ⌜ Turned l (floorIn l (now work) (now words)) (now work) (now words) ⌝ }
+    requires { ⌜ Wound l (floorIn l (now work) (now words)) (now work) (now words) ⌝ }
     ensures { λ r. ⌜ SetUp l (now (work .entry)) (now (words .entry)) (now (work .exit)) (now (words .exit)) r ⌝ }
 {
-    let p = pass_gradients::Plan {
+    let p = pass_gradients::GradientsPlan {
         points: l.points,
         triangles: l.triangles,
         x: l.x,
@@ -121,7 +121,7 @@ pub fn set_up(work: &mut [f64], words: &mut [u32], l: Layout) -> Setup
     requires { ⌜ Below (l .points) (l .given) (now words) (3 * l .triangles) ⌝ }
     ensures { λ r. ⌜ SetUp l (now (work .entry)) (now (words .entry)) (now (work .exit)) (now (words .exit)) r ⌝ }
 {
-    let p = pass_geometries::Plan {
+    let p = pass_geometries::GeometriesPlan {
         points: l.points,
         triangles: l.triangles,
         x: l.x,

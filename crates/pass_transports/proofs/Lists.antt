@@ -18,9 +18,9 @@ use Rattle.linear_cells.proofs.Regions.{getD-region}
 use Rattle.linear_cells.proofs.Cells.{length-regionC, regionC-putC, putC-else-real}
 use Rattle.pass_transports.specs.declared.Answer.{Answer}
 use Rattle.pass_transports.specs.declared.Answer.the-variants as answer
-use Rattle.pass_transports.specs.declared.Plan.{Plan}
+use Rattle.pass_transports.specs.declared.TransportsPlan.{TransportsPlan}
 use Rattle.pass_transports.specs.Transports.{Points, pointsOf, endOf, transportAt, isRefused, coefficient, firstMean, coefficientAt, coefficientsOf, refusedAt, answerOf}
-use Rattle.pass_transports.specs.Work.{pointsFrom, Room, Ends, keptTo, Transported}
+use Rattle.pass_transports.specs.Work.{pointsFrom, TransportsRoom, Ends, keptTo, Transported}
 
 -- ---- accepted
 
@@ -37,7 +37,7 @@ unfolding keptTo coefficientsOf
 all-kept p a b v k = rw k (tab-ext _ _ (length a) (λ e l. rw (lt-ltb e (length a) l)))
 
 -- the vector of all coefficients, and nothing else
-pub transported-all : (l : Plan) (a b : List ℕ) (w w′ : List Float) {r : Answer} → Transported l a b w w′ r → r ≡ answer.Done → w′ ≡ putC w (l .transports) (coefficientsOf (pointsFrom w l) a b)
+pub transported-all : (l : TransportsPlan) (a b : List ℕ) (w w′ : List Float) {r : Answer} → Transported l a b w w′ r → r ≡ answer.Done → w′ ≡ putC w (l .transports) (coefficientsOf (pointsFrom w l) a b)
 transported-all l a b w w′ t h =
     t .work
     ∙ rw (done-first (pointsFrom w l) a b (sym (t .result) ∙ h))
@@ -47,14 +47,14 @@ pub length-coefficients : (p : Points) (a b : List ℕ) → length (coefficients
 unfolding coefficientsOf
 length-coefficients p a b = length-tab _ (length a)
 
-pub transported-region : (l : Plan) (a b : List ℕ) (w w′ : List Float) {r : Answer} → Room (length w) l (length a) → Transported l a b w w′ r → r ≡ answer.Done
+pub transported-region : (l : TransportsPlan) (a b : List ℕ) (w w′ : List Float) {r : Answer} → TransportsRoom (length w) l (length a) → Transported l a b w w′ r → r ≡ answer.Done
     → regionC w′ (l .transports) (length a) ≡ coefficientsOf (pointsFrom w l) a b
 transported-region l a b w w′ ok t h =
     ap (λ o. regionC o (l .transports) (length a)) (transported-all l a b w w′ t h)
     ∙ regionC-putC w (l .transports) (coefficientsOf (pointsFrom w l) a b) (length-coefficients (pointsFrom w l) a b) (ok .transports-in)
 
 -- what stands before the coefficients stays, whatever the answer
-pub transported-before : (l : Plan) (a b : List ℕ) (w w′ : List Float) {r : Answer} → Transported l a b w w′ r → (j : ℕ) → j < l .transports → getD w′ j nan ≡ getD w j nan
+pub transported-before : (l : TransportsPlan) (a b : List ℕ) (w w′ : List Float) {r : Answer} → Transported l a b w w′ r → (j : ℕ) → j < l .transports → getD w′ j nan ≡ getD w j nan
 unfolding keptTo
 transported-before l a b w w′ t j h =
     let v : List Complex = regionC w (l .transports) (length a) in
@@ -82,14 +82,14 @@ module _ (p q : Points) (n : ℕ) (a b : List ℕ) (g : Ends n a b) (h : (v : �
   coefficients-same = tab-ext _ _ (length a) (λ e l. ap coefficient (at-same e l))
 
 -- n points stand in the slice
-pub record Holds (w : List Float) (l : Plan) (xs ys sizes gxs gys : List Float) : Type 0 where
+pub record Holds (w : List Float) (l : TransportsPlan) (xs ys sizes gxs gys : List Float) : Type 0 where
   pub all-x : region nan w (l .x) (l .points) ≡ xs
   pub all-y : region nan w (l .y) (l .points) ≡ ys
   pub all-sizes : region nan w (l .sizes) (l .points) ≡ sizes
   pub all-gx : region nan w (l .gradients) (l .points) ≡ gxs
   pub all-gy : region nan w (l .gradients + l .points) (l .points) ≡ gys
 
-pub ends-lists : (w : List Float) (l : Plan) (xs ys sizes gxs gys : List Float) → Holds w l xs ys sizes gxs gys → (v : ℕ) → v < l .points
+pub ends-lists : (w : List Float) (l : TransportsPlan) (xs ys sizes gxs gys : List Float) → Holds w l xs ys sizes gxs gys → (v : ℕ) → v < l .points
     → endOf (pointsFrom w l) v ≡ endOf (pointsOf xs ys sizes gxs gys) v
 unfolding endOf pointsFrom pointsOf
 ends-lists w l xs ys sizes gxs gys h v k =

@@ -24,13 +24,13 @@ use Rattle.linear_cells.proofs.Cells.{length-regionC, length-putC, putC-regionC
 use Rattle.linear_cells.proofs.Over.{over, over-none, length-over, over-todo, over-done, over-cell}
 use Rattle.pass_transports.specs.declared.Answer.{Answer}
 use Rattle.pass_transports.specs.declared.Answer.the-variants as answer
-use Rattle.pass_transports.specs.declared.Plan.{Plan}
+use Rattle.pass_transports.specs.declared.TransportsPlan.{TransportsPlan}
 use Rattle.pass_transports.specs.Transports.{Points, endOf, transportAt, isRefused, coefficient, firstMean, coefficientAt, refusedAt, answerOf}
-use Rattle.pass_transports.specs.Work.{pointsFrom, Room, Ends, kept, Looked, keptTo, Transported}
+use Rattle.pass_transports.specs.Work.{pointsFrom, TransportsRoom, Ends, kept, Looked, keptTo, Transported}
 
 -- ---- the points of a slice that is the same below the coefficients
 
-module _ (w w′ : List Float) (l : Plan) {len m : ℕ} (ok : Room len l m) (h : (j : ℕ) → j < l .transports → getD w′ j nan ≡ getD w j nan) where
+module _ (w w′ : List Float) (l : TransportsPlan) {len m : ℕ} (ok : TransportsRoom len l m) (h : (j : ℕ) → j < l .transports → getD w′ j nan ≡ getD w j nan) where
   end-same : (v : ℕ) → v < l .points → endOf (pointsFrom w′ l) v ≡ endOf (pointsFrom w l) v
   unfolding endOf pointsFrom
   end-same v k =
@@ -48,12 +48,12 @@ module _ (w w′ : List Float) (l : Plan) {len m : ℕ} (ok : Room len l m) (h :
 
 -- ---- one edge
 
-pub looked-none : {l : Plan} (a b : List ℕ) (e : ℕ) (w : List Float) (i j : ℕ) {f : Transport} → f ≡ transportAt (pointsFrom w l) a b e → f ≡ MeanSize i j → Looked l a b e w w false
+pub looked-none : {l : TransportsPlan} (a b : List ℕ) (e : ℕ) (w : List Float) (i j : ℕ) {f : Transport} → f ≡ transportAt (pointsFrom w l) a b e → f ≡ MeanSize i j → Looked l a b e w w false
 looked-none {l} a b e w i j p q =
     let z : transportAt (pointsFrom w l) a b e ≡ MeanSize i j = sym p ∙ q in
     record { sound = sym (ap (λ (t : Transport). not (isRefused t)) z); work = sym (ap (kept w (l .transports) (length a) e) z) }
 
-pub looked-kept : {l : Plan} (a b : List ℕ) (e : ℕ) (w : List Float) {w′ : List Float} (z : Complex) {f : Transport} → f ≡ transportAt (pointsFrom w l) a b e → f ≡ Coefficient z
+pub looked-kept : {l : TransportsPlan} (a b : List ℕ) (e : ℕ) (w : List Float) {w′ : List Float} (z : Complex) {f : Transport} → f ≡ transportAt (pointsFrom w l) a b e → f ≡ Coefficient z
     → w′ ≡ setC w (l .transports) (length a) e z → Looked l a b e w w′ true
 looked-kept {l} a b e w c p q s =
     let z : transportAt (pointsFrom w l) a b e ≡ Coefficient c = sym p ∙ q in
@@ -108,18 +108,18 @@ unfolding answerOf
 told-done p a b f = rw (← f, le-ltb (length a) (length a) (omega arith))
 
 -- the first e edges have a coefficient, which is kept
-pub record To (l : Plan) (a b : List ℕ) (e : ℕ) (w₀ w : List Float) : Type 0 where
+pub record To (l : TransportsPlan) (a b : List ℕ) (e : ℕ) (w₀ w : List Float) : Type 0 where
   pub sound : e ≡ firstMean (pointsFrom w₀ l) a b e
   pub work : w ≡ putC w₀ (l .transports) (writtenTo (pointsFrom w₀ l) a b e (regionC w₀ (l .transports) (length a)))
 
-pub to-none : (l : Plan) (a b : List ℕ) (w : List Float) → To l a b 0 w w
+pub to-none : (l : TransportsPlan) (a b : List ℕ) (w : List Float) → To l a b 0 w w
 unfolding firstMean writtenTo
 to-none l a b w = record { sound = lowest-none _; work = rw (over-none, putC-regionC) }
 
-pub to-length : {l : Plan} {a b : List ℕ} {e : ℕ} {w₀ w : List Float} → To l a b e w₀ w → length w ≡ length w₀
+pub to-length : {l : TransportsPlan} {a b : List ℕ} {e : ℕ} {w₀ w : List Float} → To l a b e w₀ w → length w ≡ length w₀
 to-length {l} {a} {b} {e} {w₀} k = ap length (k .work) ∙ length-putC w₀ (l .transports) (writtenTo (pointsFrom w₀ l) a b e (regionC w₀ (l .transports) (length a)))
 
-module _ (l : Plan) (a b : List ℕ) (e : ℕ) (w₀ w : List Float) (ok : Room (length w₀) l (length a)) (g : Ends (l .points) a b) (h : e < length a) (k : To l a b e w₀ w) where
+module _ (l : TransportsPlan) (a b : List ℕ) (e : ℕ) (w₀ w : List Float) (ok : TransportsRoom (length w₀) l (length a)) (g : Ends (l .points) a b) (h : e < length a) (k : To l a b e w₀ w) where
   v₀ : List Complex
   v₀ = regionC w₀ (l .transports) (length a)
 
@@ -162,7 +162,7 @@ module _ (l : Plan) (a b : List ℕ) (e : ℕ) (w₀ w : List Float) (ok : Room 
             ∙ ap (putC w₀ (l .transports)) (part (pointsFrom w₀ l) a b e v₀ (omega (arith, n₀)) ∙ ap (λ i. keptTo (pointsFrom w₀ l) a b i v₀) first);
       }
 
-pub to-done : {l : Plan} {a b : List ℕ} {e : ℕ} {w₀ w : List Float} {o : Answer} → e ≡ length a → To l a b e w₀ w → o ≡ answer.Done → Transported l a b w₀ w o
+pub to-done : {l : TransportsPlan} {a b : List ℕ} {e : ℕ} {w₀ w : List Float} {o : Answer} → e ≡ length a → To l a b e w₀ w → o ≡ answer.Done → Transported l a b w₀ w o
 to-done {l} {a} {b} {e} {w₀} {w} z k s =
     let first : length a ≡ firstMean (pointsFrom w₀ l) a b (length a) = rw z at (k .sound) in
     let v : List Complex = regionC w₀ (l .transports) (length a) in
@@ -172,5 +172,5 @@ to-done {l} {a} {b} {e} {w₀} {w} z k s =
       work = k .work ∙ ap (putC w₀ (l .transports)) (part (pointsFrom w₀ l) a b e v n ∙ ap (λ i. keptTo (pointsFrom w₀ l) a b i v) (z ∙ first));
     }
 
-pub transported-length : {l : Plan} {a b : List ℕ} {w w′ : List Float} {r : Answer} → Transported l a b w w′ r → length w′ ≡ length w
+pub transported-length : {l : TransportsPlan} {a b : List ℕ} {w w′ : List Float} {r : Answer} → Transported l a b w w′ r → length w′ ≡ length w
 transported-length {l} {a} {b} {w} t = ap length (t .work) ∙ length-putC w (l .transports) _

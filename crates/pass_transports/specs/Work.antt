@@ -14,11 +14,11 @@ use Rattle.pass_geometries.specs.Geometries.{coordsFrom}
 use Rattle.linear_cells.specs.Region.{tab}
 use Rattle.linear_cells.specs.Cell.{setC, regionC, putC}
 use Rattle.pass_transports.specs.declared.Answer.{Answer}
-use Rattle.pass_transports.specs.declared.Plan.{Plan}
+use Rattle.pass_transports.specs.declared.TransportsPlan.{TransportsPlan}
 use Rattle.pass_transports.specs.Transports.{Points, transportAt, isRefused, firstMean, coefficientAt, answerOf}
 
 -- the gradients' first parts, and then their second
-unfoldable pub pointsFrom : List Float → Plan → Points
+unfoldable pub pointsFrom : List Float → TransportsPlan → Points
 pointsFrom w l = record {
   x = coordsFrom w (l .x);
   y = coordsFrom w (l .y);
@@ -28,7 +28,7 @@ pointsFrom w l = record {
 }
 
 -- the planes lie below the vector of m coefficients
-pub record Room (len : ℕ) (l : Plan) (m : ℕ) : Type 0 where
+pub record TransportsRoom (len : ℕ) (l : TransportsPlan) (m : ℕ) : Type 0 where
   pub x-below : l .x + l .points ≤ l .transports
   pub y-below : l .y + l .points ≤ l .transports
   pub sizes-below : l .sizes + l .points ≤ l .transports
@@ -47,7 +47,7 @@ kept w base m e (Coefficient z) = setC w base m e z
 kept w base m e (MeanSize i j) = w
 
 -- edge e was looked at: r says whether it has a coefficient, which is then kept
-pub record Looked (l : Plan) (a b : List ℕ) (e : ℕ) (w w′ : List Float) (r : Bool) : Type 0 where
+pub record Looked (l : TransportsPlan) (a b : List ℕ) (e : ℕ) (w w′ : List Float) (r : Bool) : Type 0 where
   pub sound : r ≡ not (isRefused (transportAt (pointsFrom w l) a b e))
   pub work : w′ ≡ kept w (l .transports) (length a) e (transportAt (pointsFrom w l) a b e)
 
@@ -56,6 +56,6 @@ unfoldable pub keptTo : Points → List ℕ → List ℕ → ℕ → List Comple
 keptTo p a b k v = tab (λ e. cond (ltb e k) (coefficientAt p a b e) (getD v e cnan)) (length v)
 
 -- the answer; the coefficients of the edges before the first that is refused are written, and all else is as it was
-pub record Transported (l : Plan) (a b : List ℕ) (w w′ : List Float) (r : Answer) : Type 0 where
+pub record Transported (l : TransportsPlan) (a b : List ℕ) (w w′ : List Float) (r : Answer) : Type 0 where
   pub result : r ≡ answerOf (pointsFrom w l) a b
   pub work : w′ ≡ putC w (l .transports) (keptTo (pointsFrom w l) a b (firstMean (pointsFrom w l) a b (length a)) (regionC w (l .transports) (length a)))

@@ -6,10 +6,10 @@ ghost use mathlib.Core.Path.{_≡_};
 ghost use Prim.Native.Nat.{_+_, _<_};
 ghost use lib.ListN.{length};
 ghost use Rattle.pass_transports.specs.Transports.{endOf, transportAt, refusedAt};
-ghost use Rattle.pass_transports.specs.Work.{pointsFrom, Room, Ends, Looked, Transported};
+ghost use Rattle.pass_transports.specs.Work.{pointsFrom, TransportsRoom, Ends, Looked, Transported};
 
 // Where the points stand: their coordinates, sizes and gradients, the gradients' first parts and then their second; and where the coefficients go.
-pub struct Plan {
+pub struct TransportsPlan {
     pub points: usize,
     pub x: usize,
     pub y: usize,
@@ -25,8 +25,8 @@ pub enum Answer {
 }
 
 // Point v as an edge's end.
-fn end_at(w: &[f64], l: Plan, v: usize) -> End
-    requires { ⌜ Room (length (now w)) l 0 × (v < l .points) ⌝ }
+fn end_at(w: &[f64], l: TransportsPlan, v: usize) -> End
+    requires { ⌜ TransportsRoom (length (now w)) l 0 × (v < l .points) ⌝ }
     ensures { λ r. ⌜ r ≡ endOf (pointsFrom (now (w .entry)) l) v ⌝ }
 {
     let position = pass_geometries::position(w, l.x, l.y, v);
@@ -41,8 +41,8 @@ fn end_at(w: &[f64], l: Plan, v: usize) -> End
 }
 
 // Edge e's coefficient, or its refusal.
-fn transport_at(w: &[f64], l: Plan, from: &[u32], to: &[u32], e: usize) -> Transport
-    requires { ⌜ Room (length (now w)) l 0 × (e < length (now from)) ⌝ }
+fn transport_at(w: &[f64], l: TransportsPlan, from: &[u32], to: &[u32], e: usize) -> Transport
+    requires { ⌜ TransportsRoom (length (now w)) l 0 × (e < length (now from)) ⌝ }
     requires { ⌜ Ends (l .points) (now from) (now to) ⌝ }
     ensures { λ r. ⌜ r ≡ transportAt (pointsFrom (now (w .entry)) l) (now (from .entry)) (now (to .entry)) e ⌝ }
 {
@@ -52,8 +52,8 @@ fn transport_at(w: &[f64], l: Plan, from: &[u32], to: &[u32], e: usize) -> Trans
 }
 
 // Looks at edge e: whether it has a coefficient, which is then kept.
-fn look(w: &mut [f64], l: Plan, from: &[u32], to: &[u32], e: usize) -> bool
-    requires { ⌜ Room (length (now w)) l (length (now from)) × (e < length (now from)) ⌝ }
+fn look(w: &mut [f64], l: TransportsPlan, from: &[u32], to: &[u32], e: usize) -> bool
+    requires { ⌜ TransportsRoom (length (now w)) l (length (now from)) × (e < length (now from)) ⌝ }
     requires { ⌜ Ends (l .points) (now from) (now to) ⌝ }
     ensures { λ r. ⌜ Looked l (now (from .entry)) (now (to .entry)) e (now (w .entry)) (now (w .exit)) r ⌝ }
 {
@@ -74,8 +74,8 @@ fn refused_at(from: &[u32], to: &[u32], e: usize) -> Answer
 }
 
 // The coefficients of the edges from `from` to `to`, up to the first that is refused.
-pub fn transports(w: &mut [f64], l: Plan, from: &[u32], to: &[u32]) -> Answer
-    requires { ⌜ Room (length (now w)) l (length (now from)) ⌝ }
+pub fn transports(w: &mut [f64], l: TransportsPlan, from: &[u32], to: &[u32]) -> Answer
+    requires { ⌜ TransportsRoom (length (now w)) l (length (now from)) ⌝ }
     requires { ⌜ Ends (l .points) (now from) (now to) ⌝ }
     ensures { λ r. ⌜ Transported l (now (from .entry)) (now (to .entry)) (now (w .entry)) (now (w .exit)) r ⌝ }
 {

@@ -13,7 +13,7 @@ use lib.Ieee.{Float}
 use Rattle.mesh.specs.Mesh.{mid, cuts, refine, refined}
 use Rattle.areas.specs.Points.{morePoints, moreSizes}
 use Rattle.edges.specs.Table.{pairs}
-use Rattle.edges.specs.Apart.{loAt, hiAt, sidesAt}
+use Rattle.edges.specs.TwoSlices.{loAt, hiAt, sidesAt}
 use Rattle.edges.proofs.Tree.{length-pairs}
 use Rattle.floor.specs.declared.Refusal.{Refusal}
 use Rattle.floor.specs.declared.Check.{Check}
@@ -34,7 +34,7 @@ use Rattle.refine_call.specs.declared.Counts.{Counts}
 use Rattle.refine_call.specs.declared.Answer.{Answer}
 use Rattle.refine_call.specs.declared.Answer.the-variants.{Refinement}
 use Rattle.refine_call.specs.Call.{answerOf, Called, short, checkRest, checkCall}
-use Rattle.refine_call.specs.Steps.{Marks, Pieces, Filled, Roomy}
+use Rattle.refine_call.specs.Steps.{Marks, Pieces, Filled, ResultRoom}
 use Rattle.refine_call.proofs.Lists.{refined-none, corners-of-tris, ends-front}
 
 -- ---- tests
@@ -89,7 +89,7 @@ rest-long n t angles threshold newPoints newSizes newTriangles cutEnds e =
     long n t newPoints newSizes newTriangles cutEnds (passed (short n t newPoints newSizes newTriangles cutEnds) (row 18) Sound (b .1) .0)
 
 pub roomy : (points : List Float) (triangles : List ℕ) (sizes : List Float) (angles : ℕ) (threshold : Float) (newPoints newSizes newTriangles cutEnds : ℕ)
-    → checkCall points triangles sizes angles threshold newPoints newSizes newTriangles cutEnds ≡ Sound → Roomy (length points) (length triangles) (length sizes) newPoints newSizes newTriangles cutEnds
+    → checkCall points triangles sizes angles threshold newPoints newSizes newTriangles cutEnds ≡ Sound → ResultRoom (length points) (length triangles) (length sizes) newPoints newSizes newTriangles cutEnds
 unfolding checkCall
 roomy points triangles sizes angles threshold newPoints newSizes newTriangles cutEnds e =
     let a = passed-last (wellFormed (length points) (length triangles)) _ _ e in
@@ -155,7 +155,7 @@ module _ {n : ℕ} {cut : Cut} {l e w w′ : List ℕ} (h : Marks n cut l e w) w
 -- ---- what is written
 
 module _ (threshold : Float) (angles points sizes : List Float) (l : List ℕ) (newPoints newSizes : List Float) (newTriangles cutEnds : List ℕ)
-    (room : Roomy (length points) (length l) (length sizes) (length newPoints) (length newSizes) (length newTriangles) (length cutEnds)) where
+    (room : ResultRoom (length points) (length l) (length sizes) (length newPoints) (length newSizes) (length newTriangles) (length cutEnds)) where
   pub marks-room : MarksRoom (length points / 3) (3 * (length l / 3)) (length l / 3) (length l) (length cutEnds) (length newTriangles)
   marks-room = record {
     corners-in = omega (arith, room .whole-corners);

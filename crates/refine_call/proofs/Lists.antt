@@ -5,9 +5,9 @@ use mathlib.Core.Path.{_≡_, refl, sym, ap, _∙_}
 use mathlib.Core.List.{List, [], _∷_, _++_, append-assoc}
 use lib.ListN.{length, getD, take, take-append-drop}
 use lib.Seq.{take-suc}
-use Rattle.mesh.specs.Mesh.{Tri, tri, Side, side, place, mid, refined}
+use Rattle.mesh.specs.Mesh.{Tri, tri, Side, side, indexIn, mid, refined}
 use Rattle.edges.specs.Table.{pairs}
-use Rattle.edges.specs.Apart.{loAt, hiAt, sidesAt}
+use Rattle.edges.specs.TwoSlices.{loAt, hiAt, sidesAt}
 use Rattle.edges.proofs.Tree.{length-pairs}
 use Rattle.refinement.specs.Floor.{tris, triAt, cornersOf, endsOf, over}
 use Rattle.refinement.proofs.Triangles.{corners-append}
@@ -15,7 +15,7 @@ use Rattle.refine_floor.proofs.Splitting.{drop-same}
 
 -- with no cut sides each triangle is its only piece
 pub refined-none : (n : ℕ) (ts : List Tri) → refined (mid n []) ts ≡ ts
-unfolding mid place
+unfolding mid indexIn
 refined-none n [] = refl
 refined-none n (tri a b c ∷ ts) = ap (λ (s : List Tri). tri a b c ∷ s) (refined-none n ts)
 

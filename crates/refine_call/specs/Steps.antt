@@ -7,7 +7,7 @@ use lib.ListN.{length, getD}
 use lib.Ieee.{Float}
 use Rattle.floor.specs.Checks.{MOST-POINTS, MOST-TRIANGLES}
 use Rattle.mesh.specs.Mesh.{mid, refined}
-use Rattle.edges.specs.Apart.{sidesAt, HeldApart}
+use Rattle.edges.specs.TwoSlices.{sidesAt, HeldInTwo}
 use Rattle.refinement.specs.declared.Cut.{Cut}
 use Rattle.refinement.specs.Floor.{Refined, trisOf, cornersOf, endsOf, over}
 use Rattle.refine_floor.specs.Stored.{Stored}
@@ -22,7 +22,7 @@ pub record Marks (n : ℕ) (cut : Cut) (l e w : List ℕ) : Type 0 where
   pub room : 12 * (length l / 3) ≤ length w
   pub few : (n + cut .sides < 2 ^ 32) × (4 * (length l / 3) < 2 ^ 32)
   pub no-sides : cut .flagged ≡ 0 → cut .sides ≡ 0
-  pub held : cut .flagged ≢ 0 → HeldApart (3 * (length l / 3)) (3 * cut .flagged) e w (cut .sides)
+  pub held : cut .flagged ≢ 0 → HeldInTwo (3 * (length l / 3)) (3 * cut .flagged) e w (cut .sides)
   pub as-many : cut .flagged ≢ 0 → length (markedBy w l (length l / 3)) ≡ cut .flagged
   pub cut-marks : cut .flagged ≢ 0 → (j : ℕ) → j < length l / 3 → getD w (3 * j) 0 ≢ 0 → CutsAt n (sidesAt e (cut .sides)) w l j
 
@@ -40,7 +40,7 @@ pub record Filled (r : Refined) (newPoints newSizes : List Float) (newTriangles 
   pub ends : cutEnds′ ≡ over (endsOf (r .cut)) cutEnds
 
 -- there is room: what rows 1, 5 and 18 leave
-pub record Roomy (points corners sizes newPoints newSizes newTriangles cutEnds : ℕ) : Type 0 where
+pub record ResultRoom (points corners sizes newPoints newSizes newTriangles cutEnds : ℕ) : Type 0 where
   pub whole : points ≡ 3 * (points / 3)
   pub whole-corners : corners ≡ 3 * (corners / 3)
   pub few-points : points / 3 ≤ MOST-POINTS

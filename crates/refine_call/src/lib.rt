@@ -8,11 +8,11 @@ ghost use Prim.Native.Nat.{_+_, _*_, _≤_};
 ghost use lib.ListN.{length};
 ghost use lib.Seq.{sets};
 ghost use Rattle.areas.specs.Points.{morePoints, moreSizes};
-ghost use Rattle.edges.specs.Apart.{sidesAt};
+ghost use Rattle.edges.specs.TwoSlices.{sidesAt};
 ghost use Rattle.floor.specs.Checks.{MOST-POINTS, MOST-TRIANGLES};
 ghost use Rattle.refinement.specs.Floor.{refinementOf, trisOf};
 ghost use Rattle.refine_call.specs.Call.{short, checkRest, checkCall, CalledOn};
-ghost use Rattle.refine_call.specs.Steps.{Marks, Pieces, Filled, Roomy};
+ghost use Rattle.refine_call.specs.Steps.{Marks, Pieces, Filled, ResultRoom};
 
 // How many points and triangles the refined floor has, how many triangles were flagged, and how many sides cut.
 pub struct Counts {
@@ -153,7 +153,7 @@ fn refine_sound(
     new_triangles: &mut [u32],
     cut_ends: &mut [u32],
 ) -> Counts
-    requires { ⌜ Roomy (length (now points)) (length (now triangles)) (length (now sizes))
+    requires { ⌜ ResultRoom (length (now points)) (length (now triangles)) (length (now sizes))
         (length (now «new_points»)) (length (now «new_sizes»)) (length (now «new_triangles»)) (length (now «cut_ends»)) ⌝ }
     ensures { λ r. ⌜ Filled (refinementOf threshold (now (angles .entry)) (now (points .entry)) (now (sizes .entry)) (trisOf (now (triangles .entry))))
         (now («new_points» .entry)) (now («new_sizes» .entry)) (now («new_triangles» .entry)) (now («cut_ends» .entry)) r

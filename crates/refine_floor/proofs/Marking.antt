@@ -12,11 +12,11 @@ use borrow.Author.Tests.{eq-eqb, ne-eqb}
 use lib.Dec.{eqb}
 use lib.ListN.{length, length-append, getD, set, length-set, replicate, length-replicate}
 use lib.Seq.{sets, length-sets, getD-set-same, getD-set-other}
-use Rattle.mesh.specs.Mesh.{Tri, tri, Side, side, key, place, met, metAll, sides, sidesAfter, cuts, marked, one, above, mid, split}
-use Rattle.mesh.proofs.Theorem.{place-below}
+use Rattle.mesh.specs.Mesh.{Tri, tri, Side, side, key, indexIn, met, metAll, sides, sidesAfter, cuts, marked, one, above, mid, split}
+use Rattle.mesh.proofs.Theorem.{index-below}
 use Rattle.runs.proofs.Runs.{sets-before, sets-behind}
 use Rattle.edges.specs.Table.{oneMore, oneLess, pairs, NumbersOf}
-use Rattle.edges.specs.Apart.{loAt, hiAt, sidesAt, HeldApart, MetTriApart}
+use Rattle.edges.specs.TwoSlices.{loAt, hiAt, sidesAt, HeldInTwo, MetTriInTwo}
 use Rattle.edges.proofs.Tree.{length-pairs}
 use Rattle.edges.proofs.Stored.{met-keeps}
 use Rattle.edges.proofs.Numbering.{three-length, three-else, three-first, three-second, three-third}
@@ -82,7 +82,7 @@ marked-most w l (suc i) = rw (length-append (markedBy w l i) (cond (eqb (getD w 
 -- ---- the sides of flagged triangles
 
 -- a mark of a cut side stays as more sides are met
-keeps : (l ss : List Side) (s : Side) (k : ℕ) → place s l ≡ some k → place s (metAll l ss) ≡ some k
+keeps : (l ss : List Side) (s : Side) (k : ℕ) → indexIn s l ≡ some k → indexIn s (metAll l ss) ≡ some k
 unfolding metAll
 keeps l [] s k h = h
 keeps l (x ∷ ss) s k h = keeps (met l x) ss s k (met-keeps l s x k h)
@@ -94,23 +94,23 @@ place-of n (some k) x h = let e : n + k ≡ x = cc in let i : k ≡ x - n = omeg
 cuts-keep : (n : ℕ) (l ss : List Side) (u v x : ℕ) → Cuts n l u v x → Cuts n (metAll l ss) u v x
 unfolding mid
 cuts-keep n l ss u v x c =
-    let p = place-of n (place (key u v) l) (x - 1) (c .1) in
+    let p = place-of n (indexIn (key u v) l) (x - 1) (c .1) in
     let q = keeps l ss (key u v) (x - 1 - n) (p .0) in
     let e : n + (x - 1 - n) ≡ x - 1 = omega (arith, p .1) in
     (c .0, ap (above n) q ∙ ap some e)
 
-cuts-met : (n : ℕ) (l : List Side) (u v p : ℕ) → place (key u v) l ≡ some p → Cuts n l u v (n + p + 1)
+cuts-met : (n : ℕ) (l : List Side) (u v p : ℕ) → indexIn (key u v) l ≡ some p → Cuts n l u v (n + p + 1)
 unfolding mid
 cuts-met n l u v p h = let e : n + p ≡ n + p + 1 - 1 = omega arith in (omega arith, ap (above n) h ∙ ap some e)
 
 -- the numbers of the sides that were met are below their count
-pub met-below : {o N : ℕ} {e w e′ w′ : List ℕ} {m m′ p q r a b c : ℕ} → MetTriApart o N e w m e′ w′ m′ p q r (tri a b c) → (p < m′) × ((q < m′) × (r < m′))
+pub met-below : {o N : ℕ} {e w e′ w′ : List ℕ} {m m′ p q r a b c : ℕ} → MetTriInTwo o N e w m e′ w′ m′ p q r (tri a b c) → (p < m′) × ((q < m′) × (r < m′))
 met-below {e′ = e′} {m′ = m′} t = (low _ _ (t .numbers .0), (low _ _ (t .numbers .1), low _ _ (t .numbers .2)))
   where
-    low : (s : Side) (p : ℕ) → place s (sidesAt e′ m′) ≡ some p → p < m′
-    low s p h = omega (arith, place-below s (sidesAt e′ m′) p h, length-pairs (loAt e′) (hiAt e′) m′)
+    low : (s : Side) (p : ℕ) → indexIn s (sidesAt e′ m′) ≡ some p → p < m′
+    low s p h = omega (arith, index-below s (sidesAt e′ m′) p h, length-pairs (loAt e′) (hiAt e′) m′)
 
-pub cut-passed : {n o N : ℕ} {l : List ℕ} {i : ℕ} {e w : List ℕ} {m : ℕ} → HeldApart o N e w m → getD w (3 * i) 0 ≡ 0 → CutsStep n o N l i e w m e w m
+pub cut-passed : {n o N : ℕ} {l : List ℕ} {i : ℕ} {e w : List ℕ} {m : ℕ} → HeldInTwo o N e w m → getD w (3 * i) 0 ≡ 0 → CutsStep n o N l i e w m e w m
 cut-passed {i = i} {w = w} {m = m} h z =
     let b = eq-eqb (getD w (3 * i) 0) 0 z in
     record {
@@ -127,7 +127,7 @@ cut-passed {i = i} {w = w} {m = m} h z =
       behind = λ j g. refl;
     }
 
-pub cut-cut : {n o N : ℕ} {l : List ℕ} {i : ℕ} {e w e₁ w₁ w₂ : List ℕ} {m m₁ p q r : ℕ} → 3 * i + 3 ≤ o → o ≤ length w → getD w (3 * i) 0 ≢ 0 → MetTriApart o N e w m e₁ w₁ m₁ p q r (triAt l i)
+pub cut-cut : {n o N : ℕ} {l : List ℕ} {i : ℕ} {e w e₁ w₁ w₂ : List ℕ} {m m₁ p q r : ℕ} → 3 * i + 3 ≤ o → o ≤ length w → getD w (3 * i) 0 ≢ 0 → MetTriInTwo o N e w m e₁ w₁ m₁ p q r (triAt l i)
     → w₂ ≡ sets w₁ (3 * i) ((n + p + 1) ∷ (n + q + 1) ∷ (n + r + 1) ∷ []) → CutsStep n o N l i e w m e₁ w₂ m₁
 cut-cut {n} {o} {N} {l} {i} {e} {w} {e₁} {w₁} {w₂} {m} {m₁} {p} {q} {r} below room f t z =
     let b = ne-eqb (getD w (3 * i) 0) 0 f in
@@ -152,7 +152,7 @@ cut-cut {n} {o} {N} {l} {i} {e} {w} {e₁} {w₁} {w₂} {m} {m₁} {p} {q} {r} 
     else : (j : ℕ) → (j < 3 * i) ⊎ (3 * i + 3 ≤ j) → getD w₂ j 0 ≡ getD w₁ j 0
     else j h = ap (λ (x : List ℕ). getD x j 0) z ∙ three-else w₁ (3 * i) (n + p + 1) (n + q + 1) (n + r + 1) j h
 
-pub cuts-none : {n N t : ℕ} {l e w : List ℕ} → HeldApart (3 * t) N e w 0 → CutsTo n N t l 0 e w e w 0
+pub cuts-none : {n N t : ℕ} {l e w : List ℕ} → HeldInTwo (3 * t) N e w 0 → CutsTo n N t l 0 e w e w 0
 unfolding markedBy sidesAfter pairs
 cuts-none h = record {
   held = h;
@@ -271,7 +271,7 @@ module _ {f : Tri → Bool} {n : ℕ} {l : List ℕ} {t : ℕ} {e w w₁ : List 
 
 -- an empty table of three buckets a flagged triangle, and room for its sides
 pub cut-room : {f : Tri → Bool} {l : List ℕ} {t : ℕ} {w w₁ : List ℕ} {c : ℕ} → FlagsTo f l t w w₁ c → (n corners : ℕ) (e : List ℕ) → MarksRoom n (3 * t) t corners (length e) (length w) → c ≢ 0
-    → {w₂ : List ℕ} → w₂ ≡ sets w₁ (3 * t) (replicate (3 * c) 0) → HeldApart (3 * t) (3 * c) e w₂ 0 × MarksRoom n (3 * c) t corners (length e) (length w₂)
+    → {w₂ : List ℕ} → w₂ ≡ sets w₁ (3 * t) (replicate (3 * c) 0) → HeldInTwo (3 * t) (3 * c) e w₂ 0 × MarksRoom n (3 * c) t corners (length e) (length w₂)
 cut-room {t = t} {w} {w₁} {c} h n corners e room q {w₂} z =
     let long : length w₂ ≡ length w₁ = ap length z ∙ length-sets w₁ (3 * t) (replicate (3 * c) 0) in (
       rw z (empty-apart (3 * t) (3 * c) e w₁ (omega arith) (omega (arith, room .marks-in, h .same, h .seldom))),
@@ -379,7 +379,7 @@ marks-again {n} {s} {l} {i} {w₀} {w} {w′} {k} {c} h m =
     least false q = omega (arith, h .least)
 
 -- what the next triangle asks for
-pub marks-held : {n : ℕ} {s : List Side} {l : List ℕ} {i o N m : ℕ} {e w₀ w : List ℕ} {k : ℕ} → 3 * i ≤ o → MarksTo n s l i w₀ w k → HeldApart o N e w₀ m → HeldApart o N e w m
+pub marks-held : {n : ℕ} {s : List Side} {l : List ℕ} {i o N m : ℕ} {e w₀ w : List ℕ} {k : ℕ} → 3 * i ≤ o → MarksTo n s l i w₀ w k → HeldInTwo o N e w₀ m → HeldInTwo o N e w m
 marks-held b h t = held-still (λ j g q. h .ahead j (omega arith)) (h .same) t
 
 pub marks-cut : {n : ℕ} {s : List Side} {l : List ℕ} {i : ℕ} {w₀ w : List ℕ} {k : ℕ} → MarksTo n s l i w₀ w k → (getD w₀ (3 * i) 0 ≢ 0 → CutsAt n s w₀ l i) → getD w (3 * i) 0 ≢ 0 → CutsAt n s w l i

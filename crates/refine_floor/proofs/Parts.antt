@@ -13,12 +13,12 @@ use Rattle.mesh.proofs.Theorem.{refined-append}
 use Rattle.areas.specs.Points.{midpoint, midpoints, midSize, midSizes}
 use Rattle.areas.proofs.Points.{mids-length}
 use Rattle.edges.specs.declared.Table.{Table}
-use Rattle.edges.specs.Table.{pairs, endOf}
-use Rattle.edges.specs.Apart.{loAt, hiAt, sidesAt}
+use Rattle.edges.specs.Table.{pairs, endOf, cutsIn}
+use Rattle.edges.specs.TwoSlices.{loAt, hiAt, sidesAt}
 use Rattle.edges.proofs.Tree.{length-pairs}
 use Rattle.edges.proofs.Numbering.{held-within}
 use Rattle.refinement.specs.Floor.{tris, triAt, cornersOf}
-use Rattle.refinement.specs.Steps.{HeldIn, cutsIn, Rows}
+use Rattle.refinement.specs.Steps.{HeldIn, Rows}
 use Rattle.refine_floor.specs.Stored.{Stored}
 use Rattle.refinement.proofs.Triangles.{corners-length, corners-append}
 use Rattle.refinement.proofs.Parts.{take-rows, four}

@@ -10,7 +10,7 @@ use lib.Dec.{eqb}
 use lib.ListN.{length, getD}
 use Rattle.mesh.specs.Mesh.{Tri, tri, Side, sides, metAll, sidesAfter, cuts, marked, one, mid, split}
 use Rattle.edges.specs.Table.{oneMore, oneLess}
-use Rattle.edges.specs.Apart.{sidesAt, HeldApart}
+use Rattle.edges.specs.TwoSlices.{sidesAt, HeldInTwo}
 use Rattle.refinement.specs.declared.Cut.{Cut}
 use Rattle.refinement.specs.Floor.{tris, triAt}
 
@@ -70,7 +70,7 @@ pub record MarksRoom (n N t corners ends marks : ℕ) : Type 0 where
 
 -- triangle i was looked at, with a table of m sides behind the marks, from o on: if it is marked its sides are met, and it has their marks
 pub record CutsStep (n o N : ℕ) (l : List ℕ) (i : ℕ) (e w : List ℕ) (m : ℕ) (e′ w′ : List ℕ) (m′ : ℕ) : Type 0 where
-  pub held : HeldApart o N e′ w′ m′
+  pub held : HeldInTwo o N e′ w′ m′
   pub now-cut : sidesAt e′ m′ ≡ cond (eqb (getD w (3 * i) 0) 0) (sidesAt e m) (metAll (sidesAt e m) (sides (triAt l i)))
   pub more : m′ ≤ cond (eqb (getD w (3 * i) 0) 0) m (m + 3)
   pub most : m ≤ m′
@@ -84,7 +84,7 @@ pub record CutsStep (n o N : ℕ) (l : List ℕ) (i : ℕ) (e w : List ℕ) (m :
 
 -- the sides of the marked ones of the first i triangles stand in the table, m of them, and these triangles have their sides' marks; the others' first marks stay
 pub record CutsTo (n N t : ℕ) (l : List ℕ) (i : ℕ) (e w e′ w′ : List ℕ) (m : ℕ) : Type 0 where
-  pub held : HeldApart (3 * t) N e′ w′ m
+  pub held : HeldInTwo (3 * t) N e′ w′ m
   pub all-cut : sidesAt e′ m ≡ sidesAfter [] (markedBy w l i)
   pub few : m ≤ 3 * length (markedBy w l i)
   pub seldom : length (markedBy w l i) ≤ i
@@ -102,7 +102,7 @@ pub record Marked (f : Tri → Bool) (n : ℕ) (l : List ℕ) (t : ℕ) (e w e�
   pub all-cut : sidesAt e′ (cut .sides) ≡ cuts f (tris l t)
   pub few : cut .sides ≤ 3 * cut .flagged
   pub seldom : cut .flagged ≤ t
-  pub held : cut .flagged ≢ 0 → HeldApart (3 * t) (3 * cut .flagged) e′ w′ (cut .sides)
+  pub held : cut .flagged ≢ 0 → HeldInTwo (3 * t) (3 * cut .flagged) e′ w′ (cut .sides)
   pub as-many : cut .flagged ≢ 0 → length (markedBy w′ l t) ≡ cut .flagged
   pub cut-marks : cut .flagged ≢ 0 → (j : ℕ) → j < t → getD w′ (3 * j) 0 ≢ 0 → CutsAt n (sidesAt e′ (cut .sides)) w′ l j
   pub same-ends : length e′ ≡ length e

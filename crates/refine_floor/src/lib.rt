@@ -9,10 +9,10 @@ ghost use lib.ListN.{length};
 ghost use lib.Seq.{sets};
 ghost use Rattle.mesh.specs.Mesh.{side, mid, pieces, refined};
 ghost use Rattle.areas.specs.Points.{xOf, yOf, midpoint, midpoints, midSize, midSizes, morePoints, moreSizes};
-ghost use Rattle.edges.specs.Table.{endOf};
-ghost use Rattle.edges.specs.Apart.{loAt, hiAt, sidesAt};
+ghost use Rattle.edges.specs.Table.{endOf, cutsIn};
+ghost use Rattle.edges.specs.TwoSlices.{loAt, hiAt, sidesAt};
 ghost use Rattle.refinement.specs.Floor.{tris, triAt};
-ghost use Rattle.refinement.specs.Steps.{HeldIn, cutsIn};
+ghost use Rattle.refinement.specs.Steps.{HeldIn};
 ghost use Rattle.refine_floor.specs.Stored.{Stored};
 
 // ---- triangles

@@ -10,7 +10,7 @@ ghost use lib.ListN.{length, getD};
 ghost use lib.Seq.{sets};
 ghost use Rattle.mesh.specs.Mesh.{one, mid, split, refined};
 ghost use Rattle.edges.specs.Table.{oneMore, oneLess};
-ghost use Rattle.edges.specs.Apart.{sidesAt, HeldApart};
+ghost use Rattle.edges.specs.TwoSlices.{sidesAt, HeldInTwo};
 ghost use Rattle.refinement.specs.Flag.{flaggedTri};
 ghost use Rattle.refinement.specs.Floor.{triAt, tris, cornersOf};
 ghost use Rattle.refine_floor.specs.Stored.{Stored};
@@ -66,7 +66,7 @@ fn cut_marked(
     marks: &mut [u32],
     table: Table,
 ) -> usize
-    requires { ⌜ HeldApart (table .base) (table .buckets) (now ends) (now marks) (table .sides) ⌝ }
+    requires { ⌜ HeldInTwo (table .base) (table .buckets) (now ends) (now marks) (table .sides) ⌝ }
     requires { ⌜ (3 * i + 3 ≤ length (now triangles)) × ((3 * i + 3 ≤ table .base) × (table .sides ≤ 3 * i)) ⌝ }
     requires { ⌜ (6 * i + 6 ≤ length (now ends)) × ((table .base + table .buckets + (6 * i + 6) ≤ length (now marks)) × (points + (3 * i + 4) < 2 ^ 32)) ⌝ }
     ensures { λ r. ⌜ CutsStep points (table .base) (table .buckets) (now (triangles .entry)) i (now (ends .entry)) (now (marks .entry)) (table .sides)
@@ -79,7 +79,7 @@ fn cut_marked(
     let a = triangles[at];
     let b = triangles[at + 1];
     let c = triangles[at + 2];
-    let met = edges::apart::meet_triangle(ends, marks, table, a, b, c);
+    let met = edges::two_slices::meet_triangle(ends, marks, table, a, b, c);
     edges::numbers::put_three(
         marks,
         at,
@@ -99,7 +99,7 @@ fn cut_all(
     marks: &mut [u32],
     buckets: usize,
 ) -> usize
-    requires { ⌜ HeldApart (3 * count) buckets (now ends) (now marks) 0 ⌝ }
+    requires { ⌜ HeldInTwo (3 * count) buckets (now ends) (now marks) 0 ⌝ }
     requires { ⌜ MarksRoom points buckets count (length (now triangles)) (length (now ends)) (length (now marks)) ⌝ }
     ensures { λ r. ⌜ CutsTo points buckets count (now (triangles .entry)) count (now (ends .entry)) (now (marks .entry)) (now (ends .exit)) (now (marks .exit)) r ⌝ }
 {
@@ -147,11 +147,11 @@ pub fn cut_sides(
 
 // One more than the midpoint of the side of u and v, or 0 if it is not cut.
 fn mark_of(ends: &[u32], marks: &[u32], table: Table, points: usize, u: u32, v: u32) -> u32
-    requires { ⌜ HeldApart (table .base) (table .buckets) (now ends) (now marks) (table .sides) ⌝ }
+    requires { ⌜ HeldInTwo (table .base) (table .buckets) (now ends) (now marks) (table .sides) ⌝ }
     requires { ⌜ points + table .sides < 2 ^ 32 ⌝ }
     ensures { λ r. ⌜ r ≡ oneMore (mid points (sidesAt (now (ends .entry)) (table .sides)) u v) ⌝ }
 {
-    let number = edges::apart::find_side(ends, marks, table, u, v);
+    let number = edges::two_slices::find_side(ends, marks, table, u, v);
     if number == 0 {
         return 0;
     }
@@ -184,7 +184,7 @@ fn mark_triangle(
     marks: &mut [u32],
     table: Table,
 ) -> usize
-    requires { ⌜ HeldApart (table .base) (table .buckets) (now ends) (now marks) (table .sides) ⌝ }
+    requires { ⌜ HeldInTwo (table .base) (table .buckets) (now ends) (now marks) (table .sides) ⌝ }
     requires { ⌜ (3 * i + 3 ≤ length (now triangles)) × ((3 * i + 3 ≤ table .base) × (points + table .sides < 2 ^ 32)) ⌝ }
     requires { ⌜ (getD (now marks) (3 * i) 0 ≢ 0 → CutsAt points (sidesAt (now ends) (table .sides)) (now marks) (now triangles) i) ⌝ }
     ensures { λ r. ⌜ MarksStep points (sidesAt (now (ends .entry)) (table .sides)) (now (triangles .entry)) i (now (marks .entry)) (now (marks .exit)) r ⌝ }
@@ -212,7 +212,7 @@ fn mark_all(
     marks: &mut [u32],
     table: Table,
 ) -> usize
-    requires { ⌜ HeldApart (table .base) (table .buckets) (now ends) (now marks) (table .sides) ⌝ }
+    requires { ⌜ HeldInTwo (table .base) (table .buckets) (now ends) (now marks) (table .sides) ⌝ }
     requires { ⌜ (3 * count ≤ length (now triangles)) × ((3 * count ≤ table .base) × ((points + table .sides < 2 ^ 32) × (4 * count < 2 ^ 32))) ⌝ }
     requires { ⌜ ((j : ℕ) → j < count → getD (now marks) (3 * j) 0 ≢ 0 → CutsAt points (sidesAt (now ends) (table .sides)) (now marks) (now triangles) j) ⌝ }
     ensures { λ r. ⌜ MarksTo points (sidesAt (now (ends .entry)) (table .sides)) (now (triangles .entry)) count (now (marks .entry)) (now (marks .exit)) r ⌝ }
@@ -273,7 +273,7 @@ pub fn refine_marked(
     marks: &mut [u32],
     table: Table,
 ) -> usize
-    requires { ⌜ HeldApart (table .base) (table .buckets) (now ends) (now marks) (table .sides) ⌝ }
+    requires { ⌜ HeldInTwo (table .base) (table .buckets) (now ends) (now marks) (table .sides) ⌝ }
     requires { ⌜ (3 * count ≤ length (now triangles)) × ((3 * count ≤ table .base) × ((points + table .sides < 2 ^ 32) × ((4 * count < 2 ^ 32) × (12 * count ≤ length (now marks))))) ⌝ }
     requires { ⌜ ((j : ℕ) → j < count → getD (now marks) (3 * j) 0 ≢ 0 → CutsAt points (sidesAt (now ends) (table .sides)) (now marks) (now triangles) j) ⌝ }
     ensures { λ r. ⌜ Stored (refined (mid points (sidesAt (now (ends .entry)) (table .sides))) (tris (now (triangles .entry)) count)) (now (marks .entry)) 0 0 (now (marks .exit)) r

@@ -6,7 +6,7 @@ use mathlib.Core.List.{List, _++_}
 use lib.ListN.{length, replicate}
 use Rattle.mesh.specs.Mesh.{Tri, Side, sides, metAll, cuts, marked, one}
 use Rattle.edges.specs.declared.Table.{Table}
-use Rattle.edges.specs.Table.{Held, Outside, sidesIn}
+use Rattle.edges.specs.Table.{Held, Outside, sidesIn, cutsIn}
 use Rattle.refinement.specs.declared.Cut.{Cut}
 use Rattle.refinement.specs.Floor.{tris, cornersOf}
 
@@ -17,10 +17,6 @@ having t m = record { base = t .base; buckets = t .buckets; sides = m }
 -- the table t stands in the slice w
 abbrev pub HeldIn : Table → List ℕ → Type 0
 HeldIn t w = Held (t .base) (t .buckets) w (t .sides)
-
--- its sides
-abbrev pub cutsIn : Table → List ℕ → List Side
-cutsIn t w = sidesIn (t .base) (t .buckets) w (t .sides)
 
 -- the slice outside it is as it was
 abbrev pub OutsideOf : Table → List ℕ → List ℕ → Type 0

@@ -7,10 +7,10 @@ ghost use Prim.Native.Nat.{_+_, _*_, _<_, _≤_, _^_};
 ghost use lib.ListN.{length, take};
 ghost use lib.Seq.{sets};
 ghost use Rattle.mesh.specs.Mesh.{tri, mid, split, pieces};
-ghost use Rattle.edges.specs.Table.{endOf, oneMore, oneLess};
+ghost use Rattle.edges.specs.Table.{endOf, oneMore, oneLess, cutsIn};
 ghost use Rattle.refinement.specs.Flag.{turnAlong, variation, angle, flaggedTri};
 ghost use Rattle.refinement.specs.Floor.{triAt};
-ghost use Rattle.refinement.specs.Steps.{having, HeldIn, cutsIn, CutStep, CutTo, Rows};
+ghost use Rattle.refinement.specs.Steps.{having, HeldIn, CutStep, CutTo, Rows};
 
 // How far the field turns along a side, from the angles at its ends.
 pub fn turn_along(a: f64, b: f64) -> f64

@@ -1,4 +1,4 @@
--- The digits and the place of a subnormal, at which the loop of `root_small` ends, and those of a normal pattern: so `Value.antt` says of the root of every finite double above 0 between which squares it lies. Assumes nothing.
+-- The digits and the exponentOf of a subnormal, at which the loop of `root_small` ends, and those of a normal pattern: so `Value.antt` says of the root of every finite double above 0 between which squares it lies. Assumes nothing.
 use mathlib.Core.Path.{_≡_, refl, sym, ap, _∙_, subst}
 use Prim.Native.Nat.{ℕ, zero, suc, _+_, _-_, _*_, _/_, _%_, _^_, _≤_, _<_}
 use native.Mathlib.Nat.{mul-one, mul-assoc, mul-comm, mul-pos, le-trans, le-of-eq, lt-of-lt-of-le, mul-lt-mul-of-pos-right, mul-le-mul-right, zero-mul, pow-suc}

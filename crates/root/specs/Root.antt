@@ -33,8 +33,8 @@ Settled m q = (q < 2 ^ 54) × (0 < q → IsNearest m q)
 abbrev pub significand : ℕ → ℕ
 significand b = cond (ltb b (2 ^ 52)) (b * 2 ^ (53 - size b)) (b % 2 ^ 52 + 2 ^ 52)
 
-abbrev pub place : ℕ → ℕ
-place b = cond (ltb b (2 ^ 52)) (size b + 1023) (b / 2 ^ 52 + 1075)
+abbrev pub exponentOf : ℕ → ℕ
+exponentOf b = cond (ltb b (2 ^ 52)) (size b + 1023) (b / 2 ^ 52 + 1075)
 
 -- c * 2 ^ (x - 2150) is m * 4 ^ (h - 1075), for h = x / 2 and m = c or 2c as x is even or odd.
 -- The root has 53 digits, R * 2 ^ (h - 1101), for the whole number R that is nearest to the root of m * 4 ^ 26.
@@ -49,7 +49,7 @@ rootAt c x = (x / 2 - 27) * 2 ^ 52 + (rootIn 54 (aligned c x * 2 ^ 44) + 1) / 2
 
 unfoldable pub rootBits : ℕ → ℕ
 unfolding rootAt size
-rootBits b = rootAt (significand b) (place b)
+rootBits b = rootAt (significand b) (exponentOf b)
 
 -- A zero is its own root, with its sign, and so is the infinity. A negative number has none.
 unfoldable pub rootOf : Float → Float

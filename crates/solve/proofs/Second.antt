@@ -16,7 +16,7 @@ use Rattle.mesh.proofs.Whole.{All-map, good-in-range}
 use Rattle.mesh.proofs.Good.{refined-good}
 use Rattle.runs.proofs.Runs.{sets-before}
 use Rattle.edges.specs.declared.Table.{Table}
-use Rattle.edges.specs.Table.{sidesIn, endOf}
+use Rattle.edges.specs.Table.{sidesIn, endOf, cutsIn}
 use Rattle.edges.specs.Numbering.{trisFrom, Below}
 use Rattle.edges.proofs.Tree.{length-pairs}
 use Rattle.edges.proofs.Numbering.{sides-same}
@@ -27,7 +27,6 @@ use Rattle.refinement.proofs.Parts.{refined-most}
 use Rattle.refinement.proofs.Triangles.{tris-length}
 use Rattle.refine_floor.specs.Guidance.{moreAngles}
 use Rattle.refine_floor.specs.Stored.{Stored}
-use Rattle.pass_planes.specs.Planes.{cutsIn}
 use Rattle.pass_layout.specs.declared.Base.{Base}
 use Rattle.pass_options.specs.declared.Options.{Options}
 use Rattle.pass_options.specs.Options.{guided, unguided, guidanceOf}
@@ -153,7 +152,6 @@ module _ (points : List Float) (corners : List ℕ) (sizes angles : List Float) 
       corners-below = rw many (stored-below u₂ (length points / 3 + 12 * (length corners / 3)) newTris room (stored .stands) (length points / 3 + cut .sides) new-in-range)
 
       cuts-there : cutsIn (tableAt points (cut .sides)) u₃ ≡ sidesIn 0 (length points / 3) u₂ (cut .sides)
-      unfolding cutsIn
       cuts-there = sides-same 0 (length points / 3) u₂ u₃ (cut .sides) (λ j _ h. ap (λ (x : List ℕ). getD x j 0) (stored .stands) ∙ sets-before u₂ (length points / 3 + 12 * (length corners / 3)) (cornersOf newTris) j 0 (omega (arith, found .few)))
 
       pub laid-room : {a′ : Asked} → a′ ≡ again a → LaidRoom (baseAt points corners (cut .sides) k) (a′ .guided) (length points) (length sizes) (length angles) (tableAt points (cut .sides)) (length w) (length u₃)

@@ -8,7 +8,7 @@ use mathlib.Core.List.{List, [], _∷_, _++_}
 use borrow.Author.Tests.{eq-eqb, le-ltb, le-leb}
 use lib.ListN.{length, length-append, drop}
 use lib.Ieee.{Float}
-use Rattle.mesh.specs.Mesh.{Tri, tri, Side, sides, place, isNone, met, metAll, sidesAfter, marked, cuts, mid, refined, refine}
+use Rattle.mesh.specs.Mesh.{Tri, tri, Side, sides, indexIn, isNone, met, metAll, sidesAfter, marked, cuts, mid, refined, refine}
 use Rattle.floor.specs.declared.Check.{Check}
 use Rattle.floor.specs.declared.Check.the-variants.{Sound, Refused}
 use Rattle.floor.specs.Checks.{row, wellFormed, notFiniteOrBelowZero, andThen, checkFloor}
@@ -28,7 +28,7 @@ use Rattle.text_answer.specs.Steps.{bytesOf, Sized}
 -- a triangle cuts at most three sides
 met-most : (l : List Side) (s : Side) → length (met l s) ≤ length l + 1
 unfolding met
-met-most l s = go (isNone (place s l))
+met-most l s = go (isNone (indexIn s l))
   where
     go : (b : Bool) → length (cond b (l ++ (s ∷ [])) l) ≤ length l + 1
     go true = omega (arith, length-append l (s ∷ []))

@@ -8,8 +8,8 @@ use mathlib.Core.List.{List, [], _∷_, _++_}
 use mathlib.Core.Option.{Option, none, some}
 use lib.Dec.{ltb}
 use lib.ListN.{length, getD}
-use Rattle.mesh.specs.Mesh.{Tri, tri, Side, side, key, sides, place, isNone, met, metAll, sidesAfter, marked, cuts, mid, split, pieces, refined, refine, All}
-use Rattle.mesh.proofs.Theorem.{place-below}
+use Rattle.mesh.specs.Mesh.{Tri, tri, Side, side, key, sides, indexIn, isNone, met, metAll, sidesAfter, marked, cuts, mid, split, pieces, refined, refine, All}
+use Rattle.mesh.proofs.Theorem.{index-below}
 use Rattle.mesh.proofs.Cuts.{above-some, marked-all}
 use Rattle.refinement.specs.Flag.{flaggedTri}
 use Rattle.refinement.specs.Floor.{Refined, refinementOf, tris, trisOf}
@@ -72,7 +72,7 @@ refined-small m (tri a b c ∷ ts) k h =
 
 below-all : (n : ℕ) (l : List Side) → n + length l ≤ 1000000 → (u v p : ℕ) → mid n l u v ≡ some p → Small p
 unfolding mid
-below-all n l h u v p e = let d = above-some n (place (key u v) l) p e in omega (arith, place-below (key u v) l (d .0) (d .1), d .2)
+below-all n l h u v p e = let d = above-some n (indexIn (key u v) l) p e in omega (arith, index-below (key u v) l (d .0) (d .1), d .2)
 
 mid-small : (n : ℕ) (l : List Side) → n + length l ≤ 1000000 → (u v : ℕ) → SmallMid (mid n l u v)
 mid-small n l h u v = go (mid n l u v) refl
@@ -93,7 +93,7 @@ key-small u v h k = go (ltb u v)
 
 met-small : (l : List Side) (s : Side) → All SmallSide l → SmallSide s → All SmallSide (met l s)
 unfolding met
-met-small l s h k = go (isNone (place s l))
+met-small l s h k = go (isNone (indexIn s l))
   where
     go : (b : Bool) → All SmallSide (cond b (l ++ (s ∷ [])) l)
     go true = all-append SmallSide l (s ∷ []) h (k, tt)

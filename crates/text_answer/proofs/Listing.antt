@@ -4,7 +4,7 @@ use Prim.Native.Nat.{ℕ}
 use mathlib.Core.List.{List, [], _∷_}
 use lib.Ieee.{add, sub, mul, div, rem, neg, eq, lt, le, ne, ofBits, ofInt}
 use Rattle.float.specs.Double.{mag, notPositive}
-use Rattle.mesh.specs.Mesh.{key, place, met, metAll, sidesAfter, marked, cuts, mid, refine}
+use Rattle.mesh.specs.Mesh.{key, indexIn, met, metAll, sidesAfter, marked, cuts, mid, refine}
 use Rattle.areas.specs.Points.{morePoints, moreSizes, midpoints, midSizes}
 use Rattle.floor.specs.Checks.{lowest, badPoint, badSize, badCorner, notFiniteOrBelowZero, checkFloor}
 use Rattle.refinement.specs.Flag.{turnAlong, variation, flagged, flaggedTri}
@@ -39,5 +39,5 @@ expected =
     32 ∷ 32 ∷ 32 ∷ 32 ∷ 32 ∷ 48 ∷ 32 ∷ 32 ∷ 32 ∷ 32 ∷ 32 ∷ 50 ∷ 10 ∷ []
 
 pub listing : printed given ≡ expected
-unfolding given expected printed accepted isText isHead isLine isCorners every scan step afterBlank afterMinus isLead isDigit pointsUpTo anglesUpTo cornersUpTo checkFloor lowest badPoint badSize badCorner notPositive notFiniteOrBelowZero refinementOf tris flaggedTri flagged variation turnAlong marked cuts sidesAfter metAll met place key refine mid morePoints midpoints moreSizes midSizes linesOf triangleLines sideLines lineOf columnsOf inSix lead ofInt add sub mul div rem neg le lt ne eq mag ofBits
+unfolding given expected printed accepted isText isHead isLine isCorners every scan step afterBlank afterMinus isLead isDigit pointsUpTo anglesUpTo cornersUpTo checkFloor lowest badPoint badSize badCorner notPositive notFiniteOrBelowZero refinementOf tris flaggedTri flagged variation turnAlong marked cuts sidesAfter metAll met indexIn key refine mid morePoints midpoints moreSizes midSizes linesOf triangleLines sideLines lineOf columnsOf inSix lead ofInt add sub mul div rem neg le lt ne eq mag ofBits
 listing = refl

@@ -1,4 +1,4 @@
--- A column byte by byte: what the loops of `scan_column` and `put_columns` keep, and the six places of a column. Assumes nothing.
+-- A column byte by byte: what the loops of `scan_column` and `put_columns` keep, and the six six-bytes of a column. Assumes nothing.
 use Prim.Native.Nat.{ℕ, zero, suc, _+_, _-_, _*_, _/_, _%_, _^_, _≤_, _<_}
 use native.Mathlib.Omega.{arith}
 use native.Mathlib.Nat.{pow-suc}
@@ -12,7 +12,7 @@ use lib.ListN.{length, getD, take, replicate, length-append, replicate-append-re
 use lib.Seq.{sets, take-suc, length-take-le}
 use Rattle.text_columns.specs.declared.Scan.{Scan}
 use Rattle.text_columns.specs.declared.Scan.the-variants.{Blank, Minus, Zero, Whole, Negative, Bad}
-use Rattle.text_columns.specs.Columns.{lead, inSix, columnOf, columnsOf, lineOf, place, isLead, isDigit, afterBlank, afterMinus, step, scan, sizeOf}
+use Rattle.text_columns.specs.Columns.{lead, inSix, columnOf, columnsOf, lineOf, blankOrDigit, isLead, isDigit, afterBlank, afterMinus, step, scan, sizeOf}
 use Rattle.runs.proofs.Runs.{sets-next}
 
 -- ---- tests
@@ -82,31 +82,31 @@ pub scan-again : (l : List ℕ) (i : ℕ) {s s′ : Scan} → s ≡ scan l i →
 unfolding scan
 scan-again l i e h = rw (add-one i) (rw e at h)
 
--- ---- the six places of a column
+-- ---- the six six-bytes of a column
 
 pub blanks : (w : ℕ) → lead false w 0 ≡ replicate w 32
 unfolding lead
 blanks zero = refl
 blanks (suc w) = replicate-append-replicate w 1 32 ∙ ap (λ (n : ℕ). replicate n 32) (add-one w)
 
-one-place : (w n : ℕ) → lead false (suc w) n ≡ lead false w (n / 10) ++ (place n ∷ [])
-unfolding lead place
-one-place w n = go (eqb n 0) refl
+one-digit : (w n : ℕ) → lead false (suc w) n ≡ lead false w (n / 10) ++ (blankOrDigit n ∷ [])
+unfolding lead blankOrDigit
+one-digit w n = go (eqb n 0) refl
   where
     go : (b : Bool) → eqb n 0 ≡ b → cond b (replicate w 32 ++ (32 ∷ [])) (lead false w (n / 10) ++ ((48 + n % 10) ∷ [])) ≡ lead false w (n / 10) ++ (cond b 32 (48 + n % 10) ∷ [])
     go true e = let z : n / 10 ≡ 0 = omega (arith, eqb-true n 0 e) in rw (z, blanks w)
     go false e = refl
 
-no-place : (m : ℕ) → lead false 0 m ≡ []
+no-digit : (m : ℕ) → lead false 0 m ≡ []
 unfolding lead
-no-place m = refl
+no-digit m = refl
 
-pub places : (n : ℕ) → columnOf n ≡ place (n / 10 / 10 / 10 / 10 / 10) ∷ place (n / 10 / 10 / 10 / 10) ∷ place (n / 10 / 10 / 10) ∷ place (n / 10 / 10) ∷ place (n / 10) ∷ (48 + n % 10) ∷ []
+pub six-bytes : (n : ℕ) → columnOf n ≡ blankOrDigit (n / 10 / 10 / 10 / 10 / 10) ∷ blankOrDigit (n / 10 / 10 / 10 / 10) ∷ blankOrDigit (n / 10 / 10 / 10) ∷ blankOrDigit (n / 10 / 10) ∷ blankOrDigit (n / 10) ∷ (48 + n % 10) ∷ []
 unfolding inSix
-places n = rw (one-place 4 (n / 10), one-place 3 (n / 10 / 10), one-place 2 (n / 10 / 10 / 10), one-place 1 (n / 10 / 10 / 10 / 10), one-place 0 (n / 10 / 10 / 10 / 10 / 10), no-place (n / 10 / 10 / 10 / 10 / 10 / 10))
+six-bytes n = rw (one-digit 4 (n / 10), one-digit 3 (n / 10 / 10), one-digit 2 (n / 10 / 10 / 10), one-digit 1 (n / 10 / 10 / 10 / 10), one-digit 0 (n / 10 / 10 / 10 / 10 / 10), no-digit (n / 10 / 10 / 10 / 10 / 10 / 10))
 
 pub column-length : (n : ℕ) → length (columnOf n) ≡ 6
-column-length n = ap length (places n)
+column-length n = ap length (six-bytes n)
 
 pub columns-length : (ns : List ℕ) → length (columnsOf ns) ≡ 6 * length ns
 unfolding columnsOf

@@ -49,8 +49,8 @@ unfoldable pub lineOf : List ℕ → List ℕ
 lineOf ns = columnsOf ns ++ (10 ∷ [])
 
 -- the last digit of n, or a blank where no digit is left
-unfoldable pub place : ℕ → ℕ
-place n = cond (eqb n 0) 32 (48 + n % 10)
+unfoldable pub blankOrDigit : ℕ → ℕ
+blankOrDigit n = cond (eqb n 0) 32 (48 + n % 10)
 
 -- ---- reading, byte by byte: blanks, then a minus or none, then digits, the first of them not 0; or blanks and 0
 

@@ -6,7 +6,7 @@ ghost use mathlib.Core.List.{[], _∷_};
 ghost use Prim.Native.Nat.{_+_, _*_, _<_, _≤_};
 ghost use lib.ListN.{length};
 ghost use lib.Seq.{sets};
-ghost use Rattle.text_columns.specs.Columns.{isLead, isDigit, afterBlank, afterMinus, step, scan, isNumber, isWhole, sizeOf, doubleOf, place, columnOf, columnsOf, lineOf};
+ghost use Rattle.text_columns.specs.Columns.{isLead, isDigit, afterBlank, afterMinus, step, scan, isNumber, isWhole, sizeOf, doubleOf, blankOrDigit, columnOf, columnsOf, lineOf};
 
 // What the bytes of a column have shown so far.
 pub enum Scan {
@@ -172,8 +172,8 @@ pub fn double(s: Scan) -> f64
 // ---- writing
 
 // The last digit of n, or a blank where no digit is left.
-fn place_of(n: u64) -> u8
-    ensures { λ r. ⌜ r ≡ place n ⌝ }
+fn blank_or_digit(n: u64) -> u8
+    ensures { λ r. ⌜ r ≡ blankOrDigit n ⌝ }
 {
     if n == 0 {
         return 32;
@@ -205,11 +205,11 @@ pub fn put_column(out: &mut [u8], at: usize, n: u64)
     put_six(
         out,
         at,
-        place_of(d / 10),
-        place_of(d),
-        place_of(c),
-        place_of(b),
-        place_of(a),
+        blank_or_digit(d / 10),
+        blank_or_digit(d),
+        blank_or_digit(c),
+        blank_or_digit(b),
+        blank_or_digit(a),
         (48 + n % 10) as u8,
     );
 }

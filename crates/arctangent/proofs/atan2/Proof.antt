@@ -75,12 +75,12 @@ returns-7 c = simp (← c .before .before .before .before .before .before .befor
 atan-ratio-requires : tie.Need-atan-ratio-requires
 atan-ratio-requires c κs = search needs
 
-place-requires : tie.Need-place-requires
-place-requires c κs = search needs
+in-quadrant-requires : tie.Need-in-quadrant-requires
+in-quadrant-requires c κs = search needs
 
 returns-8 : tie.Need-returns-8
 unfolding atan2Of
-returns-8 c = simp (← c .before .before .before .before .before .before .before .before .before .before .before .before .before .before .before .before .is-nan .ensures, c .before .before .before .before .before .before .before .before .before .before .before .before .before .before .before .if1 .left, ← c .before .before .before .before .before .before .before .before .before .before .before .before .before .before .is-nan2 .ensures, c .before .before .before .before .before .before .before .before .before .before .before .before .before .if2 .left, ← c .before .before .before .before .before .before .before .before .before .before .before .before .is-one .ensures, c .before .before .before .before .before .before .before .before .before .before .before .if3 .left, ← c .before .before .before .before .before .before .before .before .before .before .quadrant-of .ensures, ← c .before .before .before .before .before .before .before .before .before .is-zero .ensures, c .before .before .before .before .before .before .before .before .if4 .left, ← c .before .before .before .before .before .before .before .is-zero2 .ensures, c .before .before .before .before .before .before .if5 .left, ← c .before .before .before .before .before .high-word .ensures, ← c .before .before .before .before .high-word2 .ensures, ne-eqb _ _ (c .before .before .before .if6 .left), ne-eqb _ _ (c .before .before .if7 .left), c .before .atan-ratio .ensures, c .place .ensures)
+returns-8 c = simp (← c .before .before .before .before .before .before .before .before .before .before .before .before .before .before .before .before .is-nan .ensures, c .before .before .before .before .before .before .before .before .before .before .before .before .before .before .before .if1 .left, ← c .before .before .before .before .before .before .before .before .before .before .before .before .before .before .is-nan2 .ensures, c .before .before .before .before .before .before .before .before .before .before .before .before .before .if2 .left, ← c .before .before .before .before .before .before .before .before .before .before .before .before .is-one .ensures, c .before .before .before .before .before .before .before .before .before .before .before .if3 .left, ← c .before .before .before .before .before .before .before .before .before .before .quadrant-of .ensures, ← c .before .before .before .before .before .before .before .before .before .is-zero .ensures, c .before .before .before .before .before .before .before .before .if4 .left, ← c .before .before .before .before .before .before .before .is-zero2 .ensures, c .before .before .before .before .before .before .if5 .left, ← c .before .before .before .before .before .high-word .ensures, ← c .before .before .before .before .high-word2 .ensures, ne-eqb _ _ (c .before .before .before .if6 .left), ne-eqb _ _ (c .before .before .if7 .left), c .before .atan-ratio .ensures, c .in-quadrant .ensures)
 
 pub atan2-spec : {M : Type 1} → statement M
 atan2-spec =
@@ -107,5 +107,5 @@ atan2-spec =
     upright-of-requires-2
     returns-7
     atan-ratio-requires
-    place-requires
+    in-quadrant-requires
     returns-8)

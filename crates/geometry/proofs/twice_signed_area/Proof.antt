@@ -1,5 +1,5 @@
 -- `geometry::twice_signed_area` meets its contract: each return opens the definition and rewrites it by the tests and the calls on its way.
-use Rattle.geometry.specs.Triangle.{turn}
+use Rattle.geometry.specs.Triangle.{orientation}
 use borrow.Author.Needs.{needs}
 use Rattle.geometry.proofs.twice_signed_area.Statement.{statement}
 use Rattle.geometry.proofs.twice_signed_area.Tie as tie
@@ -23,7 +23,7 @@ cross2-requires : tie.Need-cross2-requires
 cross2-requires c κs = search needs
 
 returns : tie.Need-returns
-unfolding turn
+unfolding orientation
 returns c = simp (c .cross2 .ensures, c .before .sub22 .ensures, c .before .before .before .sub2 .ensures)
 
 pub twice-signed-area-spec : {M : Type 1} → statement M

@@ -1,5 +1,5 @@
 -- `pass_assembly::add_terms` meets its contract: the calls' contracts, one after the other; the laws are in proofs/Turns.
-use Rattle.pass_assembly.proofs.Turns.{terms-all}
+use Rattle.pass_assembly.proofs.Rounds.{terms-all}
 use borrow.Author.Needs.{needs}
 use Rattle.pass_assembly.proofs.add_terms.Statement.{statement}
 use Rattle.pass_assembly.proofs.add_terms.Tie as tie

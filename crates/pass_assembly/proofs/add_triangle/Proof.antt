@@ -1,6 +1,6 @@
 -- `pass_assembly::add_triangle` meets its contract: the calls' contracts, one after the other; the laws are in proofs/Turns and proofs/Floors.
 use Rattle.pass_assembly.proofs.Floors.{terms-in, both-within}
-use Rattle.pass_assembly.proofs.Turns.{triangle-all}
+use Rattle.pass_assembly.proofs.Rounds.{triangle-all}
 use borrow.Author.Needs.{needs}
 use Rattle.pass_assembly.proofs.add_triangle.Statement.{statement}
 use Rattle.pass_assembly.proofs.add_triangle.Tie as tie

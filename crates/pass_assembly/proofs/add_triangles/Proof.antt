@@ -1,6 +1,6 @@
 -- `pass_assembly::add_triangles` meets its contract: the loop keeps what `Inv-loop` says, and what is left to do falls at each turn; the laws are in proofs/Turns.
 use native.Mathlib.Omega.{arith}
-use Rattle.pass_assembly.proofs.Turns.{to-again, to-done}
+use Rattle.pass_assembly.proofs.Rounds.{to-again, to-done}
 use Rattle.pass_assembly.specs.Work.{assembledTo}
 use lib.ListN.{length}
 use mathlib.Core.Path.{_≡_}

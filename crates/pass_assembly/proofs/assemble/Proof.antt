@@ -1,5 +1,5 @@
 -- `pass_assembly::assemble` meets its contract: the calls' contracts, one after the other; the laws are in proofs/Turns.
-use Rattle.pass_assembly.proofs.Turns.{cleared-room, cleared-none, assemble-all}
+use Rattle.pass_assembly.proofs.Rounds.{cleared-room, cleared-none, assemble-all}
 use borrow.Author.Needs.{needs}
 use Rattle.pass_assembly.proofs.assemble.Statement.{statement}
 use Rattle.pass_assembly.proofs.assemble.Tie as tie

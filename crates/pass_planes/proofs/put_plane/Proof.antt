@@ -1,6 +1,7 @@
 -- `pass_planes::put_plane` meets its contract: the loop keeps what `Inv-loop` says, and what is left to do falls at each turn; the laws are those of crate linear_cells.
+use Rattle.edges.specs.Table.{cutsIn}
 use Rattle.pass_planes.proofs.Points.{plane-done}
-use Rattle.pass_planes.specs.Planes.{cutsIn, coordinateAt}
+use Rattle.pass_planes.specs.Planes.{coordinateAt}
 use Rattle.linear_cells.specs.Region.{put}
 use Rattle.linear_cells.proofs.Writes.{writeTo, write-none, write-again, write-done}
 use lib.Ieee.{nan}
@@ -24,8 +25,8 @@ add-count c = search needs
 loop-holds : tie.Need-loop-holds Inv-loop μ-loop
 loop-holds c = search (write-none, needs)
 
-coordinate-turn-requires : tie.Need-coordinate-turn-requires Inv-loop μ-loop
-coordinate-turn-requires c κs = search needs
+coordinate-step-requires : tie.Need-coordinate-step-requires Inv-loop μ-loop
+coordinate-step-requires c κs = search needs
 
 add-v : tie.Need-add-v Inv-loop μ-loop
 add-v c = search needs
@@ -50,7 +51,7 @@ put-plane-spec =
     μ-loop
     add-count
     loop-holds
-    coordinate-turn-requires
+    coordinate-step-requires
     add-v
     loop-less
     loop-again

@@ -1,6 +1,7 @@
 -- `pass_planes::put_values` meets its contract: the loop keeps what `Inv-loop` says, and what is left to do falls at each turn; the laws are those of crate linear_cells.
+use Rattle.edges.specs.Table.{cutsIn}
 use Rattle.pass_planes.proofs.Points.{values-done}
-use Rattle.pass_planes.specs.Planes.{cutsIn, valuePlane}
+use Rattle.pass_planes.specs.Planes.{valuePlane}
 use Rattle.linear_cells.specs.Region.{put}
 use Rattle.linear_cells.proofs.Writes.{writeTo, write-none, write-again, write-done}
 use lib.Ieee.{nan}
@@ -24,8 +25,8 @@ add-count c = search needs
 loop-holds : tie.Need-loop-holds Inv-loop μ-loop
 loop-holds c = search (write-none, needs)
 
-value-turn-requires : tie.Need-value-turn-requires Inv-loop μ-loop
-value-turn-requires c κs = search needs
+value-step-requires : tie.Need-value-step-requires Inv-loop μ-loop
+value-step-requires c κs = search needs
 
 add-v : tie.Need-add-v Inv-loop μ-loop
 add-v c = search needs
@@ -50,7 +51,7 @@ put-values-spec =
     μ-loop
     add-count
     loop-holds
-    value-turn-requires
+    value-step-requires
     add-v
     loop-less
     loop-again

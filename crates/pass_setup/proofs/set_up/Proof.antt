@@ -1,6 +1,6 @@
 -- `pass_setup::set_up` meets its contract: each return follows from the tests and the calls on its way; the laws are in proofs/Turn.
 use native.Mathlib.Omega.{arith}
-use Rattle.pass_setup.proofs.Turn.{stays, row-19, turned}
+use Rattle.pass_setup.proofs.Wind.{stays, row-19, turned}
 use Rattle.pass_setup.proofs.Slices.{set-up-then, ordered-now}
 use borrow.Author.Needs.{needs}
 use Rattle.pass_setup.proofs.set_up.Statement.{statement}

@@ -1,7 +1,7 @@
 -- `refinement::pieces_of` meets its contract: each return opens the definition and rewrites it by the tests and the calls on its way; the laws are in proofs/Parts.
 use Rattle.mesh.specs.Mesh.{mid}
-use Rattle.refinement.specs.Steps.{cutsIn}
 use borrow.Author.Needs.{needs}
+use Rattle.edges.specs.Table.{cutsIn}
 use Rattle.refinement.proofs.Parts.{rows-of}
 use Rattle.refinement.proofs.pieces_of.Statement.{statement}
 use Rattle.refinement.proofs.pieces_of.Tie as tie

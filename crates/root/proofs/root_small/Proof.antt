@@ -1,4 +1,4 @@
--- `root::root_small` meets its contract: the doublings that are to come lead to the definition's digits and place. Assumes nothing.
+-- `root::root_small` meets its contract: the doublings that are to come lead to the definition's digits and exponentOf. Assumes nothing.
 use mathlib.Core.Path.{_∙_}
 use Prim.Native.Nat.{_+_}
 use native.Mathlib.Omega.{arith}

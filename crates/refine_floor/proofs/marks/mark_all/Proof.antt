@@ -2,7 +2,7 @@
 use Prim.Native.Nat.{_-_, _≤_}
 use native.Mathlib.Omega.{arith}
 use mathlib.Core.Path.{_≡_}
-use Rattle.edges.specs.Apart.{sidesAt}
+use Rattle.edges.specs.TwoSlices.{sidesAt}
 use Rattle.refine_floor.specs.Marks.{MarksTo}
 use Rattle.refine_floor.proofs.Marking.{marks-none, marks-again, marks-held, marks-cut}
 use borrow.Author.Needs.{needs}

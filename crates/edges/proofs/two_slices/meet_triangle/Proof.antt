@@ -1,8 +1,8 @@
--- `edges::apart::meet_triangle` meets its contract: three sides are met, one after the other; the law is in proofs/TwoSlices.
+-- `edges::two_slices::meet_triangle` meets its contract: three sides are met, one after the other; the law is in proofs/TwoSlices.
 use Rattle.edges.proofs.TwoSlices.{met-three}
 use borrow.Author.Needs.{needs}
-use Rattle.edges.proofs.apart.meet_triangle.Statement.{statement}
-use Rattle.edges.proofs.apart.meet_triangle.Tie as tie
+use Rattle.edges.proofs.two_slices.meet_triangle.Statement.{statement}
+use Rattle.edges.proofs.two_slices.meet_triangle.Tie as tie
 
 meet-side-requires : tie.Need-meet-side-requires
 meet-side-requires c κs = search needs

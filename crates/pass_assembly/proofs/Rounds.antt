@@ -15,9 +15,9 @@ use Rattle.linear_cells.specs.Region.{region, put}
 use Rattle.linear_cells.specs.Cell.{reOf, imOf, flat, putC}
 use Rattle.linear_hermitian.specs.declared.Hermitian.{Hermitian}
 use Rattle.pass_assembly.specs.declared.Triple.{Triple}
-use Rattle.pass_assembly.specs.declared.Plan.{Plan}
+use Rattle.pass_assembly.specs.declared.AssemblyPlan.{AssemblyPlan}
 use Rattle.pass_assembly.specs.Assembly.{Floor, termsAt}
-use Rattle.pass_assembly.specs.Work.{Sums, tripleFrom, floorFrom, termsFrom, read, lay, sumsTo, assembledTo, AddRoom, Room, Indexed}
+use Rattle.pass_assembly.specs.Work.{Sums, tripleFrom, floorFrom, termsFrom, read, lay, sumsTo, assembledTo, AddRoom, AssemblyRoom, Indexed}
 use Rattle.pass_assembly.specs.Work.{cornersAdded, sidesAdded, correctionAdded, partAdded, added, triangleAdded, cleared}
 use Rattle.pass_assembly.proofs.Adds.{length-cornersAdded, length-sidesAdded, length-correctionAdded}
 use Rattle.pass_assembly.proofs.Lays.{Sized, read-sized, lay-read, length-lay, get-all, get-mass-diagonal, get-mass-off, get-energy-diagonal, get-energy-off, put-mass-diagonal, put-mass-off, put-energy-diagonal, put-energy-off, lay-then, lay-below}
@@ -110,7 +110,7 @@ terms-all w mass energy ok c s h z {w₁} {w₂} e₁ e₂ e₃ =
 
 -- ---- one triangle
 
-pub triangle-all : (m : Mode) (w : List Float) (u : List ℕ) (l : Plan) (mass energy : Hermitian) (t : ℕ) {c s : Triple} {z : Terms} {w₁ : List Float}
+pub triangle-all : (m : Mode) (w : List Float) (u : List ℕ) (l : AssemblyPlan) (mass energy : Hermitian) (t : ℕ) {c s : Triple} {z : Terms} {w₁ : List Float}
     → c ≡ tripleFrom (l .corners) u t → s ≡ tripleFrom (l .numbers) u t → z ≡ termsFrom m w l (mass .edges) c s t
     → w₁ ≡ lay w mass energy (added (m .holomorphic) c s z (read w mass energy)) → w₁ ≡ triangleAdded m u l mass energy t w
 unfolding triangleAdded
@@ -118,15 +118,15 @@ triangle-all m w u l mass energy t p q r e = e ∙ rw (r, p, q)
 
 -- ---- all of them
 
-module _ (m : Mode) (w : List Float) (u : List ℕ) (l : Plan) (mass energy : Hermitian) where
-  to-sized : {lenu : ℕ} → Room (length w) lenu l mass energy → (t : ℕ) → Sized mass energy (sumsTo m (floorFrom w u l (mass .edges)) (mass .size) (mass .edges) t)
+module _ (m : Mode) (w : List Float) (u : List ℕ) (l : AssemblyPlan) (mass energy : Hermitian) where
+  to-sized : {lenu : ℕ} → AssemblyRoom (length w) lenu l mass energy → (t : ℕ) → Sized mass energy (sumsTo m (floorFrom w u l (mass .edges)) (mass .size) (mass .edges) t)
   to-sized ok t = sums-sized m (floorFrom w u l (mass .edges)) t mass energy (ok .matrices .one-size) (ok .matrices .one-graph)
 
   pub length-to : (t : ℕ) → length (assembledTo m w u l mass energy t) ≡ length w
   unfolding assembledTo
   length-to t = length-lay w mass energy _
 
-  pub to-again : Room (length w) (length u) l mass energy → Indexed u l (mass .size) (mass .edges) → (t : ℕ) → t < l .triangles → {w₁ w₂ : List Float}
+  pub to-again : AssemblyRoom (length w) (length u) l mass energy → Indexed u l (mass .size) (mass .edges) → (t : ℕ) → t < l .triangles → {w₁ w₂ : List Float}
       → w₁ ≡ assembledTo m w u l mass energy t → w₂ ≡ triangleAdded m u l mass energy t w₁ → w₂ ≡ assembledTo m w u l mass energy (t + 1)
   unfolding assembledTo triangleAdded termsFrom termsAt floorFrom
   to-again ok ix t h {w₁} {w₂} e₁ e₂ =
@@ -197,13 +197,13 @@ both-cleared w mass energy ok {w₁} e₁ e₂ =
     let f₁ : w₁ ≡ lay w mass energy (mass-zeros w mass energy ok v y) = e₁ ∙ ap (cleared mass) (lay-read w mass energy) ∙ clear-mass w mass energy ok v y in
     e₂ ∙ ap (cleared energy) f₁ ∙ clear-energy w mass energy ok (mass-zeros w mass energy ok v y) (mass-zeros-sized w mass energy ok v y) ∙ rw (ok .one-size, ok .one-graph)
 
-pub cleared-room : (w : List Float) (l : Plan) (mass energy : Hermitian) {lenu : ℕ} → Room (length w) lenu l mass energy → {w₁ w₂ : List Float} → w₁ ≡ cleared mass w
-    → w₂ ≡ cleared energy w₁ → Room (length w₂) lenu l mass energy
+pub cleared-room : (w : List Float) (l : AssemblyPlan) (mass energy : Hermitian) {lenu : ℕ} → AssemblyRoom (length w) lenu l mass energy → {w₁ w₂ : List Float} → w₁ ≡ cleared mass w
+    → w₂ ≡ cleared energy w₁ → AssemblyRoom (length w₂) lenu l mass energy
 cleared-room w l mass energy ok {w₁} {w₂} e₁ e₂ =
     let k : length w₂ ≡ length w = ap length (both-cleared w mass energy (ok .matrices) e₁ e₂) ∙ length-lay w mass energy (zeros (mass .size) (mass .edges)) in
     rw k ok
 
-module _ (m : Mode) (w : List Float) (u : List ℕ) (l : Plan) (mass energy : Hermitian) (ok : Room (length w) (length u) l mass energy) {w₁ w₂ : List Float} (e₁ : w₁ ≡ cleared mass w) (e₂ : w₂ ≡ cleared energy w₁) where
+module _ (m : Mode) (w : List Float) (u : List ℕ) (l : AssemblyPlan) (mass energy : Hermitian) (ok : AssemblyRoom (length w) (length u) l mass energy) {w₁ w₂ : List Float} (e₁ : w₁ ≡ cleared mass w) (e₂ : w₂ ≡ cleared energy w₁) where
   start : (f : Floor) → w₂ ≡ lay w mass energy (sumsTo m f (mass .size) (mass .edges) 0)
   start f = both-cleared w mass energy (ok .matrices) e₁ e₂ ∙ ap (lay w mass energy) (sums-none m f (mass .size) (mass .edges))
 

@@ -1,10 +1,10 @@
--- `edges::apart::find_or_insert` meets its contract: a side that the walk found stays, any other is put where the walk ended; the laws are in proofs/TwoSlices.
+-- `edges::two_slices::find_or_insert` meets its contract: a side that the walk found stays, any other is put where the walk ended; the laws are in proofs/TwoSlices.
 use native.Mathlib.Omega.{arith}
 use lib.ListN.{length-set}
 use Rattle.edges.proofs.TwoSlices.{spot-within, met-found, met-added}
 use borrow.Author.Needs.{needs}
-use Rattle.edges.proofs.apart.find_or_insert.Statement.{statement}
-use Rattle.edges.proofs.apart.find_or_insert.Tie as tie
+use Rattle.edges.proofs.two_slices.find_or_insert.Statement.{statement}
+use Rattle.edges.proofs.two_slices.find_or_insert.Tie as tie
 
 walk-requires : tie.Need-walk-requires
 walk-requires c κs = search needs

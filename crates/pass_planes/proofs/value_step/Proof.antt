@@ -1,8 +1,8 @@
--- `pass_planes::value_turn` meets its contract: what its calls ensure.
+-- `pass_planes::value_step` meets its contract: what its calls ensure.
 use mathlib.Core.Path.{_∙_}
 use borrow.Author.Needs.{needs}
-use Rattle.pass_planes.proofs.value_turn.Statement.{statement}
-use Rattle.pass_planes.proofs.value_turn.Tie as tie
+use Rattle.pass_planes.proofs.value_step.Statement.{statement}
+use Rattle.pass_planes.proofs.value_step.Tie as tie
 
 value-requires : tie.Need-value-requires
 value-requires c κs = search needs
@@ -16,5 +16,5 @@ same-length c = search needs
 returns : tie.Need-returns
 returns c = c .before .before .store-real .ensures ∙ rw (c .before .before .before .before .value .ensures)
 
-pub value-turn-spec : {M : Type 1} → statement M
-value-turn-spec = tie.close (tie.spec value-requires store-real-requires same-length returns)
+pub value-step-spec : {M : Type 1} → statement M
+value-step-spec = tie.close (tie.spec value-requires store-real-requires same-length returns)

@@ -1,5 +1,5 @@
 // A table of sides in two slices: `ends` has the lower and the upper end of each side and nothing else, `links` the buckets, from the table's base on, and two
-// links of each side. So the ends can stand where a caller wants them (specs/Apart.antt).
+// links of each side. So the ends can stand where a caller wants them (specs/TwoSlices.antt).
 use crate::Meeting;
 use crate::Meetings;
 use crate::Spot;
@@ -8,14 +8,14 @@ ghost use mathlib.Core.Path.{_≡_};
 ghost use Prim.Native.Nat.{_+_, _*_, _<_, _≤_, _^_};
 ghost use lib.ListN.{length, replicate};
 ghost use lib.Seq.{sets};
-ghost use Rattle.mesh.specs.Mesh.{side, key, tri, place};
+ghost use Rattle.mesh.specs.Mesh.{side, key, tri, indexIn};
 ghost use Rattle.edges.specs.Table.{oneMore};
-ghost use Rattle.edges.specs.Apart.{sidesAt, underAt, HeldApart, WalkedApart, MetApart, MetTriApart};
+ghost use Rattle.edges.specs.TwoSlices.{sidesAt, underAt, HeldInTwo, WalkedInTwo, MetInTwo, MetTriInTwo};
 
 // The walk to the side a b.
 fn walk(ends: &[u32], links: &[u32], t: Table, a: u32, b: u32) -> Spot
-    requires { ⌜ HeldApart (t .base) (t .buckets) (now ends) (now links) (t .sides) ⌝ }
-    ensures { λ r. ⌜ WalkedApart (t .base) (t .buckets) (now (ends .entry)) (now (links .entry)) (t .sides) a b (r .at) (r .position) ⌝ }
+    requires { ⌜ HeldInTwo (t .base) (t .buckets) (now ends) (now links) (t .sides) ⌝ }
+    ensures { λ r. ⌜ WalkedInTwo (t .base) (t .buckets) (now (ends .entry)) (now (links .entry)) (t .sides) a b (r .at) (r .position) ⌝ }
 {
     let mut position = t.base + crate::slot(t.buckets, a, b);
     let mut rest = crate::path(a, b);
@@ -34,8 +34,8 @@ fn walk(ends: &[u32], links: &[u32], t: Table, a: u32, b: u32) -> Spot
 
 // One more than the number of the side of u and v, or 0.
 pub fn find_side(ends: &[u32], links: &[u32], t: Table, u: u32, v: u32) -> usize
-    requires { ⌜ HeldApart (t .base) (t .buckets) (now ends) (now links) (t .sides) ⌝ }
-    ensures { λ r. ⌜ (r ≡ oneMore (place (key u v) (sidesAt (now (ends .entry)) (t .sides)))) × (r ≤ t .sides) ⌝ }
+    requires { ⌜ HeldInTwo (t .base) (t .buckets) (now ends) (now links) (t .sides) ⌝ }
+    ensures { λ r. ⌜ (r ≡ oneMore (indexIn (key u v) (sidesAt (now (ends .entry)) (t .sides)))) × (r ≤ t .sides) ⌝ }
 {
     if u < v {
         let s = walk(ends, links, t, u, v);
@@ -47,9 +47,9 @@ pub fn find_side(ends: &[u32], links: &[u32], t: Table, u: u32, v: u32) -> usize
 
 // The side a b, lower end first, is found or put into the table.
 fn find_or_insert(ends: &mut [u32], links: &mut [u32], t: Table, a: u32, b: u32) -> Meeting
-    requires { ⌜ HeldApart (t .base) (t .buckets) (now ends) (now links) (t .sides) ⌝ }
+    requires { ⌜ HeldInTwo (t .base) (t .buckets) (now ends) (now links) (t .sides) ⌝ }
     requires { ⌜ (2 * t .sides + 2 ≤ length (now ends)) × ((underAt (t .base) (t .buckets) (t .sides) + 2 ≤ length (now links)) × (t .sides + 1 < 2 ^ 32)) ⌝ }
-    ensures { λ r. ⌜ MetApart (t .base) (t .buckets) (now (ends .entry)) (now (links .entry)) (t .sides)
+    ensures { λ r. ⌜ MetInTwo (t .base) (t .buckets) (now (ends .entry)) (now (links .entry)) (t .sides)
         (now (ends .exit)) (now (links .exit)) (r .sides) (r .number) (side a b) ⌝ }
 {
     let s = walk(ends, links, t, a, b);
@@ -75,9 +75,9 @@ fn find_or_insert(ends: &mut [u32], links: &mut [u32], t: Table, a: u32, b: u32)
 
 // The side of u and v is met.
 pub fn meet_side(ends: &mut [u32], links: &mut [u32], t: Table, u: u32, v: u32) -> Meeting
-    requires { ⌜ HeldApart (t .base) (t .buckets) (now ends) (now links) (t .sides) ⌝ }
+    requires { ⌜ HeldInTwo (t .base) (t .buckets) (now ends) (now links) (t .sides) ⌝ }
     requires { ⌜ (2 * t .sides + 2 ≤ length (now ends)) × ((underAt (t .base) (t .buckets) (t .sides) + 2 ≤ length (now links)) × (t .sides + 1 < 2 ^ 32)) ⌝ }
-    ensures { λ r. ⌜ MetApart (t .base) (t .buckets) (now (ends .entry)) (now (links .entry)) (t .sides)
+    ensures { λ r. ⌜ MetInTwo (t .base) (t .buckets) (now (ends .entry)) (now (links .entry)) (t .sides)
         (now (ends .exit)) (now (links .exit)) (r .sides) (r .number) (key u v) ⌝ }
 {
     if u < v {
@@ -95,9 +95,9 @@ pub fn meet_triangle(
     b: u32,
     c: u32,
 ) -> Meetings
-    requires { ⌜ HeldApart (t .base) (t .buckets) (now ends) (now links) (t .sides) ⌝ }
+    requires { ⌜ HeldInTwo (t .base) (t .buckets) (now ends) (now links) (t .sides) ⌝ }
     requires { ⌜ (2 * t .sides + 6 ≤ length (now ends)) × ((underAt (t .base) (t .buckets) (t .sides) + 6 ≤ length (now links)) × (t .sides + 3 < 2 ^ 32)) ⌝ }
-    ensures { λ r. ⌜ MetTriApart (t .base) (t .buckets) (now (ends .entry)) (now (links .entry)) (t .sides)
+    ensures { λ r. ⌜ MetTriInTwo (t .base) (t .buckets) (now (ends .entry)) (now (links .entry)) (t .sides)
         (now (ends .exit)) (now (links .exit)) (r .sides) (r .ab) (r .bc) (r .ca) (tri a b c) ⌝ }
 {
     let p = meet_side(ends, links, t, a, b);

@@ -1,8 +1,8 @@
--- `edges::apart::meet_side` meets its contract: the side is met with the lower end first; the laws are in proofs/TwoSlices.
+-- `edges::two_slices::meet_side` meets its contract: the side is met with the lower end first; the laws are in proofs/TwoSlices.
 use Rattle.edges.proofs.TwoSlices.{met-key, met-key′}
 use borrow.Author.Needs.{needs}
-use Rattle.edges.proofs.apart.meet_side.Statement.{statement}
-use Rattle.edges.proofs.apart.meet_side.Tie as tie
+use Rattle.edges.proofs.two_slices.meet_side.Statement.{statement}
+use Rattle.edges.proofs.two_slices.meet_side.Tie as tie
 
 find-or-insert-requires : tie.Need-find-or-insert-requires
 find-or-insert-requires c κs = search needs

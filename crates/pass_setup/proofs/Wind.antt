@@ -24,12 +24,12 @@ use Rattle.pass_refusal.specs.Refusal.{row}
 use Rattle.pass_setup.specs.declared.Setup.{Setup}
 use Rattle.pass_setup.specs.declared.Setup.the-variants.{Refused}
 use Rattle.pass_setup.specs.Setup.{geometryAt, degenerateOf, areasOf, setupOf}
-use Rattle.pass_setup.specs.Work.{geometriesAt, Turned, SetUp}
+use Rattle.pass_setup.specs.Work.{geometriesAt, Wound, SetUp}
 use Rattle.pass_setup.proofs.Floors.{wound-at}
 use Rattle.pass_setup.proofs.Slices.{value-at, triangles-of, all-x, all-y, given-at, Stays, refused-by}
 
 module _ (l : Layout) (w : List Float) (u : List ℕ) (o : Ordered l (length w) (length u)) (below : Below (l .points) (l .given) u (3 * l .triangles)) where
-  pub room : geometries.Room (geometriesAt l) (length w) (length u)
+  pub room : geometries.GeometriesRoom (geometriesAt l) (length w) (length u)
   room = record { x-in = omega arith; y-in = omega arith; areas-in = omega arith; given-in = omega arith; wound-in = omega arith; narrow = omega arith }
 
   cornered : (i : ℕ) → i < l .triangles → Cornered (l .points) (triFrom (l .given) u i)
@@ -77,8 +77,8 @@ module _ (l : Layout) (w : List Float) (u : List ℕ) (o : Ordered l (length w) 
         tab-ext _ (λ i. areaOf (geometryAt (floorIn l w u) i)) (l .triangles) (λ i h. lists.area-at room below k i (omega arith) ∙ ap areaOf (same i h))
         ∙ ap (tab (λ i. areaOf (geometryAt (floorIn l w u) i))) (sym (triangles-of l w u (floorIn l w u) refl))
 
-    pub turned : l .triangles ≤ r → Turned l (floorIn l w₁ u₁) w₁ u₁
-    turned e = subst (λ (f : Floor). Turned l f w₁ u₁) (sym (stays .floor)) (record {
+    pub turned : l .triangles ≤ r → Wound l (floorIn l w₁ u₁) w₁ u₁
+    turned e = subst (λ (f : Floor). Wound l f w₁ u₁) (sym (stays .floor)) (record {
       floor = stays .floor;
       given-below = λ j h. rw (stays .words-below (l .given + j) (omega (arith, o .given-in))) (below j h);
       none = omega (arith, first, most, triangles-of l w u (floorIn l w u) refl);

@@ -1,10 +1,10 @@
--- `edges::apart::walk` meets its contract: the loop keeps a `Walk` to the side, and goes on to later sides only; the laws are in proofs/Tree and proofs/TwoSlices.
+-- `edges::two_slices::walk` meets its contract: the loop keeps a `Walk` to the side, and goes on to later sides only; the laws are in proofs/Tree and proofs/TwoSlices.
 use mathlib.Core.Path.{refl, sym, _∙_}
 use Rattle.edges.proofs.Tree.{left-over}
 use Rattle.edges.proofs.TwoSlices.{Going, going-start, going-on, going-found, going-none}
 use borrow.Author.Needs.{needs}
-use Rattle.edges.proofs.apart.walk.Statement.{statement}
-use Rattle.edges.proofs.apart.walk.Tie as tie
+use Rattle.edges.proofs.two_slices.walk.Statement.{statement}
+use Rattle.edges.proofs.two_slices.walk.Tie as tie
 
 abbrev Inv-loop : tie.InvT-loop
 Inv-loop ends links t a b position₀ rest₀ at₀ position rest at = Going (t .base) (t .buckets) ends links (t .sides) a b position rest at

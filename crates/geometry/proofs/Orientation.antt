@@ -1,7 +1,7 @@
 -- Row 19 refuses a triangle with two corners at one point, so an accepted one has three different corners (`three-corners`); and the exchange of
--- the second and third corner changes nothing in what triangle_geometry answers (`exchanged`): the turn is negated, or both turns are flat and both refused.
--- Positions are any: midpoints may overflow, and a NaN or an infinity changes nothing. No value is computed: a turn is flat (NaN, or a zero) where two
--- corners meet. The area of a NaN turn is no finite number. A zero turn has numbers for its differences, so that the sides from the first corner are numbers
+-- the second and third corner changes nothing in what triangle_geometry answers (`exchanged`): the orientation is negated, or both orientations are flat and both refused.
+-- Positions are any: midpoints may overflow, and a NaN or an infinity changes nothing. No value is computed: a orientation is flat (NaN, or a zero) where two
+-- corners meet. The area of a NaN orientation is no finite number. A zero orientation has numbers for its differences, so that the sides from the first corner are numbers
 -- too, the longest one also, which drops a NaN; and its area is at most any such longest side's share.
 use mathlib.Core.Path.{_≡_, refl, sym, ap, _∙_, subst}
 use mathlib.Core.Logic.{_⊎_, inl, inr, ⊎-elim, _≢_}
@@ -15,10 +15,10 @@ use lib.Ieee.{Float, nan, inf, fin, Format, binary64, up, down, round, sum, neg,
 use lib.Ieee.Fits.{down-pos}
 use Rattle.float.specs.Double.{lit, mag, isFinite, maxOf, _⊖_, _⊗_}
 use Rattle.float.proofs.Less.{level-self}
-use Rattle.float.proofs.Sign.{Flat, Plain, Number, Turned, flat-round, plain-round, mul-either, sub-turned, mag-neg, lt-neg, flat-between, square-plain, add-plain, max-plain, mul-plain, flat-le}
+use Rattle.float.proofs.Sign.{Flat, Plain, Number, Opposite, flat-round, plain-round, mul-either, sub-opposite, mag-neg, lt-neg, flat-between, square-plain, add-plain, max-plain, mul-plain, flat-le}
 use Rattle.plane.specs.declared.Pair.{Pair}
 use Rattle.geometry.specs.declared.Geometry.the-variants.{Degenerate}
-use Rattle.geometry.specs.Triangle.{turn, side2, longest, areaOf, degenerate, placed, geometry, number, at}
+use Rattle.geometry.specs.Triangle.{orientation, side2, longest, areaOf, degenerate, placed, geometry, number, at}
 
 -- ---- zeros
 zero-sum : (f : Format) (s t : Bool) (a b c : ℕ) → 0 < c → a ≡ 0 → b ≡ 0 → Flat (sum f s a t b c)
@@ -133,7 +133,7 @@ max-bare x nan h g = max-nan x h
 max-bare x (inf t) h g = max-plain x (inf t) h g
 max-bare x (fin t n d) h g = max-plain x (fin t n d) h g
 
--- ---- a flat turn is refused
+-- ---- a flat orientation is refused
 side-bare : (p q : Pair) → Bare (side2 p q)
 unfolding side2
 side-bare p q = add-bare binary64 ((q .x ⊖ p .x) ⊗ (q .x ⊖ p .x)) ((q .y ⊖ p .y) ⊗ (q .y ⊖ p .y)) (square-bare binary64 (q .x ⊖ p .x)) (square-bare binary64 (q .y ⊖ p .y))
@@ -150,10 +150,10 @@ longest-plain : (p q r : Pair) → Way p q → Plain (longest p q r)
 unfolding longest
 longest-plain p q r h = max-bare (maxOf (side2 p q) (side2 q r)) (side2 r p) (max-bare (side2 p q) (side2 q r) (side-plain p q h) (side-bare q r)) (side-bare r p)
 
--- both ways from the first corner are, where the turn is a number
-turn-ways : (p q r : Pair) → Number (turn p q r) → Way p q × Way p r
-unfolding turn
-turn-ways p q r h =
+-- both ways from the first corner are, where the orientation is a number
+orientation-ways : (p q r : Pair) → Number (orientation p q r) → Way p q × Way p r
+unfolding orientation
+orientation-ways p q r h =
     let d = sub-parts binary64 ((q .x ⊖ p .x) ⊗ (r .y ⊖ p .y)) ((q .y ⊖ p .y) ⊗ (r .x ⊖ p .x)) h in
     let a = mul-parts binary64 (q .x ⊖ p .x) (r .y ⊖ p .y) (d .0) in
     let b = mul-parts binary64 (q .y ⊖ p .y) (r .x ⊖ p .x) (d .1) in
@@ -180,33 +180,33 @@ flat-placed : (i j k t : ℕ) (p q r : Pair) (w : Float) → Flat w → (Number 
 unfolding placed degenerate
 flat-placed i j k t p q r w h way = rw (flat-area w (lit 0x3d06_849b_86a1_2b9b ⊗ longest p q r) h (λ n. scaled-plain (longest p q r) (longest-plain p q r (way n))))
 
-pub flat-degenerate : (i j k t : ℕ) (p q r : Pair) → Flat (turn p q r) → geometry i j k p q r t ≡ Degenerate t
+pub flat-degenerate : (i j k t : ℕ) (p q r : Pair) → Flat (orientation p q r) → geometry i j k p q r t ≡ Degenerate t
 unfolding geometry
-flat-degenerate i j k t p q r h = go (lt (turn p q r) (lit 0))
+flat-degenerate i j k t p q r h = go (lt (orientation p q r) (lit 0))
   where
-    go : (l : Bool) → cond l (placed i k j p r q (areaOf (turn p q r)) t) (placed i j k p q r (areaOf (turn p q r)) t) ≡ Degenerate t
-    go true = flat-placed i k j t p r q (turn p q r) h (λ n. turn-ways p q r n .1)
-    go false = flat-placed i j k t p q r (turn p q r) h (λ n. turn-ways p q r n .0)
+    go : (l : Bool) → cond l (placed i k j p r q (areaOf (orientation p q r)) t) (placed i j k p q r (areaOf (orientation p q r)) t) ≡ Degenerate t
+    go true = flat-placed i k j t p r q (orientation p q r) h (λ n. orientation-ways p q r n .1)
+    go false = flat-placed i j k t p q r (orientation p q r) h (λ n. orientation-ways p q r n .0)
 
 -- ---- two corners at one point
-flat-12 : (a c : Pair) → Flat (turn a a c)
-unfolding turn
+flat-12 : (a c : Pair) → Flat (orientation a a c)
+unfolding orientation
 flat-12 a c =
     sub-flat binary64 ((a .x ⊖ a .x) ⊗ (c .y ⊖ a .y)) ((a .y ⊖ a .y) ⊗ (c .x ⊖ a .x))
     (mul-flat binary64 (a .x ⊖ a .x) (c .y ⊖ a .y) (sub-self binary64 (a .x))) (mul-flat binary64 (a .y ⊖ a .y) (c .x ⊖ a .x) (sub-self binary64 (a .y)))
 
-flat-23 : (a b : Pair) → Flat (turn a b b)
-unfolding turn
+flat-23 : (a b : Pair) → Flat (orientation a b b)
+unfolding orientation
 flat-23 a b = rw (mul-either binary64 (b .x ⊖ a .x) (b .y ⊖ a .y)) (sub-self binary64 ((b .y ⊖ a .y) ⊗ (b .x ⊖ a .x)))
 
--- the turn of b and c exchanged
-turn-exchanged : (a b c : Pair) → turn a c b ≡ sub binary64 ((b .y ⊖ a .y) ⊗ (c .x ⊖ a .x)) ((b .x ⊖ a .x) ⊗ (c .y ⊖ a .y))
-unfolding turn
-turn-exchanged a b c = rw (mul-either binary64 (c .x ⊖ a .x) (b .y ⊖ a .y), mul-either binary64 (c .y ⊖ a .y) (b .x ⊖ a .x))
+-- the orientation of b and c exchanged
+orientation-exchanged : (a b c : Pair) → orientation a c b ≡ sub binary64 ((b .y ⊖ a .y) ⊗ (c .x ⊖ a .x)) ((b .x ⊖ a .x) ⊗ (c .y ⊖ a .y))
+unfolding orientation
+orientation-exchanged a b c = rw (mul-either binary64 (c .x ⊖ a .x) (b .y ⊖ a .y), mul-either binary64 (c .y ⊖ a .y) (b .x ⊖ a .x))
 
-pub turn-turned : (a b c : Pair) → Turned (turn a b c) (turn a c b)
-unfolding turn
-turn-turned a b c = subst (λ (z : Float). Turned (turn a b c) z) (sym (turn-exchanged a b c)) (sub-turned binary64 ((b .x ⊖ a .x) ⊗ (c .y ⊖ a .y)) ((b .y ⊖ a .y) ⊗ (c .x ⊖ a .x)))
+pub orientation-opposite : (a b c : Pair) → Opposite (orientation a b c) (orientation a c b)
+unfolding orientation
+orientation-opposite a b c = subst (λ (z : Float). Opposite (orientation a b c) z) (sym (orientation-exchanged a b c)) (sub-opposite binary64 ((b .x ⊖ a .x) ⊗ (c .y ⊖ a .y)) ((b .y ⊖ a .y) ⊗ (c .x ⊖ a .x)))
 
 flat-neg : (x : Float) → Flat x → Flat (neg x)
 unfolding neg
@@ -214,12 +214,12 @@ flat-neg nan h = tt
 flat-neg (inf s) h = h
 flat-neg (fin s m e) h = h
 
-flat-turned : (x y : Float) → Turned x y → Flat x → Flat y
-flat-turned x y (inl e) h = subst Flat (sym e) (flat-neg x h)
-flat-turned x y (inr e) h = subst Flat (sym (e .0)) h
+flat-opposite : (x y : Float) → Opposite x y → Flat x → Flat y
+flat-opposite x y (inl e) h = subst Flat (sym e) (flat-neg x h)
+flat-opposite x y (inr e) h = subst Flat (sym (e .0)) h
 
-flat-13 : (a b : Pair) → Flat (turn a b a)
-flat-13 a b = flat-turned (turn a a b) (turn a b a) (turn-turned a a b) (flat-12 a b)
+flat-13 : (a b : Pair) → Flat (orientation a b a)
+flat-13 a b = flat-opposite (orientation a a b) (orientation a b a) (orientation-opposite a a b) (flat-12 a b)
 
 -- two corners that are one point: refusal 19
 pub same-12 : (i j k t : ℕ) (p r : Pair) → geometry i j k p p r t ≡ Degenerate t
@@ -257,21 +257,21 @@ unfolding areaOf
 area-neg t = ap (λ (z : Float). lit 0x3fe0_0000_0000_0000 ⊗ z) (mag-neg t)
 
 module _ (i j k t : ℕ) (p q r : Pair) where
-  negated : (l g : Bool) → lt (turn p q r) (lit 0) ≡ l → lt (lit 0) (turn p q r) ≡ g → (l ≡ true) ⊎ (g ≡ true) → turn p r q ≡ neg (turn p q r) → geometry i k j p r q t ≡ geometry i j k p q r t
+  negated : (l g : Bool) → lt (orientation p q r) (lit 0) ≡ l → lt (lit 0) (orientation p q r) ≡ g → (l ≡ true) ⊎ (g ≡ true) → orientation p r q ≡ neg (orientation p q r) → geometry i k j p r q t ≡ geometry i j k p q r t
   unfolding geometry
-  negated true g e f d n = rw (e, n, lt-neg (turn p q r), negative-positive (turn p q r) e, area-neg (turn p q r))
-  negated false true e f d n = rw (e, n, lt-neg (turn p q r), f, area-neg (turn p q r))
+  negated true g e f d n = rw (e, n, lt-neg (orientation p q r), negative-positive (orientation p q r) e, area-neg (orientation p q r))
+  negated false true e f d n = rw (e, n, lt-neg (orientation p q r), f, area-neg (orientation p q r))
   negated false false e f d n = ⊎-elim (λ z. never z refl) (λ z. never z refl) d
 
 -- the answer is the same in every bit: corners, positions and area, or refusal 19
 pub exchanged : (i j k t : ℕ) (p q r : Pair) → geometry i k j p r q t ≡ geometry i j k p q r t
-exchanged i j k t p q r = go (lt (turn p q r) (lit 0)) (lt (lit 0) (turn p q r)) refl refl (turn-turned p q r)
+exchanged i j k t p q r = go (lt (orientation p q r) (lit 0)) (lt (lit 0) (orientation p q r)) refl refl (orientation-opposite p q r)
   where
-    both : Flat (turn p q r) → geometry i k j p r q t ≡ geometry i j k p q r t
-    both f = flat-degenerate i k j t p r q (flat-turned (turn p q r) (turn p r q) (turn-turned p q r) f) ∙ sym (flat-degenerate i j k t p q r f)
+    both : Flat (orientation p q r) → geometry i k j p r q t ≡ geometry i j k p q r t
+    both f = flat-degenerate i k j t p r q (flat-opposite (orientation p q r) (orientation p r q) (orientation-opposite p q r) f) ∙ sym (flat-degenerate i j k t p q r f)
 
-    go : (l g : Bool) → lt (turn p q r) (lit 0) ≡ l → lt (lit 0) (turn p q r) ≡ g → Turned (turn p q r) (turn p r q) → geometry i k j p r q t ≡ geometry i j k p q r t
+    go : (l g : Bool) → lt (orientation p q r) (lit 0) ≡ l → lt (lit 0) (orientation p q r) ≡ g → Opposite (orientation p q r) (orientation p r q) → geometry i k j p r q t ≡ geometry i j k p q r t
     go l g e f (inr n) = both (n .1)
     go true g e f (inl n) = negated i j k t p q r true g e f (inl refl) n
     go false true e f (inl n) = negated i j k t p q r false true e f (inr refl) n
-    go false false e f (inl n) = both (flat-between (turn p q r) e f)
+    go false false e f (inl n) = both (flat-between (orientation p q r) e f)

@@ -1,8 +1,8 @@
--- `edges::apart::find_side` meets its contract: the walk is to the side with the lower end first; the laws are in proofs/TwoSlices.
+-- `edges::two_slices::find_side` meets its contract: the walk is to the side with the lower end first; the laws are in proofs/TwoSlices.
 use Rattle.edges.proofs.TwoSlices.{found-key, found-key′}
 use borrow.Author.Needs.{needs}
-use Rattle.edges.proofs.apart.find_side.Statement.{statement}
-use Rattle.edges.proofs.apart.find_side.Tie as tie
+use Rattle.edges.proofs.two_slices.find_side.Statement.{statement}
+use Rattle.edges.proofs.two_slices.find_side.Tie as tie
 
 walk-requires : tie.Need-walk-requires
 walk-requires c κs = search needs

@@ -5,7 +5,7 @@ use mathlib.Core.Path.{_≡_}
 use mathlib.Core.List.{List}
 use mathlib.Core.Option.{some}
 use lib.ListN.{length, getD}
-use Rattle.mesh.specs.Mesh.{Side, side, Tri, sides, met, metAll, place, Numbered}
+use Rattle.mesh.specs.Mesh.{Side, side, Tri, sides, met, metAll, indexIn, Numbered}
 use Rattle.edges.specs.Table.{pairs, Spot, Trees, Free, holdOf, oneMore, NumbersOf}
 
 abbrev pub loAt : List ℕ → ℕ → ℕ
@@ -22,7 +22,7 @@ abbrev pub sidesAt : List ℕ → ℕ → List Side
 sidesAt e m = pairs (loAt e) (hiAt e) m
 
 -- m sides stand in the slices, with N buckets
-pub record HeldApart (o N : ℕ) (e w : List ℕ) (m : ℕ) : Type 0 where
+pub record HeldInTwo (o N : ℕ) (e w : List ℕ) (m : ℕ) : Type 0 where
   pub buckets : 0 < N
   pub ends-in : 2 * m ≤ length e
   pub links-in : o + N + 2 * m ≤ length w
@@ -30,14 +30,14 @@ pub record HeldApart (o N : ℕ) (e w : List ℕ) (m : ℕ) : Type 0 where
   pub numbered : Numbered (sidesAt e m)
 
 -- the walk to the side a b, by what is at its end: one more than its number; or 0 and an empty position p, where it is to be put
-pub record WalkedApart (o N : ℕ) (e w : List ℕ) (m a b at p : ℕ) : Type 0 where
-  pub number : at ≡ oneMore (place (side a b) (sidesAt e m))
+pub record WalkedInTwo (o N : ℕ) (e w : List ℕ) (m a b at p : ℕ) : Type 0 where
+  pub number : at ≡ oneMore (indexIn (side a b) (sidesAt e m))
   pub few : at ≤ m
   pub spot : Spot o N (underAt o N) m p
   pub free : at ≡ 0 → Free o N (holdOf w) (underAt o N) m a b p
 
 -- both slices outside the table of m sides are as they were
-pub record OutsideApart (o N : ℕ) (e w : List ℕ) (m : ℕ) (e′ w′ : List ℕ) : Type 0 where
+pub record OutsideInTwo (o N : ℕ) (e w : List ℕ) (m : ℕ) (e′ w′ : List ℕ) : Type 0 where
   pub same-ends : length e′ ≡ length e
   pub same : length w′ ≡ length w
   pub ends-behind : (j : ℕ) → 2 * m ≤ j → getD e′ j 0 ≡ getD e j 0
@@ -45,18 +45,18 @@ pub record OutsideApart (o N : ℕ) (e w : List ℕ) (m : ℕ) (e′ w′ : List
   pub behind : (j : ℕ) → o + N + 2 * m ≤ j → getD w′ j 0 ≡ getD w j 0
 
 -- a side s was met, and has the number k: there were m sides, and now there are m′
-pub record MetApart (o N : ℕ) (e w : List ℕ) (m : ℕ) (e′ w′ : List ℕ) (m′ k : ℕ) (s : Side) : Type 0 where
-  pub held : HeldApart o N e′ w′ m′
+pub record MetInTwo (o N : ℕ) (e w : List ℕ) (m : ℕ) (e′ w′ : List ℕ) (m′ k : ℕ) (s : Side) : Type 0 where
+  pub held : HeldInTwo o N e′ w′ m′
   pub now-met : sidesAt e′ m′ ≡ met (sidesAt e m) s
-  pub number : place s (sidesAt e′ m′) ≡ some k
+  pub number : indexIn s (sidesAt e′ m′) ≡ some k
   pub more : m′ ≤ m + 1
-  pub outside : OutsideApart o N e w m′ e′ w′
+  pub outside : OutsideInTwo o N e w m′ e′ w′
 
 -- the three sides of a triangle were met, and have the numbers p, q and r
-pub record MetTriApart (o N : ℕ) (e w : List ℕ) (m : ℕ) (e′ w′ : List ℕ) (m′ p q r : ℕ) (t : Tri) : Type 0 where
-  pub held : HeldApart o N e′ w′ m′
+pub record MetTriInTwo (o N : ℕ) (e w : List ℕ) (m : ℕ) (e′ w′ : List ℕ) (m′ p q r : ℕ) (t : Tri) : Type 0 where
+  pub held : HeldInTwo o N e′ w′ m′
   pub now-met : sidesAt e′ m′ ≡ metAll (sidesAt e m) (sides t)
   pub numbers : NumbersOf t (sidesAt e′ m′) p q r
   pub more : m′ ≤ m + 3
   pub most : m ≤ m′
-  pub outside : OutsideApart o N e w m′ e′ w′
+  pub outside : OutsideInTwo o N e w m′ e′ w′
