@@ -41,38 +41,19 @@ pub fn linear_most(n: usize, iterations: usize) -> usize
     6000
 }
 
-fn reason_number(r: Reason) -> u64
-    ensures { λ k. ⌜ k ≡ reason r ⌝ }
-{
-    match r {
-        Reason::RightHandNorm => 3,
-        Reason::Diagonal(_) => 4,
-        Reason::FirstResidual => 5,
-        Reason::Denominator => 6,
-        Reason::LostDefiniteness => 7,
-        Reason::CountSpent => 8,
-        Reason::MassOfIterate => 9,
-    }
-}
-
-fn reason_place(r: Reason) -> u64
-    ensures { λ k. ⌜ k ≡ place r ⌝ }
-{
-    match r {
-        Reason::Diagonal(vertex) => vertex as u64,
-        Reason::RightHandNorm => 0,
-        Reason::FirstResidual => 0,
-        Reason::Denominator => 0,
-        Reason::LostDefiniteness => 0,
-        Reason::CountSpent => 0,
-        Reason::MassOfIterate => 0,
-    }
-}
-
+// The refusal that a reason of the linear solver stands for.
 fn gave_up(r: Reason) -> Stage
     ensures { λ s. ⌜ s ≡ Refused (gaveUp (reason r) (place r)) ⌝ }
 {
-    pass_refusal::gave_up(reason_number(r), reason_place(r))
+    match r {
+        Reason::RightHandNorm => pass_refusal::gave_up(3, 0),
+        Reason::Diagonal(vertex) => pass_refusal::gave_up(4, vertex as u64),
+        Reason::FirstResidual => pass_refusal::gave_up(5, 0),
+        Reason::Denominator => pass_refusal::gave_up(6, 0),
+        Reason::LostDefiniteness => pass_refusal::gave_up(7, 0),
+        Reason::CountSpent => pass_refusal::gave_up(8, 0),
+        Reason::MassOfIterate => pass_refusal::gave_up(9, 0),
+    }
 }
 
 // Solves the system of the matrix and the right-hand side in the residual's region, by at most `most` iterations.

@@ -1,20 +1,109 @@
--- `pass_solution::gave_up` meets its contract: the refusal by what its calls ensure.
+-- `pass_solution::gave_up` meets its contract: each return is the refusal of the variant that was met.
+use mathlib.Core.Path.{_∙_, sym, ap}
+use Rattle.linear_conjugate_gradient.specs.Answer.{reason, place}
+use Rattle.linear_conjugate_gradient.specs.declared.Reason.{Reason}
+use Rattle.pass_refusal.specs.declared.Stage.{Stage}
+use Rattle.pass_refusal.specs.declared.Stage.the-variants.{Refused}
+use Rattle.pass_refusal.specs.Refusal.{gaveUp}
 use borrow.Author.Needs.{needs}
 use Rattle.pass_solution.proofs.gave_up.Statement.{statement}
 use Rattle.pass_solution.proofs.gave_up.Tie as tie
 
-reason-number-requires : tie.Need-reason-number-requires
-reason-number-requires c κs = search needs
+abbrev told : Reason → Stage
+told r = Refused (gaveUp (reason r) (place r))
 
-reason-place-requires : tie.Need-reason-place-requires
-reason-place-requires c κs = search needs
+enum-told : tie.Need-enum-told
+enum-told c = search needs
 
 gave-up-requires : tie.Need-gave-up-requires
 gave-up-requires c κs = search needs
 
+enum-known-r : tie.Need-enum-known-r
+enum-known-r c = search needs
+
+gave-up-requires-2 : tie.Need-gave-up-requires-2
+gave-up-requires-2 c κs = search needs
+
+enum-told-2 : tie.Need-enum-told-2
+enum-told-2 c = search needs
+
+gave-up-requires-3 : tie.Need-gave-up-requires-3
+gave-up-requires-3 c κs = search needs
+
+enum-told-3 : tie.Need-enum-told-3
+enum-told-3 c = search needs
+
+gave-up-requires-4 : tie.Need-gave-up-requires-4
+gave-up-requires-4 c κs = search needs
+
+enum-told-4 : tie.Need-enum-told-4
+enum-told-4 c = search needs
+
+gave-up-requires-5 : tie.Need-gave-up-requires-5
+gave-up-requires-5 c κs = search needs
+
+enum-told-5 : tie.Need-enum-told-5
+enum-told-5 c = search needs
+
+gave-up-requires-6 : tie.Need-gave-up-requires-6
+gave-up-requires-6 c κs = search needs
+
+enum-told-6 : tie.Need-enum-told-6
+enum-told-6 c = search needs
+
+gave-up-requires-7 : tie.Need-gave-up-requires-7
+gave-up-requires-7 c κs = search needs
+
 returns : tie.Need-returns
-returns c = cc
+unfolding reason place
+returns c = c .gave-up .ensures ∙ sym (ap told (c .before .enum-told .given .1))
+
+returns-2 : tie.Need-returns-2
+unfolding reason place
+returns-2 c = c .gave-up2 .ensures ∙ sym (ap told (c .before .before .r .given .1))
+
+returns-3 : tie.Need-returns-3
+unfolding reason place
+returns-3 c = c .gave-up3 .ensures ∙ sym (ap told (c .before .enum-told2 .given .1))
+
+returns-4 : tie.Need-returns-4
+unfolding reason place
+returns-4 c = c .gave-up4 .ensures ∙ sym (ap told (c .before .enum-told3 .given .1))
+
+returns-5 : tie.Need-returns-5
+unfolding reason place
+returns-5 c = c .gave-up5 .ensures ∙ sym (ap told (c .before .enum-told4 .given .1))
+
+returns-6 : tie.Need-returns-6
+unfolding reason place
+returns-6 c = c .gave-up6 .ensures ∙ sym (ap told (c .before .enum-told5 .given .1))
+
+returns-7 : tie.Need-returns-7
+unfolding reason place
+returns-7 c = c .gave-up7 .ensures ∙ sym (ap told (c .before .enum-told6 .given .1))
 
 pub gave-up-spec : {M : Type 1} → statement M
 gave-up-spec =
-    tie.close (tie.spec reason-number-requires reason-place-requires gave-up-requires returns)
+    tie.close
+    (tie.spec
+    enum-told
+    gave-up-requires
+    enum-known-r
+    gave-up-requires-2
+    enum-told-2
+    gave-up-requires-3
+    enum-told-3
+    gave-up-requires-4
+    enum-told-4
+    gave-up-requires-5
+    enum-told-5
+    gave-up-requires-6
+    enum-told-6
+    gave-up-requires-7
+    returns
+    returns-2
+    returns-3
+    returns-4
+    returns-5
+    returns-6
+    returns-7)
