@@ -19,7 +19,7 @@ use Rattle.floor.proofs.Lowest.{lowest-none, lowest-again, lowest-found}
 use Rattle.geometry.specs.declared.TriangleGeometry.{TriangleGeometry}
 use Rattle.geometry.specs.declared.Geometry.{Geometry}
 use Rattle.geometry.specs.declared.Geometry.the-variants.{Triangle, Degenerate}
-use Rattle.geometry.specs.Triangle.{geometry, placed, degenerate, turn, areaOf as area, at}
+use Rattle.geometry.specs.Triangle.{geometry, placed, degenerate, orientation, areaOf as area, at}
 use Rattle.pass_geometries.specs.declared.GeometriesPlan.{GeometriesPlan}
 use Rattle.pass_geometries.specs.Geometries.{geometryOn, isDegenerate, cornersOn, areaOn, cornersOf, firstDegenerate, joined, woundUpTo, areasUpTo, coordsFrom, xsIn, ysIn, geometryIn, Cornered, GeometriesRoom, Looked, Kept}
 
@@ -36,7 +36,7 @@ corners-below n c u t h =
 pub kept-corners : (X Y : ℕ → Float) (i j k t : ℕ) → isDegenerate (geometryOn X Y (tri i j k) t) ≡ false
     → (cornersOf (geometryOn X Y (tri i j k) t) ≡ tri i j k) ⊎ (cornersOf (geometryOn X Y (tri i j k) t) ≡ tri i k j)
 unfolding geometry placed
-kept-corners X Y i j k t h = swapped (lt (turn p q r) (lit 0)) h
+kept-corners X Y i j k t h = swapped (lt (orientation p q r) (lit 0)) h
   where
     p : Pair
     p = at X Y i
@@ -52,11 +52,11 @@ kept-corners X Y i j k t h = swapped (lt (turn p q r) (lit 0)) h
     held a c e P Q R w true h = let z : _≡_ {A = ℕ} 0 1 = cc in absurd (omega arith)
     held a c e P Q R w false h = refl
 
-    swapped : (l : Bool) → isDegenerate (cond l (placed i k j p r q (area (turn p q r)) t) (placed i j k p q r (area (turn p q r)) t)) ≡ false
-        → (cornersOf (cond l (placed i k j p r q (area (turn p q r)) t) (placed i j k p q r (area (turn p q r)) t)) ≡ tri i j k)
-        ⊎ (cornersOf (cond l (placed i k j p r q (area (turn p q r)) t) (placed i j k p q r (area (turn p q r)) t)) ≡ tri i k j)
-    swapped true h = inr (held i k j p r q (area (turn p q r)) (degenerate p r q (area (turn p q r))) h)
-    swapped false h = inl (held i j k p q r (area (turn p q r)) (degenerate p q r (area (turn p q r))) h)
+    swapped : (l : Bool) → isDegenerate (cond l (placed i k j p r q (area (orientation p q r)) t) (placed i j k p q r (area (orientation p q r)) t)) ≡ false
+        → (cornersOf (cond l (placed i k j p r q (area (orientation p q r)) t) (placed i j k p q r (area (orientation p q r)) t)) ≡ tri i j k)
+        ⊎ (cornersOf (cond l (placed i k j p r q (area (orientation p q r)) t) (placed i j k p q r (area (orientation p q r)) t)) ≡ tri i k j)
+    swapped true h = inr (held i k j p r q (area (orientation p q r)) (degenerate p r q (area (orientation p q r))) h)
+    swapped false h = inl (held i j k p q r (area (orientation p q r)) (degenerate p q r (area (orientation p q r))) h)
 
 pub kept-cornered : (X Y : ℕ → Float) (m t : ℕ) (s : Tri) → Cornered m s → isDegenerate (geometryOn X Y s t) ≡ false → Cornered m (cornersOf (geometryOn X Y s t))
 kept-cornered X Y m t (tri i j k) b h = ⊎-elim (λ e. subst (Cornered m) (sym e) b) (λ e. subst (Cornered m) (sym e) (b .0, (b .1 .1, b .1 .0))) (kept-corners X Y i j k t h)

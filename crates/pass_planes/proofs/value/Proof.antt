@@ -20,7 +20,7 @@ mean-on-requires : tie.Need-mean-on-requires
 mean-on-requires c κs = search needs
 
 returns-2 : tie.Need-returns-2
-returns-2 c = c .mean-on .ensures ∙ new-value _ _ _ _ _ (omega (arith, ltb-false)) (c .before .before .before .before .pre .1)
+returns-2 c = c .mean-on .ensures ∙ new-value _ _ (c .before .before .before .before .args .table) (c .before .before .before .before .args .numbers .now) _ (omega (arith, ltb-false)) (c .before .before .before .before .pre .1)
 
 pub value-spec : {M : Type 1} → statement M
 value-spec =
