@@ -17,8 +17,8 @@ use Rattle.mesh.proofs.Theorem.{index-below}
 use Rattle.runs.proofs.Runs.{sets-before, sets-behind}
 use Rattle.edges.specs.Table.{pairs, loOf, hiOf, sidesIn, Held, MetTri, NumbersOf}
 use Rattle.edges.specs.Numbering.{triFrom, trisFrom, NumberingRoom, NumberStep, NumberedTo, occurs, Below, Counted}
-use Rattle.edges.proofs.Tree.{length-pairs, trees-same}
-use Rattle.edges.proofs.Stored.{met-keeps, zeros-at, slot-below, spot-in}
+use Rattle.edges.proofs.Tree.{length-pairs, trees-same, met-keeps}
+use Rattle.edges.proofs.Stored.{zeros-at, slot-below, spot-in}
 
 -- ---- a table in another slice with the same cells
 

@@ -16,9 +16,9 @@ use borrow.Author.Tests.{lt-ltb, le-ltb}
 use Rattle.mesh.specs.Mesh.{Side, side, key, tri, indexIn, met, metAll}
 use Rattle.mesh.proofs.Theorem.{index-below}
 use Rattle.runs.proofs.Runs.{sets-before}
-use Rattle.mesh.proofs.Cuts.{key-either, index-keep, index-end, met-old, met-new, met-numbered, Found, found, missing, find}
-use Rattle.edges.specs.Table.{slotOf, pathOf, pairs, Spot, bucket, link, Trees, Free, holdOf, loOf, hiOf, underOf, sidesIn, Held, Walked, Outside, Met, MetTri, oneMore}
-use Rattle.edges.proofs.Tree.{same-both, same-not, Walk, walk-start, walk-known, walk-on, walk-free, walk-none, left-over, walk-less, Put, trees-more, no-trees, new-pairs, length-pairs, index-here, index-nowhere}
+use Rattle.mesh.proofs.Cuts.{index-end, met-old, met-new, met-numbered}
+use Rattle.edges.specs.Table.{slotOf, pathOf, pairs, Spot, bucket, link, Trees, Free, holdOf, loOf, hiOf, underOf, sidesIn, Held, WalkedIn, Outside, Met, MetTri, oneMore}
+use Rattle.edges.proofs.Tree.{Put, trees-more, no-trees, new-pairs, length-pairs, some-of, none-of, pairs-most, three-met}
 
 -- the bucket of a side is one of the N
 pub slot-below : (N a b : ℕ) → 0 < N → slotOf N a b < N
@@ -143,61 +143,9 @@ module _ (o N : ℕ) (w : List ℕ) (m a b p : ℕ) (spot : Spot o N (underOf o 
     behind = λ j q. elsewhere j (omega (arith, below)) (inr (omega arith));
   }
 
--- ---- a walk: at position p, which holds `at`, with r left of its path
-
-pub record Going (o N : ℕ) (w : List ℕ) (m a b p r at : ℕ) : Type 0 where
-  pub held : Held o N w m
-  pub walk : Walk o N (loOf o N w) (hiOf o N w) (holdOf w) (underOf o N) m a b p r
-  pub here : at ≡ holdOf w p
-  pub few : at ≤ m
-
-pub going-start : {o N : ℕ} {w : List ℕ} {m a b h p r at : ℕ} → Held o N w m → (h ≡ slotOf N a b) × (h < N) → p ≡ o + h → r ≡ pathOf a b → at ≡ holdOf w p → Going o N w m a b p r at
-going-start t e i j k =
-    let walk = walk-start (t .trees) e i j in
-    record { held = t; walk = walk; here = k; few = rw k (walk-known (t .trees) walk) }
-
-module _ {o N : ℕ} {w : List ℕ} {m a b p r at : ℕ} (g : Going o N w m a b p r at) where
-  pub going-on : at ≢ 0 → (eqb (loOf o N w (at - 1)) a && eqb (hiOf o N w (at - 1)) b) ≡ false → {at′ : ℕ} → at′ ≡ holdOf w (underOf o N (at - 1) + r % 2)
-      → Going o N w m a b (underOf o N (at - 1) + r % 2) (r / 2) at′ × (left-over m at′ < left-over m at)
-  going-on h miss {at′} e =
-      let i : holdOf w p ≡ at = sym (g .here) in
-      let on = walk-on (g .held .trees) (g .walk) (λ z. h (g .here ∙ z)) (rw i (same-not (loOf o N w (at - 1)) (hiOf o N w (at - 1)) a b miss)) in
-      let walk : Walk o N (loOf o N w) (hiOf o N w) (holdOf w) (underOf o N) m a b (underOf o N (at - 1) + r % 2) (r / 2) = rw i at on in (
-        record { held = g .held; walk = walk; here = e; few = rw e (walk-known (g .held .trees) walk) },
-        walk-less (g .held .trees) (at - 1) r (omega arith) (omega (arith, g .few)) e,
-      )
-
-  pub going-found : at ≢ 0 → (eqb (loOf o N w (at - 1)) a && eqb (hiOf o N w (at - 1)) b) ≡ true → Walked o N w m a b at p
-  going-found h hit =
-      let both = same-both (loOf o N w (at - 1)) (hiOf o N w (at - 1)) a b hit in
-      let i : at ≡ suc (at - 1) = omega arith in
-      record {
-        number = i ∙ sym (ap oneMore (index-here (loOf o N w) (hiOf o N w) m a b (at - 1) (g .held .numbered) (omega (arith, g .few)) (both .0) (both .1)));
-        few = g .few;
-        spot = g .walk .spot;
-        free = λ z. absurd (h z);
-      }
-
-  pub going-none : at ≡ 0 → Walked o N w m a b at p
-  going-none z = record {
-    number = z ∙ sym (ap oneMore (index-nowhere (loOf o N w) (hiOf o N w) a b m (walk-none (g .held .trees) (g .walk) (sym (g .here) ∙ z))));
-    few = g .few;
-    spot = g .walk .spot;
-    free = λ i. walk-free (g .held .trees) (g .walk) (sym (g .here) ∙ z);
-  }
-
 -- ---- a side is met
 
--- a number that stands for a place is that place
-pub some-of : (at : ℕ) (x : Option ℕ) → at ≡ oneMore x → at ≢ 0 → x ≡ some (at - 1)
-some-of at none e h = absurd (h e)
-some-of at (some k) e h = let i : k ≡ at - 1 = omega arith in ap some i
-
-pub none-of : {at : ℕ} (x : Option ℕ) → at ≡ oneMore x → at ≡ 0 → x ≡ none
-none-of none e h = refl
-none-of (some k) e h = absurd (omega arith)
-
-module _ {o N : ℕ} {w : List ℕ} {m at p : ℕ} (a b : ℕ) (t : Held o N w m) (k : Walked o N w m a b at p) where
+module _ {o N : ℕ} {w : List ℕ} {m at p : ℕ} (a b : ℕ) (t : Held o N w m) (k : WalkedIn o N w m a b at p) where
   pub met-found : at ≢ 0 → Met o N w m w m (at - 1) (side a b)
   met-found h =
       let q : indexIn (side a b) (sidesIn o N w m) ≡ some (at - 1) = some-of at (indexIn (side a b) (sidesIn o N w m)) (k .number) h in
@@ -230,20 +178,6 @@ module _ {o N : ℕ} {w : List ℕ} {m at p : ℕ} (a b : ℕ) (t : Held o N w m
         outside = stored-outside o N w m a b p (k .spot) room;
       }
 
-pub met-key : {o N : ℕ} {w w′ : List ℕ} {m m′ k : ℕ} (u v : ℕ) → u < v → Met o N w m w′ m′ k (side u v) → Met o N w m w′ m′ k (key u v)
-met-key u v h t = rw (⊎-elim (λ p. p .0) (λ p. absurd (omega (arith, p .1))) (key-either u v)) t
-
-pub met-key′ : {o N : ℕ} {w w′ : List ℕ} {m m′ k : ℕ} (u v : ℕ) → v ≤ u → Met o N w m w′ m′ k (side v u) → Met o N w m w′ m′ k (key u v)
-met-key′ u v h t = rw (⊎-elim (λ p. absurd (omega (arith, p .1))) (λ p. p .0) (key-either u v)) t
-
--- a number stays as more sides are met
-pub met-keeps : (l : List Side) (s t : Side) (k : ℕ) → indexIn s l ≡ some k → indexIn s (met l t) ≡ some k
-met-keeps l s t k h = go (find t l)
-  where
-    go : Found t l → indexIn s (met l t) ≡ some k
-    go (found j f) = rw (met-old l t j f) h
-    go (missing f) = rw (met-new l t f) (index-keep s l (t ∷ []) k h)
-
 outside-more : {o N : ℕ} {w w₁ w₂ : List ℕ} {m₁ m₂ : ℕ} → m₁ ≤ m₂ → Outside o N w m₁ w₁ → Outside o N w₁ m₂ w₂ → Outside o N w m₂ w₂
 outside-more h p q = record {
   same = q .same ∙ p .same;
@@ -252,40 +186,20 @@ outside-more h p q = record {
 }
 
 met-most : {o N : ℕ} {w w′ : List ℕ} {m m′ k : ℕ} {s : Side} → Met o N w m w′ m′ k s → m ≤ m′
-met-most {o} {N} {w} {w′} {m} {m′} {k} {s} t = go (find s (sidesIn o N w m))
-  where
-    len : length (met (sidesIn o N w m) s) ≡ m′
-    len = sym (ap length (t .now-met)) ∙ length-pairs (loOf o N w′) (hiOf o N w′) m′
-
-    go : Found s (sidesIn o N w m) → m ≤ m′
-    go (found j f) = omega (arith, sym (ap length (met-old (sidesIn o N w m) s j f)) ∙ len, length-pairs (loOf o N w) (hiOf o N w) m)
-    go (missing f) = omega (arith, sym (ap length (met-new (sidesIn o N w m) s f)) ∙ len, length-pairs (loOf o N w) (hiOf o N w) m, length-append (sidesIn o N w m) (s ∷ []))
+met-most {o} {N} {w} {w′} {m} {m′} {k} {s} t = pairs-most (loOf o N w) (hiOf o N w) (loOf o N w′) (hiOf o N w′) m m′ s (t .now-met)
 
 pub met-three : {o N : ℕ} {w w₁ w₂ w₃ : List ℕ} {m m₁ m₂ m₃ p q r : ℕ} (a b c : ℕ) → Met o N w m w₁ m₁ p (key a b) → Met o N w₁ m₁ w₂ m₂ q (key b c) → Met o N w₂ m₂ w₃ m₃ r (key c a)
     → MetTri o N w m w₃ m₃ p q r (tri a b c)
-unfolding metAll
-met-three {o} {N} {w₁ = w₁} {w₂} {w₃} {m₁ = m₁} {m₂} {m₃} {p} {q} {r} a b c x y z =
-    let p₂ : indexIn (key a b) (sidesIn o N w₂ m₂) ≡ some p = rw (y .now-met) (met-keeps (sidesIn o N w₁ m₁) (key a b) (key b c) p (x .number)) in
+met-three {o} {N} {w} {m = m} a b c x y z =
+    let now = three-met (sidesIn o N w m) a b c (x .now-met) (y .now-met) (z .now-met) (x .number) (y .number) (z .number) in
     record {
       held = z .held;
-      now-met = z .now-met ∙ rw (y .now-met, x .now-met);
-      numbers = (
-        rw (z .now-met) (met-keeps (sidesIn o N w₂ m₂) (key a b) (key c a) p p₂),
-        rw (z .now-met) (met-keeps (sidesIn o N w₂ m₂) (key b c) (key c a) q (y .number)),
-        z .number,
-      );
+      now-met = now .0;
+      numbers = now .1;
       more = omega (arith, x .more, y .more, z .more);
       most = omega (arith, met-most x, met-most y, met-most z);
       outside = outside-more (met-most z) (outside-more (met-most y) (x .outside) (y .outside)) (z .outside);
     }
-
--- ---- a side is looked for
-
-pub found-key : {o N : ℕ} {w : List ℕ} {m at p : ℕ} (u v : ℕ) → u < v → Walked o N w m u v at p → (at ≡ oneMore (indexIn (key u v) (sidesIn o N w m))) × (at ≤ m)
-found-key u v h t = rw (⊎-elim (λ p. p .0) (λ p. absurd (omega (arith, p .1))) (key-either u v)) (t .number, t .few)
-
-pub found-key′ : {o N : ℕ} {w : List ℕ} {m at p : ℕ} (u v : ℕ) → v ≤ u → Walked o N w m v u at p → (at ≡ oneMore (indexIn (key u v) (sidesIn o N w m))) × (at ≤ m)
-found-key′ u v h t = rw (⊎-elim (λ p. absurd (omega (arith, p .1))) (λ p. p .0) (key-either u v)) (t .number, t .few)
 
 -- ---- an empty table
 

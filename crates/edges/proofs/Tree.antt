@@ -8,15 +8,15 @@ use native.Mathlib.Decide.{ℕ-discrete}
 use mathlib.Core.Path.{_≡_, refl, sym, ap, ap₂, _∙_, subst}
 use mathlib.Core.Logic.{_≢_}
 use mathlib.Core.Bool.{Bool, true, false, cond, _&&_}
-use mathlib.Core.List.{[], _∷_, _++_}
-use mathlib.Core.Option.{none, some}
+use mathlib.Core.List.{List, [], _∷_, _++_}
+use mathlib.Core.Option.{Option, none, some}
 use lib.Dec.{eqb}
 use lib.ListN.{length, getD, length-append, List·getD-append}
 use lib.Seq.{getD-append-seam}
 use borrow.Author.Tests.{eq-eqb, eqb-true}
-use Rattle.mesh.specs.Mesh.{side, indexIn, Numbered}
-use Rattle.mesh.proofs.Cuts.{index-out}
-use Rattle.edges.specs.Table.{slotOf, pathOf, pairs, Spot, bucket, link, next, leadsIn, Leads, Trees, Keeps, Free}
+use Rattle.mesh.specs.Mesh.{Side, side, key, tri, sides, indexIn, met, metAll, Numbered}
+use Rattle.mesh.proofs.Cuts.{index-out, index-keep, met-old, met-new, Found, found, missing, find}
+use Rattle.edges.specs.Table.{slotOf, pathOf, pairs, Spot, bucket, link, next, leadsIn, Leads, Trees, Keeps, Free, Walked, NumbersOf, oneMore}
 
 -- ---- the test whether two sides are one
 
@@ -230,3 +230,87 @@ unfolding pairs indexIn
 index-nowhere lo hi a b zero h = refl
 index-nowhere lo hi a b (suc k) h =
     index-out (side a b) (side (lo k) (hi k)) (pairs lo hi k) (index-nowhere lo hi a b k (λ j l. h j (omega arith))) (λ e. let u : lo k ≡ a = cc in let v : hi k ≡ b = cc in h k (omega arith) u v)
+
+-- ---- a walk under way: at position p, which holds `at`, with r left of its path
+
+pub record Going (o N : ℕ) (lo hi hold under : ℕ → ℕ) (m a b p r at : ℕ) : Type 0 where
+  pub trees : Trees o N lo hi hold under m
+  pub numbered : Numbered (pairs lo hi m)
+  pub walk : Walk o N lo hi hold under m a b p r
+  pub here : at ≡ hold p
+  pub few : at ≤ m
+
+module _ {o N : ℕ} {lo hi hold under : ℕ → ℕ} {m a b : ℕ} where
+  pub going-start : {h p r at : ℕ} → Trees o N lo hi hold under m → Numbered (pairs lo hi m) → (h ≡ slotOf N a b) × (h < N) → p ≡ o + h → r ≡ pathOf a b → at ≡ hold p
+      → Going o N lo hi hold under m a b p r at
+  going-start t n e i j k =
+      let walk = walk-start t e i j in
+      record { trees = t; numbered = n; walk = walk; here = k; few = rw k (walk-known t walk) }
+
+  module _ {p r at : ℕ} (g : Going o N lo hi hold under m a b p r at) where
+    -- another side stands here: the walk goes on, to a later side
+    pub going-on : at ≢ 0 → (eqb (lo (at - 1)) a && eqb (hi (at - 1)) b) ≡ false → {at′ : ℕ} → at′ ≡ hold (under (at - 1) + r % 2)
+        → Going o N lo hi hold under m a b (under (at - 1) + r % 2) (r / 2) at′ × (left-over m at′ < left-over m at)
+    going-on h miss {at′} e =
+        let i : hold p ≡ at = sym (g .here) in
+        let on = walk-on (g .trees) (g .walk) (λ z. h (g .here ∙ z)) (rw i (same-not (lo (at - 1)) (hi (at - 1)) a b miss)) in
+        let walk : Walk o N lo hi hold under m a b (under (at - 1) + r % 2) (r / 2) = rw i at on in (
+          record { trees = g .trees; numbered = g .numbered; walk = walk; here = e; few = rw e (walk-known (g .trees) walk) },
+          walk-less (g .trees) (at - 1) r (omega arith) (omega (arith, g .few)) e,
+        )
+
+    pub going-found : at ≢ 0 → (eqb (lo (at - 1)) a && eqb (hi (at - 1)) b) ≡ true → Walked o N lo hi hold under m a b at p
+    going-found h hit =
+        let both = same-both (lo (at - 1)) (hi (at - 1)) a b hit in
+        let i : at ≡ suc (at - 1) = omega arith in
+        record {
+          number = i ∙ sym (ap oneMore (index-here lo hi m a b (at - 1) (g .numbered) (omega (arith, g .few)) (both .0) (both .1)));
+          few = g .few;
+          spot = g .walk .spot;
+          free = λ z. absurd (h z);
+        }
+
+    pub going-none : at ≡ 0 → Walked o N lo hi hold under m a b at p
+    going-none z = record {
+      number = z ∙ sym (ap oneMore (index-nowhere lo hi a b m (walk-none (g .trees) (g .walk) (sym (g .here) ∙ z))));
+      few = g .few;
+      spot = g .walk .spot;
+      free = λ i. walk-free (g .trees) (g .walk) (sym (g .here) ∙ z);
+    }
+
+-- ---- lists of sides that grow as sides are met
+
+-- a number that stands for a place is that place
+pub some-of : (at : ℕ) (x : Option ℕ) → at ≡ oneMore x → at ≢ 0 → x ≡ some (at - 1)
+some-of at none e h = absurd (h e)
+some-of at (some k) e h = let i : k ≡ at - 1 = omega arith in ap some i
+
+pub none-of : {at : ℕ} (x : Option ℕ) → at ≡ oneMore x → at ≡ 0 → x ≡ none
+none-of none e h = refl
+none-of (some k) e h = absurd (omega arith)
+
+-- a number stays as more sides are met
+pub met-keeps : (l : List Side) (s t : Side) (k : ℕ) → indexIn s l ≡ some k → indexIn s (met l t) ≡ some k
+met-keeps l s t k h = go (find t l)
+  where
+    go : Found t l → indexIn s (met l t) ≡ some k
+    go (found j f) = rw (met-old l t j f) h
+    go (missing f) = rw (met-new l t f) (index-keep s l (t ∷ []) k h)
+
+pub met-longer : (l : List Side) (s : Side) → length l ≤ length (met l s)
+met-longer l s = go (find s l)
+  where
+    go : Found s l → length l ≤ length (met l s)
+    go (found j f) = rw (met-old l s j f) (omega arith)
+    go (missing f) = rw (met-new l s f) (omega (arith, length-append l (s ∷ [])))
+
+pub pairs-most : (lo hi lo′ hi′ : ℕ → ℕ) (m m′ : ℕ) (s : Side) → pairs lo′ hi′ m′ ≡ met (pairs lo hi m) s → m ≤ m′
+pairs-most lo hi lo′ hi′ m m′ s e = omega (arith, met-longer (pairs lo hi m) s, ap length e, length-pairs lo hi m, length-pairs lo′ hi′ m′)
+
+-- the three sides of a triangle are met, one after the other
+pub three-met : (l : List Side) {l₁ l₂ l₃ : List Side} {p q r : ℕ} (a b c : ℕ) → l₁ ≡ met l (key a b) → l₂ ≡ met l₁ (key b c) → l₃ ≡ met l₂ (key c a)
+    → indexIn (key a b) l₁ ≡ some p → indexIn (key b c) l₂ ≡ some q → indexIn (key c a) l₃ ≡ some r → (l₃ ≡ metAll l (sides (tri a b c))) × NumbersOf (tri a b c) l₃ p q r
+unfolding metAll
+three-met l {l₁} {l₂} {l₃} {p} {q} {r} a b c x y z h i j =
+    let p₂ : indexIn (key a b) l₂ ≡ some p = rw y (met-keeps l₁ (key a b) (key b c) p h) in
+    (z ∙ rw (y, x), (rw z (met-keeps l₂ (key a b) (key c a) p p₂), rw z (met-keeps l₂ (key b c) (key c a) q i), j))

@@ -12,11 +12,11 @@ use lib.Dec.{eqb}
 use lib.ListN.{length, getD, set, length-set, length-append, replicate}
 use lib.Seq.{getD-set-same, getD-set-other, sets, length-sets}
 use Rattle.mesh.specs.Mesh.{Side, side, key, tri, indexIn, met, metAll}
-use Rattle.mesh.proofs.Cuts.{key-either, index-end, met-old, met-new, met-numbered, Found, found, missing, find}
+use Rattle.mesh.proofs.Cuts.{index-end, met-old, met-new, met-numbered}
 use Rattle.edges.specs.Table.{slotOf, pathOf, pairs, Spot, bucket, link, Trees, holdOf, oneMore}
 use Rattle.edges.specs.TwoSlices.{loAt, hiAt, underAt, sidesAt, HeldInTwo, WalkedInTwo, OutsideInTwo, MetInTwo, MetTriInTwo}
-use Rattle.edges.proofs.Tree.{same-both, same-not, Walk, walk-start, walk-known, walk-on, walk-free, walk-none, left-over, walk-less, Put, trees-more, trees-same, no-trees, new-pairs, length-pairs, index-here, index-nowhere}
-use Rattle.edges.proofs.Stored.{slot-below, some-of, none-of, met-keeps, zeros-at}
+use Rattle.edges.proofs.Tree.{Put, trees-more, trees-same, no-trees, new-pairs, length-pairs, some-of, none-of, pairs-most, three-met}
+use Rattle.edges.proofs.Stored.{slot-below, zeros-at}
 
 -- a position stands before the links of the next side
 pub spot-within : {o N m q : ℕ} → Spot o N (underAt o N) m q → (o ≤ q) × (q < o + N + 2 * m)
@@ -80,49 +80,6 @@ module _ (o N : ℕ) (w : List ℕ) (m p : ℕ) (spot : Spot o N (underAt o N) m
   unfolding w₂
   links-at = getD-set-same w₂ p (m + 1) 0 (omega (arith, len₂, spot-within spot))
 
--- ---- a walk: at position p, which holds `at`, with r left of its path
-
-pub record Going (o N : ℕ) (e w : List ℕ) (m a b p r at : ℕ) : Type 0 where
-  pub held : HeldInTwo o N e w m
-  pub walk : Walk o N (loAt e) (hiAt e) (holdOf w) (underAt o N) m a b p r
-  pub here : at ≡ holdOf w p
-  pub few : at ≤ m
-
-pub going-start : {o N : ℕ} {e w : List ℕ} {m a b h p r at : ℕ} → HeldInTwo o N e w m → (h ≡ slotOf N a b) × (h < N) → p ≡ o + h → r ≡ pathOf a b → at ≡ holdOf w p → Going o N e w m a b p r at
-going-start t z i j k =
-    let walk = walk-start (t .trees) z i j in
-    record { held = t; walk = walk; here = k; few = rw k (walk-known (t .trees) walk) }
-
-module _ {o N : ℕ} {e w : List ℕ} {m a b p r at : ℕ} (g : Going o N e w m a b p r at) where
-  pub going-on : at ≢ 0 → (eqb (loAt e (at - 1)) a && eqb (hiAt e (at - 1)) b) ≡ false → {at′ : ℕ} → at′ ≡ holdOf w (underAt o N (at - 1) + r % 2)
-      → Going o N e w m a b (underAt o N (at - 1) + r % 2) (r / 2) at′ × (left-over m at′ < left-over m at)
-  going-on h miss {at′} z =
-      let i : holdOf w p ≡ at = sym (g .here) in
-      let on = walk-on (g .held .trees) (g .walk) (λ z. h (g .here ∙ z)) (rw i (same-not (loAt e (at - 1)) (hiAt e (at - 1)) a b miss)) in
-      let walk : Walk o N (loAt e) (hiAt e) (holdOf w) (underAt o N) m a b (underAt o N (at - 1) + r % 2) (r / 2) = rw i at on in (
-        record { held = g .held; walk = walk; here = z; few = rw z (walk-known (g .held .trees) walk) },
-        walk-less (g .held .trees) (at - 1) r (omega arith) (omega (arith, g .few)) z,
-      )
-
-  pub going-found : at ≢ 0 → (eqb (loAt e (at - 1)) a && eqb (hiAt e (at - 1)) b) ≡ true → WalkedInTwo o N e w m a b at p
-  going-found h hit =
-      let both = same-both (loAt e (at - 1)) (hiAt e (at - 1)) a b hit in
-      let i : at ≡ suc (at - 1) = omega arith in
-      record {
-        number = i ∙ sym (ap oneMore (index-here (loAt e) (hiAt e) m a b (at - 1) (g .held .numbered) (omega (arith, g .few)) (both .0) (both .1)));
-        few = g .few;
-        spot = g .walk .spot;
-        free = λ z. absurd (h z);
-      }
-
-  pub going-none : at ≡ 0 → WalkedInTwo o N e w m a b at p
-  going-none z = record {
-    number = z ∙ sym (ap oneMore (index-nowhere (loAt e) (hiAt e) a b m (walk-none (g .held .trees) (g .walk) (sym (g .here) ∙ z))));
-    few = g .few;
-    spot = g .walk .spot;
-    free = λ i. walk-free (g .held .trees) (g .walk) (sym (g .here) ∙ z);
-  }
-
 -- ---- a side is met
 
 module _ {o N : ℕ} {e w : List ℕ} {m at p : ℕ} (a b : ℕ) (t : HeldInTwo o N e w m) (k : WalkedInTwo o N e w m a b at p) where
@@ -173,12 +130,6 @@ module _ {o N : ℕ} {e w : List ℕ} {m at p : ℕ} (a b : ℕ) (t : HeldInTwo 
         };
       }
 
-pub met-key : {o N : ℕ} {e w e′ w′ : List ℕ} {m m′ k : ℕ} (u v : ℕ) → u < v → MetInTwo o N e w m e′ w′ m′ k (side u v) → MetInTwo o N e w m e′ w′ m′ k (key u v)
-met-key u v h t = rw (⊎-elim (λ p. p .0) (λ p. absurd (omega (arith, p .1))) (key-either u v)) t
-
-pub met-key′ : {o N : ℕ} {e w e′ w′ : List ℕ} {m m′ k : ℕ} (u v : ℕ) → v ≤ u → MetInTwo o N e w m e′ w′ m′ k (side v u) → MetInTwo o N e w m e′ w′ m′ k (key u v)
-met-key′ u v h t = rw (⊎-elim (λ p. absurd (omega (arith, p .1))) (λ p. p .0) (key-either u v)) t
-
 outside-more : {o N : ℕ} {e w e₁ w₁ e₂ w₂ : List ℕ} {m₁ m₂ : ℕ} → m₁ ≤ m₂ → OutsideInTwo o N e w m₁ e₁ w₁ → OutsideInTwo o N e₁ w₁ m₂ e₂ w₂ → OutsideInTwo o N e w m₂ e₂ w₂
 outside-more h p q = record {
   same-ends = q .same-ends ∙ p .same-ends;
@@ -189,41 +140,21 @@ outside-more h p q = record {
 }
 
 met-most : {o N : ℕ} {e w e′ w′ : List ℕ} {m m′ k : ℕ} {s : Side} → MetInTwo o N e w m e′ w′ m′ k s → m ≤ m′
-met-most {e = e} {e′ = e′} {m = m} {m′} {k} {s} t = go (find s (sidesAt e m))
-  where
-    len : length (met (sidesAt e m) s) ≡ m′
-    len = sym (ap length (t .now-met)) ∙ length-pairs (loAt e′) (hiAt e′) m′
-
-    go : Found s (sidesAt e m) → m ≤ m′
-    go (found j f) = omega (arith, sym (ap length (met-old (sidesAt e m) s j f)) ∙ len, length-pairs (loAt e) (hiAt e) m)
-    go (missing f) = omega (arith, sym (ap length (met-new (sidesAt e m) s f)) ∙ len, length-pairs (loAt e) (hiAt e) m, length-append (sidesAt e m) (s ∷ []))
+met-most {e = e} {e′ = e′} {m = m} {m′} {k} {s} t = pairs-most (loAt e) (hiAt e) (loAt e′) (hiAt e′) m m′ s (t .now-met)
 
 pub met-three : {o N : ℕ} {e w e₁ w₁ e₂ w₂ e₃ w₃ : List ℕ} {m m₁ m₂ m₃ p q r : ℕ} (a b c : ℕ)
     → MetInTwo o N e w m e₁ w₁ m₁ p (key a b) → MetInTwo o N e₁ w₁ m₁ e₂ w₂ m₂ q (key b c) → MetInTwo o N e₂ w₂ m₂ e₃ w₃ m₃ r (key c a)
     → MetTriInTwo o N e w m e₃ w₃ m₃ p q r (tri a b c)
-unfolding metAll
-met-three {e₁ = e₁} {e₂ = e₂} {m₁ = m₁} {m₂} {m₃} {p} {q} {r} a b c x y z =
-    let p₂ : indexIn (key a b) (sidesAt e₂ m₂) ≡ some p = rw (y .now-met) (met-keeps (sidesAt e₁ m₁) (key a b) (key b c) p (x .number)) in
+met-three {e = e} {m = m} a b c x y z =
+    let now = three-met (sidesAt e m) a b c (x .now-met) (y .now-met) (z .now-met) (x .number) (y .number) (z .number) in
     record {
       held = z .held;
-      now-met = z .now-met ∙ rw (y .now-met, x .now-met);
-      numbers = (
-        rw (z .now-met) (met-keeps (sidesAt e₂ m₂) (key a b) (key c a) p p₂),
-        rw (z .now-met) (met-keeps (sidesAt e₂ m₂) (key b c) (key c a) q (y .number)),
-        z .number,
-      );
+      now-met = now .0;
+      numbers = now .1;
       more = omega (arith, x .more, y .more, z .more);
       most = omega (arith, met-most x, met-most y, met-most z);
       outside = outside-more (met-most z) (outside-more (met-most y) (x .outside) (y .outside)) (z .outside);
     }
-
--- ---- a side is looked for
-
-pub found-key : {o N : ℕ} {e w : List ℕ} {m at p : ℕ} (u v : ℕ) → u < v → WalkedInTwo o N e w m u v at p → (at ≡ oneMore (indexIn (key u v) (sidesAt e m))) × (at ≤ m)
-found-key u v h t = rw (⊎-elim (λ p. p .0) (λ p. absurd (omega (arith, p .1))) (key-either u v)) (t .number, t .few)
-
-pub found-key′ : {o N : ℕ} {e w : List ℕ} {m at p : ℕ} (u v : ℕ) → v ≤ u → WalkedInTwo o N e w m v u at p → (at ≡ oneMore (indexIn (key u v) (sidesAt e m))) × (at ≤ m)
-found-key′ u v h t = rw (⊎-elim (λ p. absurd (omega (arith, p .1))) (λ p. p .0) (key-either u v)) (t .number, t .few)
 
 -- ---- an empty table, and one whose cells stay
 

@@ -73,6 +73,13 @@ abbrev pub oneLess : ℕ → Option ℕ
 oneLess zero = none
 oneLess (suc k) = some k
 
+-- the walk to the side a b, by what is at its end: one more than its number; or 0 and an empty position p, where it is to be put
+pub record Walked (o N : ℕ) (lo hi hold under : ℕ → ℕ) (m a b at p : ℕ) : Type 0 where
+  pub number : at ≡ oneMore (indexIn (side a b) (pairs lo hi m))
+  pub few : at ≤ m
+  pub spot : Spot o N under m p
+  pub free : at ≡ 0 → Free o N hold under m a b p
+
 -- ---- the layout of a table in one slice
 
 abbrev pub holdOf : List ℕ → ℕ → ℕ
@@ -127,12 +134,8 @@ pub record Held (o N : ℕ) (w : List ℕ) (m : ℕ) : Type 0 where
   pub trees : Trees o N (loOf o N w) (hiOf o N w) (holdOf w) (underOf o N) m
   pub numbered : Numbered (sidesIn o N w m)
 
--- the walk to the side a b, by what is at its end: one more than its number; or 0 and an empty position p, where it is to be put
-pub record Walked (o N : ℕ) (w : List ℕ) (m a b at p : ℕ) : Type 0 where
-  pub number : at ≡ oneMore (indexIn (side a b) (sidesIn o N w m))
-  pub few : at ≤ m
-  pub spot : Spot o N (underOf o N) m p
-  pub free : at ≡ 0 → Free o N (holdOf w) (underOf o N) m a b p
+abbrev pub WalkedIn : ℕ → ℕ → List ℕ → ℕ → ℕ → ℕ → ℕ → ℕ → Type 0
+WalkedIn o N w = Walked o N (loOf o N w) (hiOf o N w) (holdOf w) (underOf o N)
 
 -- the slice outside the table of m sides is as it was
 pub record Outside (o N : ℕ) (w : List ℕ) (m : ℕ) (w′ : List ℕ) : Type 0 where

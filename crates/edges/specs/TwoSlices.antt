@@ -6,7 +6,7 @@ use mathlib.Core.List.{List}
 use mathlib.Core.Option.{some}
 use lib.ListN.{length, getD}
 use Rattle.mesh.specs.Mesh.{Side, side, Tri, sides, met, metAll, indexIn, Numbered}
-use Rattle.edges.specs.Table.{pairs, Spot, Trees, Free, holdOf, oneMore, NumbersOf}
+use Rattle.edges.specs.Table.{pairs, Trees, Walked, holdOf, NumbersOf}
 
 abbrev pub loAt : List ℕ → ℕ → ℕ
 loAt e k = getD e (2 * k) 0
@@ -29,12 +29,8 @@ pub record HeldInTwo (o N : ℕ) (e w : List ℕ) (m : ℕ) : Type 0 where
   pub trees : Trees o N (loAt e) (hiAt e) (holdOf w) (underAt o N) m
   pub numbered : Numbered (sidesAt e m)
 
--- the walk to the side a b, by what is at its end: one more than its number; or 0 and an empty position p, where it is to be put
-pub record WalkedInTwo (o N : ℕ) (e w : List ℕ) (m a b at p : ℕ) : Type 0 where
-  pub number : at ≡ oneMore (indexIn (side a b) (sidesAt e m))
-  pub few : at ≤ m
-  pub spot : Spot o N (underAt o N) m p
-  pub free : at ≡ 0 → Free o N (holdOf w) (underAt o N) m a b p
+abbrev pub WalkedInTwo : ℕ → ℕ → List ℕ → List ℕ → ℕ → ℕ → ℕ → ℕ → ℕ → Type 0
+WalkedInTwo o N e w = Walked o N (loAt e) (hiAt e) (holdOf w) (underAt o N)
 
 -- both slices outside the table of m sides are as they were
 pub record OutsideInTwo (o N : ℕ) (e w : List ℕ) (m : ℕ) (e′ w′ : List ℕ) : Type 0 where

@@ -11,7 +11,7 @@ ghost use lib.ListN.{length, replicate};
 ghost use lib.Seq.{sets};
 ghost use lib.Dec.{eqb};
 ghost use Rattle.mesh.specs.Mesh.{side, key, tri, indexIn};
-ghost use Rattle.edges.specs.Table.{slotOf, pathOf, sidesIn, rowOf, endOf, Held, Walked, Met, MetTri, oneMore};
+ghost use Rattle.edges.specs.Table.{slotOf, pathOf, sidesIn, rowOf, endOf, Held, WalkedIn, Met, MetTri, oneMore};
 
 // Where a table stands, of how many buckets, and how many sides it has.
 pub struct Table {
@@ -97,7 +97,7 @@ struct Spot {
 // The walk to the side a b.
 fn walk(w: &[u32], t: Table, a: u32, b: u32) -> Spot
     requires { ⌜ Held (t .base) (t .buckets) (now w) (t .sides) ⌝ }
-    ensures { λ r. ⌜ Walked (t .base) (t .buckets) (now (w .entry)) (t .sides) a b (r .at) (r .position) ⌝ }
+    ensures { λ r. ⌜ WalkedIn (t .base) (t .buckets) (now (w .entry)) (t .sides) a b (r .at) (r .position) ⌝ }
 {
     let mut position = t.base + slot(t.buckets, a, b);
     let mut rest = path(a, b);

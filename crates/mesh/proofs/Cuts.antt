@@ -23,6 +23,12 @@ key-either u v = go (ltb u v) (λ t. ltb→lt u v t) (λ t. nltb→le u v t)
     go true h k = inl (refl, h tt)
     go false h k = inr (refl, k tt)
 
+pub key-rising : (u v : ℕ) → u < v → key u v ≡ side u v
+key-rising u v h = ⊎-elim (λ p. p .0) (λ p. absurd (omega (arith, p .1))) (key-either u v)
+
+pub key-falling : (u v : ℕ) → v ≤ u → key u v ≡ side v u
+key-falling u v h = ⊎-elim (λ p. absurd (omega (arith, p .1))) (λ p. p .0) (key-either u v)
+
 pub key-flip : (u v : ℕ) → key u v ≡ key v u
 key-flip u v = go (key-either u v) (key-either v u)
   where

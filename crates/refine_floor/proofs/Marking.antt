@@ -18,7 +18,7 @@ use Rattle.runs.proofs.Runs.{sets-before, sets-behind}
 use Rattle.edges.specs.Table.{oneMore, oneLess, pairs, NumbersOf}
 use Rattle.edges.specs.TwoSlices.{loAt, hiAt, sidesAt, HeldInTwo, MetTriInTwo}
 use Rattle.edges.proofs.Tree.{length-pairs}
-use Rattle.edges.proofs.Stored.{met-keeps}
+use Rattle.edges.proofs.Tree.{met-keeps}
 use Rattle.edges.proofs.Numbering.{three-length, three-else, three-first, three-second, three-third}
 use Rattle.edges.proofs.TwoSlices.{held-still, empty-apart}
 use Rattle.refinement.specs.Floor.{triAt, tris}

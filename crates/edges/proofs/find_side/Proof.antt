@@ -1,6 +1,6 @@
--- `edges::find_side` meets its contract: the walk is to the side with the lower end first; the laws are in proofs/Stored.
+-- `edges::find_side` meets its contract: the walk is to the side with the lower end first.
 use borrow.Author.Needs.{needs}
-use Rattle.edges.proofs.Stored.{found-key, found-key′}
+use Rattle.mesh.proofs.Cuts.{key-rising, key-falling}
 use Rattle.edges.proofs.find_side.Statement.{statement}
 use Rattle.edges.proofs.find_side.Tie as tie
 
@@ -8,13 +8,13 @@ walk-requires : tie.Need-walk-requires
 walk-requires c κs = search needs
 
 returns : tie.Need-returns
-returns c = found-key _ _ (c .before .if1 .taken) (c .walk .ensures)
+returns c = rw (key-rising _ _ (c .before .if1 .taken)) (c .walk .ensures .number, c .walk .ensures .few)
 
 walk-requires-2 : tie.Need-walk-requires-2
 walk-requires-2 c κs = search needs
 
 returns-2 : tie.Need-returns-2
-returns-2 c = found-key′ _ _ (c .before .if1 .left) (c .walk2 .ensures)
+returns-2 c = rw (key-falling _ _ (c .before .if1 .left)) (c .walk2 .ensures .number, c .walk2 .ensures .few)
 
 pub find-side-spec : {M : Type 1} → statement M
 find-side-spec = tie.close (tie.spec walk-requires returns walk-requires-2 returns-2)

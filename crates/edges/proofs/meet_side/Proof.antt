@@ -1,6 +1,6 @@
--- `edges::meet_side` meets its contract: each return opens the definition and rewrites it by the tests and the calls on its way; the laws are in proofs/Stored.
+-- `edges::meet_side` meets its contract: the side is met with the lower end first.
 use borrow.Author.Needs.{needs}
-use Rattle.edges.proofs.Stored.{met-key, met-key′}
+use Rattle.mesh.proofs.Cuts.{key-rising, key-falling}
 use Rattle.edges.proofs.meet_side.Statement.{statement}
 use Rattle.edges.proofs.meet_side.Tie as tie
 
@@ -11,7 +11,7 @@ same-length : tie.Need-same-length
 same-length c = search needs
 
 returns : tie.Need-returns
-returns c = met-key _ _ (c .before .before .before .before .if1 .taken) (c .before .before .find-or-insert .ensures)
+returns c = rw (key-rising _ _ (c .before .before .before .before .if1 .taken)) (c .before .before .find-or-insert .ensures)
 
 find-or-insert-requires-2 : tie.Need-find-or-insert-requires-2
 find-or-insert-requires-2 c κs = search needs
@@ -20,7 +20,7 @@ same-length-2 : tie.Need-same-length-2
 same-length-2 c = search needs
 
 returns-2 : tie.Need-returns-2
-returns-2 c = met-key′ _ _ (c .before .before .before .before .if1 .left) (c .before .before .find-or-insert2 .ensures)
+returns-2 c = rw (key-falling _ _ (c .before .before .before .before .if1 .left)) (c .before .before .find-or-insert2 .ensures)
 
 pub meet-side-spec : {M : Type 1} → statement M
 meet-side-spec =

@@ -1,13 +1,15 @@
--- `edges::walk` meets its contract: the loop keeps a `Walk` to the side, and goes on to later sides only; the laws are in proofs/Tree and proofs/Stored.
+-- `edges::walk` meets its contract: the loop keeps a `Walk` to the side, and goes on to later sides only; the laws are in proofs/Tree.
 use borrow.Author.Needs.{needs}
 use mathlib.Core.Path.{refl, sym, _∙_}
-use Rattle.edges.proofs.Tree.{left-over}
-use Rattle.edges.proofs.Stored.{Going, going-start, going-on, going-found, going-none}
+use Rattle.edges.specs.Table.{loOf, hiOf, holdOf, underOf, Held}
+use Rattle.edges.proofs.Tree.{left-over, Going, going-start, going-on, going-found, going-none}
 use Rattle.edges.proofs.walk.Statement.{statement}
 use Rattle.edges.proofs.walk.Tie as tie
 
 abbrev Inv-loop : tie.InvT-loop
-Inv-loop w t a b position₀ rest₀ at₀ position rest at = Going (t .base) (t .buckets) w (t .sides) a b position rest at
+Inv-loop w t a b position₀ rest₀ at₀ position rest at = 
+    Held (t .base) (t .buckets) w (t .sides)
+    × Going (t .base) (t .buckets) (loOf (t .base) (t .buckets) w) (hiOf (t .base) (t .buckets) w) (holdOf w) (underOf (t .base) (t .buckets)) (t .sides) a b position rest at
 
 abbrev μ-loop : tie.MeasureT-loop
 μ-loop w t a b position₀ rest₀ at₀ position rest at = left-over (t .sides) at
@@ -31,7 +33,7 @@ index-requires : tie.Need-index-requires Inv-loop μ-loop
 index-requires c κs = search needs
 
 loop-holds : tie.Need-loop-holds Inv-loop μ-loop
-loop-holds c = going-start (c .before .before .before .before .before .before .pre) (c .before .before .before .before .slot .ensures) refl (c .before .before .path .ensures) (c .index .ensures)
+loop-holds c = (c .before .before .before .before .before .before .pre, going-start (c .before .before .before .before .before .before .pre .trees) (c .before .before .before .before .before .before .pre .numbered) (c .before .before .before .before .slot .ensures) refl (c .before .before .path .ensures) (c .index .ensures))
 
 add-k : tie.Need-add-k Inv-loop μ-loop
 add-k c = search needs
@@ -64,7 +66,7 @@ same-side-requires : tie.Need-same-side-requires Inv-loop μ-loop
 same-side-requires c κs = search needs
 
 returns : tie.Need-returns Inv-loop μ-loop
-returns c = going-found (c .before .before .before .before .before .before .loop .inv) (c .before .before .before .before .before .loop-test .taken) (sym (c .before .same-side .ensures) ∙ c .if1 .taken)
+returns c = going-found (c .before .before .before .before .before .before .loop .inv .1) (c .before .before .before .before .before .loop-test .taken) (sym (c .before .same-side .ensures) ∙ c .if1 .taken)
 
 add-position-2 : tie.Need-add-position-2 Inv-loop μ-loop
 add-position-2 c = search needs
@@ -82,13 +84,13 @@ index-requires-2 : tie.Need-index-requires-2 Inv-loop μ-loop
 index-requires-2 c κs = search needs
 
 loop-less : tie.Need-loop-less Inv-loop μ-loop
-loop-less c = going-on (c .before .before .before .before .before .before .before .before .loop .inv) (c .before .before .before .before .before .before .before .loop-test .taken) (sym (c .before .before .before .same-side .ensures) ∙ c .before .before .if1 .left) (c .index2 .ensures) .1
+loop-less c = going-on (c .before .before .before .before .before .before .before .before .loop .inv .1) (c .before .before .before .before .before .before .before .loop-test .taken) (sym (c .before .before .before .same-side .ensures) ∙ c .before .before .if1 .left) (c .index2 .ensures) .1
 
 loop-again : tie.Need-loop-again Inv-loop μ-loop
-loop-again c = going-on (c .before .before .before .before .before .before .before .before .loop .inv) (c .before .before .before .before .before .before .before .loop-test .taken) (sym (c .before .before .before .same-side .ensures) ∙ c .before .before .if1 .left) (c .index2 .ensures) .0
+loop-again c = ((c .before .before .before .before .before .before .before .before .loop .inv .0), going-on (c .before .before .before .before .before .before .before .before .loop .inv .1) (c .before .before .before .before .before .before .before .loop-test .taken) (sym (c .before .before .before .same-side .ensures) ∙ c .before .before .if1 .left) (c .index2 .ensures) .0)
 
 returns-2 : tie.Need-returns-2 Inv-loop μ-loop
-returns-2 c = going-none (c .before .loop .inv) (c .loop-test .left)
+returns-2 c = going-none (c .before .loop .inv .1) (c .loop-test .left)
 
 pub walk-spec : {M : Type 1} → statement M
 walk-spec =

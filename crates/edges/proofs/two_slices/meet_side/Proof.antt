@@ -1,5 +1,5 @@
--- `edges::two_slices::meet_side` meets its contract: the side is met with the lower end first; the laws are in proofs/TwoSlices.
-use Rattle.edges.proofs.TwoSlices.{met-key, met-key′}
+-- `edges::two_slices::meet_side` meets its contract: the side is met with the lower end first.
+use Rattle.mesh.proofs.Cuts.{key-rising, key-falling}
 use borrow.Author.Needs.{needs}
 use Rattle.edges.proofs.two_slices.meet_side.Statement.{statement}
 use Rattle.edges.proofs.two_slices.meet_side.Tie as tie
@@ -14,7 +14,7 @@ same-length-2 : tie.Need-same-length-2
 same-length-2 c = search needs
 
 returns : tie.Need-returns
-returns c = met-key _ _ (c .before .before .before .before .before .before .before .if1 .taken) (c .before .before .before .before .find-or-insert .ensures)
+returns c = rw (key-rising _ _ (c .before .before .before .before .before .before .before .if1 .taken)) (c .before .before .before .before .find-or-insert .ensures)
 
 find-or-insert-requires-2 : tie.Need-find-or-insert-requires-2
 find-or-insert-requires-2 c κs = search needs
@@ -26,7 +26,7 @@ same-length-4 : tie.Need-same-length-4
 same-length-4 c = search needs
 
 returns-2 : tie.Need-returns-2
-returns-2 c = met-key′ _ _ (c .before .before .before .before .before .before .before .if1 .left) (c .before .before .before .before .find-or-insert2 .ensures)
+returns-2 c = rw (key-falling _ _ (c .before .before .before .before .before .before .before .if1 .left)) (c .before .before .before .before .find-or-insert2 .ensures)
 
 pub meet-side-spec : {M : Type 1} → statement M
 meet-side-spec =

@@ -1,13 +1,16 @@
--- `edges::two_slices::walk` meets its contract: the loop keeps a `Walk` to the side, and goes on to later sides only; the laws are in proofs/Tree and proofs/TwoSlices.
+-- `edges::two_slices::walk` meets its contract: the loop keeps a `Walk` to the side, and goes on to later sides only; the laws are in proofs/Tree.
 use mathlib.Core.Path.{refl, sym, _∙_}
-use Rattle.edges.proofs.Tree.{left-over}
-use Rattle.edges.proofs.TwoSlices.{Going, going-start, going-on, going-found, going-none}
+use Rattle.edges.specs.Table.{holdOf}
+use Rattle.edges.specs.TwoSlices.{loAt, hiAt, underAt, HeldInTwo}
+use Rattle.edges.proofs.Tree.{left-over, Going, going-start, going-on, going-found, going-none}
 use borrow.Author.Needs.{needs}
 use Rattle.edges.proofs.two_slices.walk.Statement.{statement}
 use Rattle.edges.proofs.two_slices.walk.Tie as tie
 
 abbrev Inv-loop : tie.InvT-loop
-Inv-loop ends links t a b position₀ rest₀ at₀ position rest at = Going (t .base) (t .buckets) ends links (t .sides) a b position rest at
+Inv-loop ends links t a b position₀ rest₀ at₀ position rest at = 
+    HeldInTwo (t .base) (t .buckets) ends links (t .sides)
+    × Going (t .base) (t .buckets) (loAt ends) (hiAt ends) (holdOf links) (underAt (t .base) (t .buckets)) (t .sides) a b position rest at
 
 abbrev μ-loop : tie.MeasureT-loop
 μ-loop ends links t a b position₀ rest₀ at₀ position rest at = left-over (t .sides) at
@@ -31,7 +34,7 @@ index-requires : tie.Need-index-requires Inv-loop μ-loop
 index-requires c κs = search needs
 
 loop-holds : tie.Need-loop-holds Inv-loop μ-loop
-loop-holds c = going-start (c .before .before .before .before .before .before .before .pre) (c .before .before .before .before .slot .ensures) refl (c .before .before .path .ensures) (c .index .ensures)
+loop-holds c = (c .before .before .before .before .before .before .before .pre, going-start (c .before .before .before .before .before .before .before .pre .trees) (c .before .before .before .before .before .before .before .pre .numbered) (c .before .before .before .before .slot .ensures) refl (c .before .before .path .ensures) (c .index .ensures))
 
 sub-k : tie.Need-sub-k Inv-loop μ-loop
 sub-k c = search needs
@@ -58,7 +61,7 @@ same-side-requires : tie.Need-same-side-requires Inv-loop μ-loop
 same-side-requires c κs = search needs
 
 returns : tie.Need-returns Inv-loop μ-loop
-returns c = going-found (c .before .before .before .before .before .loop .inv) (c .before .before .before .before .loop-test .taken) (sym (c .before .same-side .ensures) ∙ c .if1 .taken)
+returns c = going-found (c .before .before .before .before .before .loop .inv .1) (c .before .before .before .before .loop-test .taken) (sym (c .before .same-side .ensures) ∙ c .if1 .taken)
 
 add-position-2 : tie.Need-add-position-2 Inv-loop μ-loop
 add-position-2 c = search needs
@@ -79,13 +82,13 @@ index-requires-2 : tie.Need-index-requires-2 Inv-loop μ-loop
 index-requires-2 c κs = search needs
 
 loop-less : tie.Need-loop-less Inv-loop μ-loop
-loop-less c = going-on (c .before .before .before .before .before .before .before .before .loop .inv) (c .before .before .before .before .before .before .before .loop-test .taken) (sym (c .before .before .before .before .same-side .ensures) ∙ c .before .before .before .if1 .left) (c .index2 .ensures) .1
+loop-less c = going-on (c .before .before .before .before .before .before .before .before .loop .inv .1) (c .before .before .before .before .before .before .before .loop-test .taken) (sym (c .before .before .before .before .same-side .ensures) ∙ c .before .before .before .if1 .left) (c .index2 .ensures) .1
 
 loop-again : tie.Need-loop-again Inv-loop μ-loop
-loop-again c = going-on (c .before .before .before .before .before .before .before .before .loop .inv) (c .before .before .before .before .before .before .before .loop-test .taken) (sym (c .before .before .before .before .same-side .ensures) ∙ c .before .before .before .if1 .left) (c .index2 .ensures) .0
+loop-again c = ((c .before .before .before .before .before .before .before .before .loop .inv .0), going-on (c .before .before .before .before .before .before .before .before .loop .inv .1) (c .before .before .before .before .before .before .before .loop-test .taken) (sym (c .before .before .before .before .same-side .ensures) ∙ c .before .before .before .if1 .left) (c .index2 .ensures) .0)
 
 returns-2 : tie.Need-returns-2 Inv-loop μ-loop
-returns-2 c = going-none (c .before .loop .inv) (c .loop-test .left)
+returns-2 c = going-none (c .before .loop .inv .1) (c .loop-test .left)
 
 pub walk-spec : {M : Type 1} → statement M
 walk-spec =
