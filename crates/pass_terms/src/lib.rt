@@ -1,11 +1,15 @@
 // What one triangle adds to the mass and the energy matrix, with no slices: the holonomy, the terms at its corners, and the entries along its sides,
 // flat or by the accurate integrals, with or without the holomorphic correction. specs/Terms.antt says what they are.
 use complex::Complex;
+use integrals::Closed;
+use integrals::Factors;
 use plane::Pair;
 ghost use mathlib.Core.Path.{_≡_};
 ghost use Rattle.pass_terms.specs.Terms.{holonomyOf, massCorner, flatCorner, correctionIn, massScalar, massEntry, correctedEntry, holomorphicEntry};
 ghost use Rattle.pass_terms.specs.Terms.{sidesOf, partsOf, cornerIn, cornersIn, flatIn, accurateIn, energyIn, entryIn, termsBy, termsIn};
 ghost use Rattle.pass_terms.specs.Flat.{flatEntriesIn, flatTermsIn};
+ghost use Rattle.pass_terms.specs.Factors.{factorsIn};
+ghost use Rattle.integrals.specs.Factors.{factorsOf};
 
 // The options that assembly reads: by the accurate integrals or flat, and the holomorphic weight.
 pub struct Mode {
@@ -96,11 +100,25 @@ fn correction(holomorphic: f64, omega: f64) -> f64
     -holomorphic * omega / 6.0
 }
 
-fn mass_scalar(accurate: bool, omega: f64) -> Complex
+// What the accurate integrals take of the holonomy alone. It is not read where the entries are flat.
+fn factors_in(accurate: bool, omega: f64) -> Factors
+    ensures { λ r. ⌜ r ≡ factorsIn accurate omega ⌝ }
+{
+    if accurate {
+        return integrals::factors_of(omega);
+    }
+    Factors::Closed(Closed {
+        phase: Complex::ZERO,
+        recip: 0.0,
+    })
+}
+
+fn mass_scalar(accurate: bool, omega: f64, f: Factors) -> Complex
+    requires { ⌜ f ≡ factorsIn accurate omega ⌝ }
     ensures { λ r. ⌜ r ≡ massScalar accurate omega ⌝ }
 {
     if accurate {
-        return integrals::mass_integral(omega);
+        return integrals::mass_by(omega, f);
     }
     Complex::new(1.0 / 12.0, 0.0)
 }
@@ -111,14 +129,16 @@ fn mass_entry(scalar: Complex, area: f64, z: Complex) -> Complex
     z.conj().mul(scalar).scale(area)
 }
 
-fn accurate_entry(omega: f64, area: f64, z: Complex, p: [Pair; 3]) -> Complex
+fn accurate_entry(omega: f64, f: Factors, area: f64, z: Complex, p: [Pair; 3]) -> Complex
+    requires { ⌜ f ≡ factorsOf omega ⌝ }
     ensures { λ r. ⌜ r ≡ accurateIn omega area z p ⌝ }
 {
     let o = p[2];
     let a = plane::sub2(p[0], o);
     let b = plane::sub2(p[1], o);
-    let integral = integrals::dirichlet_integral(
+    let integral = integrals::dirichlet_by(
         omega,
+        f,
         plane::dot2(a, a),
         plane::dot2(a, b),
         plane::dot2(b, b),
@@ -136,11 +156,19 @@ fn flat_entry(area: f64, z: Complex, p: [Pair; 3]) -> Complex
         .scale(-plane::dot2(a, b) * float::recip(4.0 * area))
 }
 
-fn energy_entry(accurate: bool, omega: f64, area: f64, z: Complex, p: [Pair; 3]) -> Complex
+fn energy_entry(
+    accurate: bool,
+    omega: f64,
+    f: Factors,
+    area: f64,
+    z: Complex,
+    p: [Pair; 3],
+) -> Complex
+    requires { ⌜ f ≡ factorsIn accurate omega ⌝ }
     ensures { λ r. ⌜ r ≡ energyIn accurate omega area z p ⌝ }
 {
     if accurate {
-        return accurate_entry(omega, area, z, p);
+        return accurate_entry(omega, f, area, z, p);
     }
     flat_entry(area, z, p)
 }
@@ -176,12 +204,21 @@ fn holomorphic_entry(
 }
 
 // The entries of the side from the first of three corners to the second; z is the transport along it, and the scalar that of the triangle's mass.
-fn entry_of(m: Mode, omega: f64, scalar: Complex, area: f64, z: Complex, p: [Pair; 3]) -> Entry
+fn entry_of(
+    m: Mode,
+    omega: f64,
+    f: Factors,
+    scalar: Complex,
+    area: f64,
+    z: Complex,
+    p: [Pair; 3],
+) -> Entry
+    requires { ⌜ f ≡ factorsIn (m .accurate) omega ⌝ }
     requires { ⌜ scalar ≡ massScalar (m .accurate) omega ⌝ }
     ensures { λ r. ⌜ r ≡ entryIn m omega area z p ⌝ }
 {
     let mass = mass_entry(scalar, area, z);
-    let energy = energy_entry(m.accurate, omega, area, z, p);
+    let energy = energy_entry(m.accurate, omega, f, area, z, p);
     Entry {
         mass,
         energy: holomorphic_entry(m.holomorphic, omega, area, z, mass, energy),
@@ -243,10 +280,11 @@ fn flat_terms(area: f64, z: Sides, p: [Pair; 3]) -> Terms
 fn terms_by(m: Mode, omega: f64, area: f64, z: Sides, p: [Pair; 3]) -> Terms
     ensures { λ r. ⌜ r ≡ termsBy m omega area z p ⌝ }
 {
-    let scalar = mass_scalar(m.accurate, omega);
-    let ij = entry_of(m, omega, scalar, area, z.ij, p);
-    let jk = entry_of(m, omega, scalar, area, z.jk, [p[1], p[2], p[0]]);
-    let ki = entry_of(m, omega, scalar, area, z.ki, [p[2], p[0], p[1]]);
+    let f = factors_in(m.accurate, omega);
+    let scalar = mass_scalar(m.accurate, omega, f);
+    let ij = entry_of(m, omega, f, scalar, area, z.ij, p);
+    let jk = entry_of(m, omega, f, scalar, area, z.jk, [p[1], p[2], p[0]]);
+    let ki = entry_of(m, omega, f, scalar, area, z.ki, [p[2], p[0], p[1]]);
     let energy = energy_corners(m.accurate, omega, area, p);
     parts(
         mass_corner(area),

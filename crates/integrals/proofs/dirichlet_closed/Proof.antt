@@ -1,14 +1,12 @@
 -- `integrals::dirichlet_closed` meets its contract: each return opens the definition and rewrites it by the tests and the calls on its way.
 use Rattle.integrals.specs.Integrals.{dirichletClosed}
+use Rattle.integrals.specs.Factors.{closedOf}
 use borrow.Author.Needs.{needs}
 use Rattle.integrals.proofs.dirichlet_closed.Statement.{statement}
 use Rattle.integrals.proofs.dirichlet_closed.Tie as tie
 
 new-requires : tie.Need-new-requires
 new-requires c κs = search needs
-
-from-angle-requires : tie.Need-from-angle-requires
-from-angle-requires c κs = search needs
 
 mul-requires : tie.Need-mul-requires
 mul-requires c κs = search needs
@@ -19,25 +17,14 @@ new-requires-2 c κs = search needs
 add-requires : tie.Need-add-requires
 add-requires c κs = search needs
 
-recip-requires : tie.Need-recip-requires
-recip-requires c κs = search needs
-
 scale-requires : tie.Need-scale-requires
 scale-requires c κs = search needs
 
 returns : tie.Need-returns
-unfolding dirichletClosed
-returns c = simp (c .scale .ensures, c .before .recip .ensures, c .before .before .add .ensures, c .before .before .before .new2 .ensures, c .before .before .before .before .mul .ensures, c .before .before .before .before .before .from-angle .ensures, c .before .before .before .before .before .before .new .ensures)
+unfolding dirichletClosed closedOf
+returns c = simp (c .scale .ensures, c .before .add .ensures, c .before .before .new2 .ensures, c .before .before .before .mul .ensures, c .before .before .before .before .new .ensures, c .before .before .before .before .before .pre)
 
 pub dirichlet-closed-spec : {M : Type 1} → statement M
 dirichlet-closed-spec =
     tie.close
-    (tie.spec
-    new-requires
-    from-angle-requires
-    mul-requires
-    new-requires-2
-    add-requires
-    recip-requires
-    scale-requires
-    returns)
+    (tie.spec new-requires mul-requires new-requires-2 add-requires scale-requires returns)

@@ -4,9 +4,6 @@ use borrow.Author.Needs.{needs}
 use Rattle.integrals.proofs.mass_closed.Statement.{statement}
 use Rattle.integrals.proofs.mass_closed.Tie as tie
 
-from-angle-requires : tie.Need-from-angle-requires
-from-angle-requires c κs = search needs
-
 scale-requires : tie.Need-scale-requires
 scale-requires c κs = search needs
 
@@ -48,7 +45,6 @@ pub mass-closed-spec : {M : Type 1} → statement M
 mass-closed-spec =
     tie.close
     (tie.spec
-    from-angle-requires
     scale-requires
     new-requires
     sub-requires

@@ -28,8 +28,8 @@ dot2-requires-2 c κs = search needs
 dot2-requires-3 : tie.Need-dot2-requires-3
 dot2-requires-3 c κs = search needs
 
-dirichlet-integral-requires : tie.Need-dirichlet-integral-requires
-dirichlet-integral-requires c κs = search needs
+dirichlet-by-requires : tie.Need-dirichlet-by-requires
+dirichlet-by-requires c κs = search needs
 
 conj-requires : tie.Need-conj-requires
 conj-requires c κs = search needs
@@ -45,7 +45,7 @@ scale-requires c κs = search needs
 
 returns : tie.Need-returns
 unfolding accurateEntry
-returns c = simp (c .scale .ensures, c .before .recip .ensures, c .before .before .mul .ensures, c .before .before .before .conj .ensures, c .before .before .before .before .dirichlet-integral .ensures, c .before .before .before .before .before .dot23 .ensures, c .before .before .before .before .before .before .dot22 .ensures, c .before .before .before .before .before .before .before .dot2 .ensures, c .before .before .before .before .before .before .before .before .sub22 .ensures, c .before .before .before .before .before .before .before .before .before .before .sub2 .ensures)
+returns c = simp (c .scale .ensures, c .before .recip .ensures, c .before .before .mul .ensures, c .before .before .before .conj .ensures, c .before .before .before .before .dirichlet-by .ensures, c .before .before .before .before .before .dot23 .ensures, c .before .before .before .before .before .before .dot22 .ensures, c .before .before .before .before .before .before .before .dot2 .ensures, c .before .before .before .before .before .before .before .before .sub22 .ensures, c .before .before .before .before .before .before .before .before .before .before .sub2 .ensures)
 
 pub accurate-entry-spec : {M : Type 1} → statement M
 accurate-entry-spec =
@@ -59,7 +59,7 @@ accurate-entry-spec =
     dot2-requires
     dot2-requires-2
     dot2-requires-3
-    dirichlet-integral-requires
+    dirichlet-by-requires
     conj-requires
     mul-requires
     recip-requires

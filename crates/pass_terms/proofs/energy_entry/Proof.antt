@@ -1,11 +1,13 @@
 -- `pass_terms::energy_entry` meets its contract: each return opens the definition and rewrites it by the tests and the calls on its way.
 use Rattle.pass_terms.specs.Terms.{energyEntry}
+use Rattle.pass_terms.specs.Factors.{factorsIn}
 use borrow.Author.Needs.{needs}
 use Rattle.pass_terms.proofs.energy_entry.Statement.{statement}
 use Rattle.pass_terms.proofs.energy_entry.Tie as tie
 
 accurate-entry-requires : tie.Need-accurate-entry-requires
-accurate-entry-requires c κs = search needs
+unfolding factorsIn
+accurate-entry-requires c κs = simp (c .before .pre, c .if1 .taken)
 
 returns : tie.Need-returns
 unfolding energyEntry

@@ -1,6 +1,6 @@
 -- `pass_terms::entry_of` meets its contract: the definition is its calls, and the scalar that of the triangle.
-use borrow.Author.Needs.{needs}
 use Rattle.pass_terms.specs.Terms.{entryOf}
+use borrow.Author.Needs.{needs}
 use Rattle.pass_terms.proofs.entry_of.Statement.{statement}
 use Rattle.pass_terms.proofs.entry_of.Tie as tie
 
@@ -15,7 +15,7 @@ holomorphic-entry-requires c κs = search needs
 
 returns : tie.Need-returns
 unfolding entryOf
-returns c = simp (c .holomorphic-entry .ensures, c .before .energy-entry .ensures, c .before .before .mass-entry .ensures, c .before .before .before .pre)
+returns c = simp (c .holomorphic-entry .ensures, c .before .energy-entry .ensures, c .before .before .mass-entry .ensures, c .before .before .before .pre .1)
 
 pub entry-of-spec : {M : Type 1} → statement M
 entry-of-spec =

@@ -1,0 +1,13 @@
+-- `integrals::series_of` meets its contract: the definition is its body.
+use mathlib.Core.Path.{refl}
+use Rattle.integrals.specs.Factors.{seriesOf}
+use borrow.Author.Needs.{needs}
+use Rattle.integrals.proofs.series_of.Statement.{statement}
+use Rattle.integrals.proofs.series_of.Tie as tie
+
+returns : tie.Need-returns
+unfolding seriesOf
+returns c = refl
+
+pub series-of-spec : {M : Type 1} → statement M
+series-of-spec = tie.close (tie.spec returns)
