@@ -14,10 +14,9 @@ use lib.ListN.{length, getD, set, length-set, length-append, replicate}
 use lib.Seq.{getD-set-same, getD-set-other, sets, length-sets}
 use borrow.Author.Tests.{lt-ltb, le-ltb}
 use Rattle.mesh.specs.Mesh.{Side, side, key, tri, indexIn, met, metAll}
-use Rattle.mesh.proofs.Theorem.{index-below}
 use Rattle.runs.proofs.Runs.{sets-before}
 use Rattle.mesh.proofs.Cuts.{key-either, index-keep, index-end, met-old, met-new, met-numbered, Found, found, missing, find}
-use Rattle.edges.specs.Table.{slotOf, pathOf, pairs, Spot, bucket, link, Trees, Free, holdOf, loOf, hiOf, underOf, sidesIn, Held, Walked, Outside, Met, MetTri, oneMore}
+use Rattle.edges.specs.Table.{slotOf, pathOf, pairs, Spot, bucket, link, Trees, holdOf, loOf, hiOf, underOf, sidesIn, Held, Walked, Outside, Met, MetTri, oneMore}
 use Rattle.edges.proofs.Tree.{same-both, same-not, Walk, walk-start, walk-known, walk-on, walk-free, walk-none, left-over, walk-less, Put, trees-more, no-trees, new-pairs, length-pairs, index-here, index-nowhere}
 
 -- the bucket of a side is one of the N
