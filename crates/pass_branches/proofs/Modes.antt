@@ -10,7 +10,7 @@ use Rattle.linear_hermitian.specs.declared.Hermitian.{Hermitian}
 use Rattle.linear_conjugate_gradient.specs.declared.Vectors.{Vectors}
 use Rattle.linear_conjugate_gradient.specs.Work.{SolverRoom}
 use Rattle.pass_inverse_iteration.specs.declared.Outer.{Outer}
-use Rattle.pass_inverse_iteration.specs.Work.{PencilRoom, PlaneRoom}
+use Rattle.pass_inverse_iteration.specs.Work.{PencilRoom, PlanesBelow}
 use Rattle.pass_refusal.specs.declared.Stage.{Stage}
 use Rattle.pass_soft.specs.declared.Terms.{Terms}
 use Rattle.pass_soft.specs.Soft.{Term, System, termOf}

@@ -14,7 +14,7 @@ use Rattle.linear_hermitian.specs.Work.{matrix}
 use Rattle.linear_conjugate_gradient.specs.declared.Vectors.{Vectors}
 use Rattle.pass_inverse_iteration.specs.declared.Outer.{Outer}
 use Rattle.pass_inverse_iteration.specs.Inverse.{inverseOf}
-use Rattle.pass_inverse_iteration.specs.Work.{PlaneRoom, startIn}
+use Rattle.pass_inverse_iteration.specs.Work.{PlanesBelow, startIn}
 use Rattle.pass_soft.specs.declared.Terms.{Terms}
 use Rattle.pass_soft.specs.Work.{systemIn, termsIn}
 use Rattle.pass_constraints.specs.Constraints.{boundaryData}

@@ -18,7 +18,7 @@ ghost use lib.ListN.{length};
 ghost use Rattle.linear_cells.specs.Cell.{regionC};
 ghost use Rattle.linear_hermitian.specs.Work.{Graph};
 ghost use Rattle.linear_conjugate_gradient.specs.Work.{SolverRoom};
-ghost use Rattle.pass_inverse_iteration.specs.Work.{PencilRoom, PlaneRoom, Graphs};
+ghost use Rattle.pass_inverse_iteration.specs.Work.{PencilRoom, PlanesBelow, Graphs};
 ghost use Rattle.pass_constraints.specs.Constraints.{boundaryData};
 ghost use Rattle.pass_systems.specs.Work.{TargetRoom};
 ghost use Rattle.pass_options.specs.declared.BoundaryMode.the-variants.{Tangent};
