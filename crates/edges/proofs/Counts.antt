@@ -23,12 +23,12 @@ use Rattle.edges.proofs.Tree.{length-pairs}
 
 -- ---- listed sides
 
-times-append : (s : Side) (l r : List Side) → times s (l ++ r) ≡ times s l + times s r
+pub times-append : (s : Side) (l r : List Side) → times s (l ++ r) ≡ times s l + times s r
 unfolding times
 times-append s [] r = omega arith
 times-append s (t ∷ l) r = omega (arith, times-append s l r)
 
-listed-snoc : (ts : List Tri) (t : Tri) → listed (ts ++ (t ∷ [])) ≡ listed ts ++ sides t
+pub listed-snoc : (ts : List Tri) (t : Tri) → listed (ts ++ (t ∷ [])) ≡ listed ts ++ sides t
 unfolding listed
 listed-snoc [] (tri a b c) = refl
 listed-snoc (tri a b c ∷ ts) t = ap (λ (l : List Side). sides (tri a b c) ++ l) (listed-snoc ts t)

@@ -14,7 +14,6 @@ use lib.ListN.{length, getD, set, length-set, length-append, replicate}
 use lib.Seq.{getD-set-same, getD-set-other, sets, length-sets}
 use borrow.Author.Tests.{lt-ltb, le-ltb}
 use Rattle.mesh.specs.Mesh.{Side, side, key, tri, indexIn, met, metAll}
-use Rattle.mesh.proofs.Theorem.{index-below}
 use Rattle.runs.proofs.Runs.{sets-before}
 use Rattle.mesh.proofs.Cuts.{index-end, met-old, met-new, met-numbered}
 use Rattle.edges.specs.Table.{slotOf, pathOf, pairs, Spot, bucket, link, Trees, Free, holdOf, loOf, hiOf, underOf, sidesIn, Held, WalkedIn, Outside, Met, MetTri, oneMore}

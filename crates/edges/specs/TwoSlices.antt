@@ -1,6 +1,6 @@
 -- A table of sides in two slices, so that the ends can stand where they are wanted: the lower and the upper end of side k at 2 k and 2 k + 1 of `e`, and in `w`
 -- from `o` on N buckets and then two links of each side. All else is as in one slice (Table). Definitions only.
-use Prim.Native.Nat.{ℕ, _+_, _*_, _^_, _≤_, _<_}
+use Prim.Native.Nat.{ℕ, _+_, _*_, _≤_, _<_}
 use mathlib.Core.Path.{_≡_}
 use mathlib.Core.List.{List}
 use mathlib.Core.Option.{some}

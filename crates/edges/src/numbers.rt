@@ -34,16 +34,13 @@ fn number_triangle(w: &mut [u32], p: NumberingPlan, i: usize, m: usize) -> usize
     requires { ⌜ (i < p .triangles) × (m ≤ 3 * i) ⌝ }
     ensures { λ r. ⌜ NumberStep (p .corners) (p .numbers) (p .table) (p .buckets) i (now (w .entry)) m (now (w .exit)) r ⌝ }
 {
-    let k = p.corners + 3 * i;
-    let a = w[k];
-    let b = w[k + 1];
-    let c = w[k + 2];
+    let c = mesh::corners(w, p.corners + 3 * i);
     let t = crate::Table {
         base: p.table,
         buckets: p.buckets,
         sides: m,
     };
-    let met = crate::meet_triangle(w, t, a, b, c);
+    let met = crate::meet_triangle(w, t, c.a, c.b, c.c);
     put_three(
         w,
         p.numbers + 3 * i,

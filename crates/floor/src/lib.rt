@@ -1,6 +1,5 @@
 // What is wrong with a floor, by document 01's table: rows 1 and 3 to 8, tested in table order, the lowest index first.
 ghost use mathlib.Core.Path.{_≡_};
-ghost use mathlib.Core.Bool.{not};
 ghost use Prim.Native.Nat.{_+_, _*_, _/_, _≤_};
 ghost use lib.ListN.{length, getD};
 ghost use lib.Ieee.{nan};
@@ -69,13 +68,11 @@ fn bad_corner(triangles: &[u32], n: usize, i: usize) -> bool
     requires { ⌜ 3 * i + 3 ≤ length (now triangles) ⌝ }
     ensures { λ r. ⌜ r ≡ badCorner (now (triangles .entry)) n i ⌝ }
 {
-    let a = mesh::index(triangles[3 * i]);
-    let b = mesh::index(triangles[3 * i + 1]);
-    let c = mesh::index(triangles[3 * i + 2]);
-    if n <= a {
+    let c = mesh::corners(triangles, 3 * i);
+    if n <= mesh::index(c.a) {
         return true;
     }
-    n <= b || n <= c
+    n <= mesh::index(c.b) || n <= mesh::index(c.c)
 }
 
 // Row 6: the lowest point that is not finite, or n.

@@ -1,18 +1,17 @@
 -- From the loops to an iteration of the method: what each function makes of the vectors. Assumes nothing.
 use mathlib.Core.Path.{_≡_, refl, sym, ap, _∙_}
 use mathlib.Core.Bool.{Bool, true, false, cond}
-use mathlib.Core.List.{List, map}
-use Prim.Native.Nat.{ℕ, zero, suc, _+_, _*_}
-use native.Mathlib.Omega.{arith}
+use mathlib.Core.List.{List}
+use Prim.Native.Nat.{ℕ, _*_}
 use lib.Ieee.{Float, nan, le}
-use lib.ListN.{length, replicate, length-replicate, replicate-append-replicate}
+use lib.ListN.{length, replicate, length-replicate}
 use Rattle.float.specs.Double.{lit, maxOf, notPositive, _⊘_}
 use Rattle.root.specs.Root.{rootOf}
-use Rattle.complex.specs.declared.Complex.{Complex}
 use Rattle.complex.specs.Complex.{czero}
 use Rattle.linear_cells.specs.Region.{region, put}
-use Rattle.linear_cells.specs.Cell.{reOf, imOf, flat, regionC, putC}
+use Rattle.linear_cells.specs.Cell.{regionC, putC}
 use Rattle.linear_cells.proofs.Regions.{length-region}
+use Rattle.linear_cells.proofs.Changes.{zeros as vector-zeros}
 use Rattle.linear_hermitian.specs.declared.Hermitian.{Hermitian}
 use Rattle.linear_hermitian.specs.Hermitian.{Matrix, dotOf, normOf, scaled, applied}
 use Rattle.linear_hermitian.specs.Work.{matrix}
@@ -30,20 +29,6 @@ use Rattle.linear_conjugate_gradient.proofs.Lays.{Sized, read-sized, la
 use Rattle.linear_conjugate_gradient.proofs.Passes.{reduced-sized, advanced-sized, directed-sized}
 
 -- ---- begin
-
-map-replicate : (f : Complex → Float) (z : Complex) (n : ℕ) → map f (replicate n z) ≡ replicate n (f z)
-map-replicate f z zero = refl
-map-replicate f z (suc n) = rw (map-replicate f z n)
-
-flat-zeros : (n : ℕ) → replicate (2 * n) (lit 0) ≡ flat (replicate n czero)
-unfolding flat
-flat-zeros n =
-    let e : n + n ≡ 2 * n = omega arith in
-    sym (rw (map-replicate reOf czero n, map-replicate imOf czero n) (replicate-append-replicate n n (lit 0) ∙ rw e))
-
-put-zeros : (w : List Float) (b n : ℕ) → put w b (replicate (2 * n) (lit 0)) ≡ putC w b (replicate n czero)
-unfolding putC
-put-zeros w b n = ap (put w b) (flat-zeros n)
 
 pub begun-sized : (n : ℕ) (d : List Float) (s : State) → length d ≡ n → Sized n s → Sized n (begun d s)
 unfolding begun
@@ -76,7 +61,7 @@ begin-all w h l ok {w₁} {w₂} {w₃} {r} e₁ e₂ e₃ er =
     let z₂ : Sized n s₂ = record { x-n = y .x-n; r-n = z .r-n; p-n = z .p-n; q-n = z .q-n; inverse-n = y .inverse-n } in
     let f₁ : w₁ ≡ lay w n l s₁ = e₁ ∙ ap (λ u. put u (l .inverse) (t .inverse)) (lay-read w n l) ∙ put-inverse w n l vr s z (t .inverse) (y .inverse-n) in
     let zeros : replicate n czero ≡ t .x = ap (λ k. replicate k czero) (sym (z .r-n)) in
-    let f₂ : w₂ ≡ lay w n l s₂ = e₂ ∙ put-zeros w₁ (l .x) n ∙ rw (f₁, zeros) (put-x w n l vr s₁ z₁ (t .x) (y .x-n)) in
+    let f₂ : w₂ ≡ lay w n l s₂ = vector-zeros w₁ (l .x) n e₂ ∙ rw (f₁, zeros) (put-x w n l vr s₁ z₁ (t .x) (y .x-n)) in
     let f₃ : w₃ ≡ lay w n l t = e₃ ∙ rw (f₂, get-inverse w n l vr s₂ z₂, get-r w n l vr s₂ z₂) (put-p w n l vr s₂ z₂ (t .p) (y .p-n)) in
     record { work = f₃; result = er ∙ rw (f₃, get-p w n l vr t y, get-r w n l vr t y) }
 

@@ -5,9 +5,10 @@ use mathlib.Core.Path.{_≡_, refl, sym, ap, _∙_}
 use mathlib.Core.List.{List}
 use lib.ListN.{length}
 use lib.Ieee.{Float, nan}
+use Rattle.complex.specs.declared.Complex.{Complex}
 use Rattle.pass_terms.specs.declared.Mode.{Mode}
 use Rattle.linear_cells.specs.Region.{region, put}
-use Rattle.linear_cells.specs.Cell.{flat}
+use Rattle.linear_cells.specs.Cell.{flat, regionC}
 use Rattle.linear_cells.specs.Rows.{laid}
 use Rattle.linear_cells.proofs.Loops.{apart}
 use Rattle.linear_cells.proofs.Regions.{region-else}
@@ -44,33 +45,33 @@ energy-same m f g n t a b h =
     ∙ ap (λ (s : Sums). record { diagonal = s .energyDiagonal; off = s .energyOff; edgeA = a; edgeB = b }) (sums-same m f g n (length a) t h)
     ∙ of-energy m g n (length a) t a b refl
 
+-- a matrix by what its two regions hold
+matrix-by : (w : List Float) (h : Hermitian) (a b : List ℕ) {d : List Float} {o : List Complex} → region nan w (h .diagonal) (h .size) ≡ d → regionC w (h .off) (h .edges) ≡ o
+    → matrix w h a b ≡ record { diagonal = d; off = o; edgeA = a; edgeB = b }
+unfolding matrix
+matrix-by w h a b p q = λ i. record { diagonal = p i; off = q i; edgeA = a; edgeB = b }
+
 module _ (m : Mode) (w : List Float) (u : List ℕ) (l : AssemblyPlan) (mass energy : Hermitian) {lenu : ℕ} (ok : AssemblyRoom (length w) lenu l mass energy) (t : ℕ) where
   sized : Sized mass energy (sumsTo m (floorFrom w u l (mass .edges)) (mass .size) (mass .edges) t)
   sized = sums-sized m (floorFrom w u l (mass .edges)) t mass energy (ok .matrices .one-size) (ok .matrices .one-graph)
 
   pub mass-matrix : (a b : List ℕ) → length a ≡ mass .edges
       → matrix (assembledTo m w u l mass energy t) mass a b ≡ massOf m (floorFrom w u l (mass .edges)) (mass .size) t a b
-  unfolding assembledTo matrix
+  unfolding assembledTo
   mass-matrix a b k =
       let f : Floor = floorFrom w u l (mass .edges) in
       let v : Sums = sumsTo m f (mass .size) (mass .edges) t in
-      let p = get-mass-diagonal w mass energy (ok .matrices) v sized in
-      let q = get-mass-off w mass energy (ok .matrices) v sized in
-      let e : matrix (lay w mass energy v) mass a b ≡ record { diagonal = v .massDiagonal; off = v .massOff; edgeA = a; edgeB = b } =
-      λ i. record { diagonal = p i; off = q i; edgeA = a; edgeB = b } in
-      e ∙ of-mass m f (mass .size) (mass .edges) t a b k
+      matrix-by (lay w mass energy v) mass a b (get-mass-diagonal w mass energy (ok .matrices) v sized) (get-mass-off w mass energy (ok .matrices) v sized)
+      ∙ of-mass m f (mass .size) (mass .edges) t a b k
 
   pub energy-matrix : (a b : List ℕ) → length a ≡ mass .edges
       → matrix (assembledTo m w u l mass energy t) energy a b ≡ energyOf m (floorFrom w u l (mass .edges)) (mass .size) t a b
-  unfolding assembledTo matrix
+  unfolding assembledTo
   energy-matrix a b k =
       let f : Floor = floorFrom w u l (mass .edges) in
       let v : Sums = sumsTo m f (mass .size) (mass .edges) t in
-      let p = get-energy-diagonal w mass energy (ok .matrices) v sized in
-      let q = get-energy-off w mass energy (ok .matrices) v sized in
-      let e : matrix (lay w mass energy v) energy a b ≡ record { diagonal = v .energyDiagonal; off = v .energyOff; edgeA = a; edgeB = b } =
-      λ i. record { diagonal = p i; off = q i; edgeA = a; edgeB = b } in
-      e ∙ of-energy m f (mass .size) (mass .edges) t a b k
+      matrix-by (lay w mass energy v) energy a b (get-energy-diagonal w mass energy (ok .matrices) v sized) (get-energy-off w mass energy (ok .matrices) v sized)
+      ∙ of-energy m f (mass .size) (mass .edges) t a b k
 
   -- ---- all else
 

@@ -1,18 +1,17 @@
 -- A triangle added to both matrices, all of them, and the matrices that stand there then. Assumes nothing.
-use Prim.Native.Nat.{ℕ, zero, suc, _+_, _*_, _≤_, _<_}
+use Prim.Native.Nat.{ℕ, _+_, _≤_, _<_}
 use native.Mathlib.Omega.{arith}
 use mathlib.Core.Path.{_≡_, refl, sym, ap, _∙_}
-use mathlib.Core.List.{List, map}
-use lib.ListN.{length, length-replicate, getD, replicate, replicate-append-replicate}
+use mathlib.Core.List.{List}
+use lib.ListN.{length, length-replicate, getD, replicate}
 use lib.Ieee.{Float, nan}
 use Rattle.float.specs.Double.{lit}
-use Rattle.complex.specs.declared.Complex.{Complex}
 use Rattle.complex.specs.Complex.{czero}
 use Rattle.pass_terms.specs.declared.Mode.{Mode}
 use Rattle.pass_terms.specs.declared.Part.{Part}
 use Rattle.pass_terms.specs.declared.Terms.{Terms}
 use Rattle.linear_cells.specs.Region.{region, put}
-use Rattle.linear_cells.specs.Cell.{reOf, imOf, flat, putC}
+use Rattle.linear_cells.proofs.Changes.{zeros as vector-zeros}
 use Rattle.linear_hermitian.specs.declared.Hermitian.{Hermitian}
 use Rattle.pass_assembly.specs.declared.Triple.{Triple}
 use Rattle.pass_assembly.specs.declared.AssemblyPlan.{AssemblyPlan}
@@ -147,17 +146,6 @@ module _ (m : Mode) (w : List Float) (u : List ℕ) (l : AssemblyPlan) (mass ene
 
 -- ---- over what stood there
 
--- belongs in crate linear_cells: a complex vector of zeros
-map-replicate : (f : Complex → Float) (z : Complex) (n : ℕ) → map f (replicate n z) ≡ replicate n (f z)
-map-replicate f z zero = refl
-map-replicate f z (suc n) = rw (map-replicate f z n)
-
-flat-zeros : (n : ℕ) → replicate (2 * n) (lit 0) ≡ flat (replicate n czero)
-unfolding flat
-flat-zeros n =
-    let e : n + n ≡ 2 * n = omega arith in
-    sym (rw (map-replicate reOf czero n, map-replicate imOf czero n) (replicate-append-replicate n n (lit 0) ∙ ap (λ k. replicate k (lit 0)) e))
-
 module _ (w : List Float) (mass energy : Hermitian) (ok : AddRoom (length w) mass energy) (v : Sums) (y : Sized mass energy v) where
   mass-zeros : Sums
   mass-zeros = record { massDiagonal = replicate (mass .size) (lit 0); massOff = replicate (mass .edges) czero; energyDiagonal = v .energyDiagonal; energyOff = v .energyOff }
@@ -167,25 +155,27 @@ module _ (w : List Float) (mass energy : Hermitian) (ok : AddRoom (length w) mas
   mass-zeros-sized = record { mass-n = length-replicate (mass .size) (lit 0); mass-e = length-replicate (mass .edges) czero; energy-n = y .energy-n; energy-e = y .energy-e }
 
   clear-mass : cleared mass (lay w mass energy v) ≡ lay w mass energy mass-zeros
-  unfolding cleared mass-zeros putC
+  unfolding cleared mass-zeros
   clear-mass =
       let k : length (replicate (mass .size) (lit 0)) ≡ mass .size = length-replicate (mass .size) (lit 0) in
       let half : Sums = withMass (replicate (mass .size) (lit 0)) v in
       let z : Sized mass energy half = record { mass-n = k; mass-e = y .mass-e; energy-n = y .energy-n; energy-e = y .energy-e } in
-      rw (put-mass-diagonal w mass energy ok v y (replicate (mass .size) (lit 0)) k, flat-zeros (mass .edges))
+      vector-zeros _ (mass .off) (mass .edges) refl
+      ∙ rw (put-mass-diagonal w mass energy ok v y (replicate (mass .size) (lit 0)) k)
       (put-mass-off w mass energy ok half z (replicate (mass .edges) czero) (length-replicate (mass .edges) czero))
 
   energy-zeros : Sums
   energy-zeros = record { massDiagonal = v .massDiagonal; massOff = v .massOff; energyDiagonal = replicate (energy .size) (lit 0); energyOff = replicate (energy .edges) czero }
 
   clear-energy : cleared energy (lay w mass energy v) ≡ lay w mass energy energy-zeros
-  unfolding cleared energy-zeros putC
+  unfolding cleared energy-zeros
   clear-energy =
       let d : List Float = replicate (energy .size) (lit 0) in
       let k : length d ≡ energy .size = length-replicate (energy .size) (lit 0) in
       let half : Sums = record { massDiagonal = v .massDiagonal; massOff = v .massOff; energyDiagonal = d; energyOff = v .energyOff } in
       let z : Sized mass energy half = record { mass-n = y .mass-n; mass-e = y .mass-e; energy-n = k; energy-e = y .energy-e } in
-      rw (put-energy-diagonal w mass energy ok v y d k, flat-zeros (energy .edges))
+      vector-zeros _ (energy .off) (energy .edges) refl
+      ∙ rw (put-energy-diagonal w mass energy ok v y d k)
       (put-energy-off w mass energy ok half z (replicate (energy .edges) czero) (length-replicate (energy .edges) czero))
 
 both-cleared : (w : List Float) (mass energy : Hermitian) → AddRoom (length w) mass energy → {w₁ w₂ : List Float} → w₁ ≡ cleared mass w → w₂ ≡ cleared energy w₁

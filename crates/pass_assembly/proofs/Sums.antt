@@ -106,34 +106,27 @@ sums-more m f n e t hc hs = rw (add-one t) (sums-suc m f n e t hc hs)
 abbrev pub SameTo : Mode → Floor → Floor → ℕ → Type 0
 SameTo m f g t = (i : ℕ) → i < t → (f .corners i ≡ g .corners i) × ((f .numbers i ≡ g .numbers i) × (termsAt m f i ≡ termsAt m g i))
 
+-- two sequences that begin alike, and go on alike, are alike
+same-to : {A : Type 0} (x y : ℕ → A) → x 0 ≡ y 0 → (t : ℕ) → ((i : ℕ) → i < t → x i ≡ y i → x (suc i) ≡ y (suc i)) → x t ≡ y t
+same-to x y z zero h = z
+same-to x y z (suc t) h = h t (omega arith) (same-to x y z t (λ i l. h i (omega arith)))
+
 module _ (m : Mode) (f g : Floor) where
   mass-diagonal-same : (v t : ℕ) → SameTo m f g t → massDiagonalTo m f v t ≡ massDiagonalTo m g v t
   unfolding massDiagonalTo
-  mass-diagonal-same v zero h = refl
-  mass-diagonal-same v (suc t) h =
-      let a = h t (omega arith) in
-      rw (a .0, a .1 .1, mass-diagonal-same v t (λ i l. h i (omega arith)))
+  mass-diagonal-same v t h = same-to (massDiagonalTo m f v) (massDiagonalTo m g v) refl t (λ i l e. let a = h i l in rw (a .0, a .1 .1, e))
 
   mass-off-same : (v t : ℕ) → SameTo m f g t → massOffTo m f v t ≡ massOffTo m g v t
   unfolding massOffTo
-  mass-off-same v zero h = refl
-  mass-off-same v (suc t) h =
-      let a = h t (omega arith) in
-      rw (a .1 .0, a .1 .1, mass-off-same v t (λ i l. h i (omega arith)))
+  mass-off-same v t h = same-to (massOffTo m f v) (massOffTo m g v) refl t (λ i l e. let a = h i l in rw (a .1 .0, a .1 .1, e))
 
   energy-diagonal-same : (v t : ℕ) → SameTo m f g t → energyDiagonalTo m f v t ≡ energyDiagonalTo m g v t
   unfolding energyDiagonalTo
-  energy-diagonal-same v zero h = refl
-  energy-diagonal-same v (suc t) h =
-      let a = h t (omega arith) in
-      rw (a .0, a .1 .1, energy-diagonal-same v t (λ i l. h i (omega arith)))
+  energy-diagonal-same v t h = same-to (energyDiagonalTo m f v) (energyDiagonalTo m g v) refl t (λ i l e. let a = h i l in rw (a .0, a .1 .1, e))
 
   energy-off-same : (v t : ℕ) → SameTo m f g t → energyOffTo m f v t ≡ energyOffTo m g v t
   unfolding energyOffTo
-  energy-off-same v zero h = refl
-  energy-off-same v (suc t) h =
-      let a = h t (omega arith) in
-      rw (a .1 .0, a .1 .1, energy-off-same v t (λ i l. h i (omega arith)))
+  energy-off-same v t h = same-to (energyOffTo m f v) (energyOffTo m g v) refl t (λ i l e. let a = h i l in rw (a .1 .0, a .1 .1, e))
 
   pub sums-same : (n e t : ℕ) → SameTo m f g t → sumsTo m f n e t ≡ sumsTo m g n e t
   unfolding sumsTo

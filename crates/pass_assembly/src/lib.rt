@@ -46,11 +46,11 @@ fn triple_at(u: &[u32], base: usize, t: usize) -> Triple
     requires { ⌜ base + 3 * t + 3 ≤ length (now u) ⌝ }
     ensures { λ r. ⌜ r ≡ tripleFrom base (now (u .entry)) t ⌝ }
 {
-    let at = base + 3 * t;
+    let c = mesh::corners(u, base + 3 * t);
     Triple {
-        i: mesh::index(u[at]),
-        j: mesh::index(u[at + 1]),
-        k: mesh::index(u[at + 2]),
+        i: mesh::index(c.a),
+        j: mesh::index(c.b),
+        k: mesh::index(c.c),
     }
 }
 

@@ -5,16 +5,16 @@ use native.Mathlib.Omega.{arith}
 use native.Mathlib.Decide.{ℕ-discrete, decLe}
 use mathlib.Core.Path.{_≡_, refl, sym, ap, ap₂, _∙_, subst}
 use mathlib.Core.Logic.{_⊎_, inl, inr}
-use mathlib.Core.List.{List, [], _∷_, _++_}
+use mathlib.Core.List.{List}
 use mathlib.Core.Option.{some}
 use lib.ListN.{length, getD}
-use Rattle.mesh.specs.Mesh.{Side, side, key, same, Tri, tri, indexIn, sides, isNone}
+use Rattle.mesh.specs.Mesh.{Side, side, key, Tri, tri, indexIn, sides, isNone}
 use Rattle.mesh.proofs.Cuts.{key-flip}
 use Rattle.mesh.proofs.Theorem.{index-below}
 use Rattle.edges.specs.Table.{loOf, hiOf, NumbersOf}
 use Rattle.edges.specs.Numbering.{triFrom, trisFrom, NumberedTo, Below, times, listed}
 use Rattle.edges.proofs.Tree.{length-pairs}
-use Rattle.edges.proofs.Counts.{each-counted}
+use Rattle.edges.proofs.Counts.{times-append, listed-snoc, each-counted}
 use Rattle.pass_boundary.specs.declared.Listing.{Listing}
 use Rattle.pass_boundary.specs.Work.{trisIn, tableOf, In, AllIn, Sided, Numbers}
 use Rattle.pass_boundary.proofs.Slices.{tris-same}
@@ -26,17 +26,7 @@ exchanged (tri a b c) = tri a c b
 abbrev pub Alike : Tri → Tri → Type 0
 Alike s t = (t ≡ s) ⊎ (t ≡ exchanged s)
 
--- ---- listed sides (edges has the first two, private)
-
-times-append : (s : Side) (l r : List Side) → times s (l ++ r) ≡ times s l + times s r
-unfolding times
-times-append s [] r = omega arith
-times-append s (t ∷ l) r = omega (arith, times-append s l r)
-
-listed-snoc : (ts : List Tri) (t : Tri) → listed (ts ++ (t ∷ [])) ≡ listed ts ++ sides t
-unfolding listed
-listed-snoc [] (tri a b c) = refl
-listed-snoc (tri a b c ∷ ts) t = ap (λ (l : List Side). sides (tri a b c) ++ l) (listed-snoc ts t)
+-- ---- listed sides
 
 times-alike : (s : Side) (x y : Tri) → Alike x y → times s (sides y) ≡ times s (sides x)
 times-alike s x y (inl e) = ap (λ (t : Tri). times s (sides t)) e

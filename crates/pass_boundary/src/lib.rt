@@ -110,13 +110,10 @@ fn mark_triangle(w: &mut [f64], u: &mut [u32], l: Listing, p: Planes, i: usize) 
     requires { ⌜ Sided l (p .points) (now u) × (Counts l (now u) × (i < l .triangles)) ⌝ }
     ensures { λ r. ⌜ Marked l p (around (triFrom (l .corners) (now (u .entry)) i)) (now (u .entry)) (now (w .entry)) (now (u .exit)) (now (w .exit)) r ⌝ }
 {
-    let k = l.corners + 3 * i;
-    let a = u[k];
-    let b = u[k + 1];
-    let c = u[k + 2];
-    let ab = mark_side(w, u, l, p, a, b);
-    let bc = mark_side(w, u, l, p, b, c);
-    let ca = mark_side(w, u, l, p, c, a);
+    let c = mesh::corners(u, l.corners + 3 * i);
+    let ab = mark_side(w, u, l, p, c.a, c.b);
+    let bc = mark_side(w, u, l, p, c.b, c.c);
+    let ca = mark_side(w, u, l, p, c.c, c.a);
     ab + bc + ca
 }
 

@@ -54,10 +54,10 @@ fn geometry_at(work: &[f64], words: &[u32], p: GeometriesPlan, t: usize) -> Geom
     requires { ⌜ Below (p .points) (p .given) (now words) (3 * p .triangles) ⌝ }
     ensures { λ r. ⌜ r ≡ geometryIn p (now (work .entry)) (now (words .entry)) t ⌝ }
 {
-    let at = p.given + 3 * t;
-    let i = mesh::index(words[at]);
-    let j = mesh::index(words[at + 1]);
-    let k = mesh::index(words[at + 2]);
+    let c = mesh::corners(words, p.given + 3 * t);
+    let i = mesh::index(c.a);
+    let j = mesh::index(c.b);
+    let k = mesh::index(c.c);
     geometry_of(work, p, i, j, k, t)
 }
 

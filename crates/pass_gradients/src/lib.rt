@@ -77,10 +77,10 @@ fn gather_triangle(work: &mut [f64], words: &[u32], p: GradientsPlan, t: usize)
     requires { ⌜ Below (p .points) (p .wound) (now words) (3 * p .triangles) ⌝ }
     ensures { λ _. ⌜ GatheredTriangle p t (now (words .entry)) (now (work .entry)) (now (work .exit)) ⌝ }
 {
-    let at = p.wound + 3 * t;
-    let i = mesh::index(words[at]);
-    let j = mesh::index(words[at + 1]);
-    let k = mesh::index(words[at + 2]);
+    let c = mesh::corners(words, p.wound + 3 * t);
+    let i = mesh::index(c.a);
+    let j = mesh::index(c.b);
+    let k = mesh::index(c.c);
     let area = work[p.areas + t];
     let d = gradient_of(work, p, i, j, k, area);
     add_triangle(work, p, i, j, k, area * d.x, area * d.y, area);

@@ -13,7 +13,6 @@ use Rattle.float.specs.Double.{mag}
 use Rattle.float.proofs.Within.{and-both, le-or, below-zero}
 use Rattle.probe.specs.declared.Visit.{Visit}
 use Rattle.probe.specs.declared.Visit.the-variants.{Passed, Vanished, Found}
-use Rattle.probe.specs.declared.Probe.{Probe}
 use Rattle.probe.specs.declared.Probe.the-variants.{NoAngle, Angle}
 use Rattle.probe.specs.Probe.{every, finite, small, taken, visitAt, decided, foundFrom, probeOf}
 use Rattle.plane.specs.declared.Pair.{Pair}

@@ -15,7 +15,7 @@ use Rattle.probe.specs.declared.Weighing.the-variants.{Inside, Outside}
 use Rattle.probe.specs.declared.Visit.{Visit}
 use Rattle.probe.specs.declared.Visit.the-variants.{Passed, Vanished, Found}
 use Rattle.probe.specs.declared.Probe.{Probe}
-use Rattle.probe.specs.declared.Probe.the-variants.{NotTriples, NoAngle, TooLarge, Angle}
+use Rattle.probe.specs.declared.Probe.the-variants.{NotTriples, NoAngle, TooLarge}
 use Rattle.probe.specs.Weights.{usable, weighedAt, interpolated, answered}
 use Rattle.probe.specs.Probe.{every, finite, small, cornerAt, told, denominator, visited, visitOf, visitAt, decided, foundFrom, probeOf, AngleRange}
 

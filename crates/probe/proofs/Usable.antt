@@ -1,7 +1,7 @@
 -- A denominator's test by its sign: above MIN_POSITIVE and below the infinity, or the same below zero. Assumes nothing.
 use mathlib.Core.Path.{_≡_, refl, sym, subst}
 use Prim.Native.Nat.{ℕ, _*_, _^_}
-use mathlib.Core.Bool.{Bool, true, false, not, _&&_, _||_}
+use mathlib.Core.Bool.{true, false, not, _&&_, _||_}
 use lib.Dec.{T, ltb, eqb}
 use lib.Ieee.{Float, nan, inf, fin, binary64, up, down, lt, le, neg, div, ofBits}
 use Rattle.float.specs.Double.{lit, mag}

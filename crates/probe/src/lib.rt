@@ -168,9 +168,10 @@ fn visit_triangle(alpha: &[f64], points: &[f64], tris: &[u32], at: Pair, t: usiz
     requires { ⌜ (3 * length (now alpha) ≤ length (now points)) × (3 * t + 2 < length (now tris)) ⌝ }
     ensures { λ r. ⌜ r ≡ visitAt (now (alpha .entry)) (now (points .entry)) (now (tris .entry)) at t ⌝ }
 {
-    let i = mesh::index(tris[3 * t]);
-    let j = mesh::index(tris[3 * t + 1]);
-    let k = mesh::index(tris[3 * t + 2]);
+    let c = mesh::corners(tris, 3 * t);
+    let i = mesh::index(c.a);
+    let j = mesh::index(c.b);
+    let k = mesh::index(c.c);
     visit_points(alpha, points, at, i, j, k)
 }
 

@@ -1,10 +1,10 @@
 -- The marks of triangles, one more triangle at a time: flags, the sides of flagged triangles, the marks of the others. Assumes nothing.
-use Prim.Native.Nat.{ℕ, zero, suc, _+_, _-_, _*_, _^_, _≤_, _<_}
+use Prim.Native.Nat.{ℕ, zero, suc, _+_, _-_, _*_, _≤_, _<_}
 use native.Mathlib.Omega.{arith}
 use native.Mathlib.Decide.{ℕ-discrete}
 use native.Mathlib.Numerals.{add-one}
-use mathlib.Core.Path.{_≡_, refl, sym, ap, _∙_, subst}
-use mathlib.Core.Logic.{_≢_, _⊎_, inl, inr, ⊎-elim}
+use mathlib.Core.Path.{_≡_, refl, sym, ap, _∙_}
+use mathlib.Core.Logic.{_≢_, _⊎_, inl, inr}
 use mathlib.Core.Bool.{Bool, true, false, cond}
 use mathlib.Core.List.{List, [], _∷_, _++_, append-nil}
 use mathlib.Core.Option.{Option, none, some}
@@ -12,10 +12,10 @@ use borrow.Author.Tests.{eq-eqb, ne-eqb}
 use lib.Dec.{eqb}
 use lib.ListN.{length, length-append, getD, set, length-set, replicate, length-replicate}
 use lib.Seq.{sets, length-sets, getD-set-same, getD-set-other}
-use Rattle.mesh.specs.Mesh.{Tri, tri, Side, side, key, indexIn, met, metAll, sides, sidesAfter, cuts, marked, one, above, mid, split}
+use Rattle.mesh.specs.Mesh.{Tri, tri, Side, key, indexIn, met, metAll, sides, sidesAfter, cuts, marked, one, above, mid, split}
 use Rattle.mesh.proofs.Theorem.{index-below}
 use Rattle.runs.proofs.Runs.{sets-before, sets-behind}
-use Rattle.edges.specs.Table.{oneMore, oneLess, pairs, NumbersOf}
+use Rattle.edges.specs.Table.{oneMore, oneLess, pairs}
 use Rattle.edges.specs.TwoSlices.{loAt, hiAt, sidesAt, HeldInTwo, MetTriInTwo}
 use Rattle.edges.proofs.Tree.{length-pairs}
 use Rattle.edges.proofs.Tree.{met-keeps}

@@ -5,19 +5,19 @@ use native.Mathlib.Omega.{arith}
 use native.Mathlib.Numerals.{add-one}
 use mathlib.Core.Path.{_≡_, refl, sym, ap, _∙_}
 use mathlib.Core.List.{List, [], _∷_, _++_, append-nil, append-assoc}
-use mathlib.Core.Option.{Option, none, some}
+use mathlib.Core.Option.{none}
 use lib.ListN.{length, length-append, length-drop, getD, set, drop}
 use lib.Seq.{sets, length-sets, set-comm, ext-getD, getD-drop}
-use Rattle.mesh.specs.Mesh.{Tri, tri, Side, mid, split, pieces, refined}
+use Rattle.mesh.specs.Mesh.{Tri, Side, mid, refined}
 use Rattle.runs.proofs.Runs.{sets-before}
-use Rattle.edges.specs.Table.{oneMore, oneLess}
-use Rattle.refinement.specs.Floor.{triAt, tris, cornersOf, over}
+use Rattle.edges.specs.Table.{oneLess}
+use Rattle.refinement.specs.Floor.{tris, cornersOf}
 use Rattle.refinement.proofs.Runs.{front}
 use Rattle.refinement.proofs.Parts.{one-less-one-more}
 use Rattle.refinement.proofs.Triangles.{corners-length, corners-append}
 use Rattle.refine_floor.specs.Stored.{Stored}
 use Rattle.refine_floor.specs.Marks.{markedBy, splitAt, splitTo, MarksAt, MarksTo}
-use Rattle.refine_floor.proofs.Marking.{count-of, split-same}
+use Rattle.refine_floor.proofs.Marking.{count-of}
 use Rattle.refine_floor.proofs.Parts.{one-more}
 
 -- ---- two runs, the second stored first

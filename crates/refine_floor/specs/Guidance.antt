@@ -1,5 +1,4 @@
 -- Guidance on a refined floor: the Rust's extend_guidance, the old angles and then one for each cut side. Definitions only.
-use Prim.Native.Nat.{ℕ}
 use mathlib.Core.List.{List, _++_, map}
 use lib.ListN.{getD}
 use lib.Ieee.{Float, nan}

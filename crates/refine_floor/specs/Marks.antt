@@ -8,7 +8,7 @@ use mathlib.Core.List.{List, [], _∷_, _++_}
 use mathlib.Core.Option.{some}
 use lib.Dec.{eqb}
 use lib.ListN.{length, getD}
-use Rattle.mesh.specs.Mesh.{Tri, tri, Side, sides, metAll, sidesAfter, cuts, marked, one, mid, split}
+use Rattle.mesh.specs.Mesh.{Tri, Side, sides, metAll, sidesAfter, cuts, marked, one, mid, split}
 use Rattle.edges.specs.Table.{oneMore, oneLess}
 use Rattle.edges.specs.TwoSlices.{sidesAt, HeldInTwo}
 use Rattle.refinement.specs.declared.Cut.{Cut}

@@ -24,10 +24,8 @@ fn flag_of(triangles: &[u32], i: usize, angles: &[f64], threshold: f64) -> u32
     requires { ⌜ 3 * i + 3 ≤ length (now triangles) ⌝ }
     ensures { λ r. ⌜ (r ≡ one (flaggedTri threshold (now (angles .entry)) (triAt (now (triangles .entry)) i))) × (r ≤ 1) ⌝ }
 {
-    let a = triangles[3 * i];
-    let b = triangles[3 * i + 1];
-    let c = triangles[3 * i + 2];
-    if refinement::is_flagged(angles, threshold, a, b, c) {
+    let c = mesh::corners(triangles, 3 * i);
+    if refinement::is_flagged(angles, threshold, c.a, c.b, c.c) {
         return 1;
     }
     0
@@ -76,10 +74,8 @@ fn cut_marked(
     if marks[at] == 0 {
         return table.sides;
     }
-    let a = triangles[at];
-    let b = triangles[at + 1];
-    let c = triangles[at + 2];
-    let met = edges::two_slices::meet_triangle(ends, marks, table, a, b, c);
+    let c = mesh::corners(triangles, at);
+    let met = edges::two_slices::meet_triangle(ends, marks, table, c.a, c.b, c.c);
     edges::numbers::put_three(
         marks,
         at,
@@ -193,12 +189,10 @@ fn mark_triangle(
     if marks[at] != 0 {
         return 4;
     }
-    let a = triangles[at];
-    let b = triangles[at + 1];
-    let c = triangles[at + 2];
-    let p = mark_of(ends, marks, table, points, a, b);
-    let q = mark_of(ends, marks, table, points, b, c);
-    let r = mark_of(ends, marks, table, points, c, a);
+    let c = mesh::corners(triangles, at);
+    let p = mark_of(ends, marks, table, points, c.a, c.b);
+    let q = mark_of(ends, marks, table, points, c.b, c.c);
+    let r = mark_of(ends, marks, table, points, c.c, c.a);
     edges::numbers::put_three(marks, at, p, q, r);
     pieces_with(p, q, r)
 }
@@ -236,14 +230,9 @@ fn split_marked(triangles: &[u32], i: usize, marks: &mut [u32], before: usize) -
         × (now (marks .exit) ≡ sets (now (marks .entry)) (3 * r) (cornersOf (splitAt (now (marks .entry)) (now (triangles .entry)) i))) ⌝ }
 {
     let at = 3 * i;
-    let p = refinement::split_triangle(
-        triangles[at],
-        triangles[at + 1],
-        triangles[at + 2],
-        marks[at],
-        marks[at + 1],
-        marks[at + 2],
-    );
+    let c = mesh::corners(triangles, at);
+    let m = mesh::corners(marks, at);
+    let p = refinement::split_triangle(c.a, c.b, c.c, m.a, m.b, m.c);
     let first = before - p.count;
     let rows = p.rows;
     refinement::put_rows(marks, 3 * first, rows, 3 * p.count);

@@ -4,9 +4,9 @@ use mathlib.Core.Path.{_≡_}
 use mathlib.Core.Bool.{Bool, cond}
 use mathlib.Core.List.{List, _++_}
 use lib.ListN.{length, replicate}
-use Rattle.mesh.specs.Mesh.{Tri, Side, sides, metAll, cuts, marked, one}
+use Rattle.mesh.specs.Mesh.{Tri, sides, metAll, cuts, marked, one}
 use Rattle.edges.specs.declared.Table.{Table}
-use Rattle.edges.specs.Table.{Held, Outside, sidesIn, cutsIn}
+use Rattle.edges.specs.Table.{Held, Outside, cutsIn}
 use Rattle.refinement.specs.declared.Cut.{Cut}
 use Rattle.refinement.specs.Floor.{tris, cornersOf}
 

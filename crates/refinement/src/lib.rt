@@ -66,16 +66,14 @@ fn cut_triangle(
     requires { ⌜ (3 * i + 3 ≤ length (now triangles)) × ((endOf (having table (cut .sides + 3)) ≤ length (now numbers)) × ((cut .sides + 3 < 2 ^ 32) × (cut .flagged < 2 ^ 32))) ⌝ }
     ensures { λ r. ⌜ CutStep table (flaggedTri threshold (now (angles .entry))) (triAt (now (triangles .entry)) i) (now (numbers .entry)) cut (now (numbers .exit)) r ⌝ }
 {
-    let a = triangles[3 * i];
-    let b = triangles[3 * i + 1];
-    let c = triangles[3 * i + 2];
-    if is_flagged(angles, threshold, a, b, c) {
+    let c = mesh::corners(triangles, 3 * i);
+    if is_flagged(angles, threshold, c.a, c.b, c.c) {
         let before = Table {
             base: table.base,
             buckets: table.buckets,
             sides: cut.sides,
         };
-        let met = edges::meet_triangle(numbers, before, a, b, c);
+        let met = edges::meet_triangle(numbers, before, c.a, c.b, c.c);
         return Cut {
             sides: met.sides,
             flagged: cut.flagged + 1,
@@ -205,13 +203,11 @@ pub fn pieces_of(
     requires { ⌜ (3 * i + 3 ≤ length (now triangles)) × (points + table .sides < 2 ^ 32) ⌝ }
     ensures { λ z. ⌜ Rows (pieces (mid points (cutsIn table (now (numbers .entry)))) (triAt (now (triangles .entry)) i)) (z .count) (z .rows) ⌝ }
 {
-    let a = triangles[3 * i];
-    let b = triangles[3 * i + 1];
-    let c = triangles[3 * i + 2];
-    let p = middle(numbers, table, points, a, b);
-    let q = middle(numbers, table, points, b, c);
-    let r = middle(numbers, table, points, c, a);
-    split_triangle(a, b, c, p, q, r)
+    let c = mesh::corners(triangles, 3 * i);
+    let p = middle(numbers, table, points, c.a, c.b);
+    let q = middle(numbers, table, points, c.b, c.c);
+    let r = middle(numbers, table, points, c.c, c.a);
+    split_triangle(c.a, c.b, c.c, p, q, r)
 }
 
 // The first len numbers of the rows, from `at` on.

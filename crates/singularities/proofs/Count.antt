@@ -1,9 +1,9 @@
 -- How the sign of a charge, as the program tests it, chooses the count; and what the loop over the triangles keeps.
 use mathlib.Core.Path.{_≡_, refl, sym, subst, _∙_}
-use Prim.Native.Nat.{ℕ, zero, suc, _+_, _≤_, _<_}
+use Prim.Native.Nat.{ℕ, zero, suc, _+_, _≤_}
 use native.Mathlib.Numerals.{add-one}
 use native.Mathlib.Omega.{arith}
-use mathlib.Core.Bool.{Bool, true, false}
+use mathlib.Core.Bool.{true, false}
 use borrow.Author.Tests.{ltb-true, ltb-false}
 use mathlib.Core.List.{List}
 use lib.Dec.{T}

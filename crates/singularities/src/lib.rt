@@ -55,9 +55,10 @@ pub fn charge_at(alpha: &[f64], tris: &[u32], t: usize) -> i64
     requires { ⌜ 3 * t + 2 < length (now tris) ⌝ }
     ensures { λ r. ⌜ r ≡ chargeAt (now (alpha .entry)) (now (tris .entry)) t ⌝ }
 {
-    let i = mesh::index(tris[3 * t]);
-    let j = mesh::index(tris[3 * t + 1]);
-    let k = mesh::index(tris[3 * t + 2]);
+    let c = mesh::corners(tris, 3 * t);
+    let i = mesh::index(c.a);
+    let j = mesh::index(c.b);
+    let k = mesh::index(c.c);
     charge_of(alpha, i, j, k)
 }
 

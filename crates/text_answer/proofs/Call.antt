@@ -1,14 +1,15 @@
 -- The refinement call on slices of full size: how many triangles and cut sides there can be, that row 18 does not come up, and that the lines of its
 -- answer are those of the refined floor. Assumes nothing.
-use Prim.Native.Nat.{ℕ, suc, _+_, _*_, _/_, _%_, _≤_}
+use Prim.Native.Nat.{ℕ, _+_, _*_, _/_, _%_, _≤_}
 use native.Mathlib.Omega.{arith}
 use mathlib.Core.Path.{_≡_, refl, ap, _∙_, subst}
 use mathlib.Core.Bool.{Bool, true, false, not, cond, _&&_}
-use mathlib.Core.List.{List, [], _∷_, _++_}
+use mathlib.Core.List.{List}
 use borrow.Author.Tests.{eq-eqb, le-ltb, le-leb}
-use lib.ListN.{length, length-append, drop}
+use lib.ListN.{length, drop}
 use lib.Ieee.{Float}
-use Rattle.mesh.specs.Mesh.{Tri, tri, Side, sides, indexIn, isNone, met, metAll, sidesAfter, marked, cuts, mid, refined, refine}
+use Rattle.mesh.specs.Mesh.{cuts, mid, refined, refine}
+use Rattle.mesh.proofs.Most.{cuts-most}
 use Rattle.floor.specs.declared.Check.{Check}
 use Rattle.floor.specs.declared.Check.the-variants.{Sound, Refused}
 use Rattle.floor.specs.Checks.{row, wellFormed, notFiniteOrBelowZero, andThen, checkFloor}
@@ -24,38 +25,6 @@ use Rattle.text_answer.specs.Printed.{longest, written, isSound}
 use Rattle.text_answer.specs.Steps.{bytesOf, Sized}
 
 -- ---- how many
-
--- a triangle cuts at most three sides
-met-most : (l : List Side) (s : Side) → length (met l s) ≤ length l + 1
-unfolding met
-met-most l s = go (isNone (indexIn s l))
-  where
-    go : (b : Bool) → length (cond b (l ++ (s ∷ [])) l) ≤ length l + 1
-    go true = omega (arith, length-append l (s ∷ []))
-    go false = omega arith
-
-all-most : (l ss : List Side) → length (metAll l ss) ≤ length l + length ss
-unfolding metAll
-all-most l [] = omega arith
-all-most l (s ∷ ss) = omega (arith, all-most (met l s) ss, met-most l s)
-
-after-most : (l : List Side) (ts : List Tri) → length (sidesAfter l ts) ≤ length l + 3 * length ts
-unfolding sidesAfter
-after-most l [] = omega arith
-after-most l (tri a b c ∷ ts) = omega (arith, after-most (metAll l (sides (tri a b c))) ts, all-most l (sides (tri a b c)))
-
-marked-most : (f : Tri → Bool) (ts : List Tri) → length (marked f ts) ≤ length ts
-unfolding marked
-marked-most f [] = omega arith
-marked-most f (t ∷ ts) = go (f t) (marked-most f ts)
-  where
-    go : (b : Bool) → length (marked f ts) ≤ length ts → length (cond b (t ∷ marked f ts) (marked f ts)) ≤ suc (length ts)
-    go true h = omega arith
-    go false h = omega arith
-
-cuts-most : (f : Tri → Bool) (ts : List Tri) → length (cuts f ts) ≤ 3 * length ts
-unfolding cuts
-cuts-most f ts = omega (arith, after-most [] (marked f ts), marked-most f ts)
 
 -- how many triangles and cut sides a refinement has, of the corners l
 pub record Few (r : Refined) (l : List ℕ) : Type 0 where

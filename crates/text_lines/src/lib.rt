@@ -22,11 +22,8 @@ fn put_triangle(corners: &[u32], i: usize, out: &mut [u8], at: usize)
     requires { ⌜ (3 * i + 3 ≤ length (now corners)) × (at + 19 ≤ length (now out)) ⌝ }
     ensures { λ _. ⌜ now (out .exit) ≡ sets (now (out .entry)) at (lineAt (now (corners .entry)) i) ⌝ }
 {
-    let row = [
-        wide(corners[3 * i]),
-        wide(corners[3 * i + 1]),
-        wide(corners[3 * i + 2]),
-    ];
+    let c = mesh::corners(corners, 3 * i);
+    let row = [wide(c.a), wide(c.b), wide(c.c)];
     text_columns::put_line(out, at, &row);
 }
 

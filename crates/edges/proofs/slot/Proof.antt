@@ -1,9 +1,6 @@
 -- `edges::slot` meets its contract: the definition is opened at its test; the bound is in proofs/Stored.
 use borrow.Author.Needs.{needs}
 use borrow.Author.Tests.{lt-ltb, le-ltb}
-use mathlib.Core.Path.{sym, _∙_}
-use Prim.Native.Nat.{_%_}
-use native.Mathlib.Omega.{arith}
 use native.Mathlib.Nat.{mod-lt}
 use Rattle.edges.specs.Table.{slotOf}
 use Rattle.edges.proofs.slot.Statement.{statement}

@@ -1,6 +1,5 @@
 -- `probe::is_within` meets its contract: each return opens the definition and rewrites it by the tests and the calls on its way.
 use Rattle.probe.specs.Weights.{within}
-use borrow.Author.Needs.{needs}
 use Rattle.probe.proofs.is_within.Statement.{statement}
 use Rattle.probe.proofs.is_within.Tie as tie
 

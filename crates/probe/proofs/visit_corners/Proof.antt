@@ -1,5 +1,5 @@
 -- `probe::visit_corners` meets its contract: each return opens the definition and rewrites it by the tests and the calls on its way.
-use Rattle.probe.specs.Probe.{visited, told}
+use Rattle.probe.specs.Probe.{visited}
 use borrow.Author.Needs.{needs}
 use Rattle.probe.proofs.visit_corners.Statement.{statement}
 use Rattle.probe.proofs.visit_corners.Tie as tie

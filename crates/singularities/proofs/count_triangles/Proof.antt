@@ -3,7 +3,7 @@ use native.Mathlib.Nat.{le-antisymm}
 use Rattle.singularities.specs.Count.{countOf}
 use mir.Facts.{toZ-ofZ}
 use mir.Syntax.{w64}
-use mathlib.Core.Path.{_≡_, refl, ap, sym, _∙_}
+use mathlib.Core.Path.{ap, _∙_}
 use Prim.Native.Nat.{_≤_, _-_}
 use native.Mathlib.Omega.{arith}
 use Rattle.singularities.proofs.Count.{Tallied, tallied-none, tallied-more}

@@ -2,8 +2,8 @@
 use native.Mathlib.Omega.{arith}
 use mathlib.Core.Path.{ap, _∙_}
 use lib.ListN.{length, length-set}
-use Rattle.refine_floor.proofs.Marking.{met-below, cut-passed, cut-cut}
 use borrow.Author.Needs.{needs}
+use Rattle.refine_floor.proofs.Marking.{met-below, cut-passed, cut-cut}
 use Rattle.refine_floor.proofs.marks.cut_marked.Statement.{statement}
 use Rattle.refine_floor.proofs.marks.cut_marked.Tie as tie
 
@@ -19,62 +19,41 @@ slice-read-if1 c = search needs
 returns : tie.Need-returns
 returns c = cut-passed (c .before .before .before .before .before .pre .0) (c .if1 .taken)
 
-mul-a : tie.Need-mul-a
-mul-a c = search needs
-
-shared-slice-read-a : tie.Need-shared-slice-read-a
-shared-slice-read-a c = search needs
-
-add-b : tie.Need-add-b
-add-b c = search needs
-
-mul-b : tie.Need-mul-b
-mul-b c = search needs
-
-shared-slice-read-b : tie.Need-shared-slice-read-b
-shared-slice-read-b c = search needs
-
-add-c : tie.Need-add-c
-add-c c = search needs
-
-mul-c : tie.Need-mul-c
-mul-c c = search needs
-
-shared-slice-read-c : tie.Need-shared-slice-read-c
-shared-slice-read-c c = search needs
+corners-requires : tie.Need-corners-requires
+corners-requires c κs = search needs
 
 meet-triangle-requires : tie.Need-meet-triangle-requires
-meet-triangle-requires c κs = (c .before .before .before .before .before .before .before .before .before .before .pre .0, (omega arith, (omega arith, omega arith)))
+meet-triangle-requires c κs = (c .before .before .before .before .before .before .before .before .pre .0, (omega arith, (omega arith, omega arith)))
 
 add-put-three : tie.Need-add-put-three
-add-put-three c = omega (arith, met-below (c .before .before .before .before .before .before .meet-triangle .ensures), c .before .before .before .before .before .before .meet-triangle .ensures .more, c .before .before .before .before .before .before .before .before .before .before .before .before .before .before .before .before .before .pre .1)
+add-put-three c = let m = c .before .before .before .before .before .before .meet-triangle .ensures in omega (arith, met-below m, m .more, c .before .before .before .before .before .before .before .before .before .before .before .before .before .before .before .pre .1)
 
 add-put-three-2 : tie.Need-add-put-three-2
-add-put-three-2 c = omega (arith, met-below (c .before .before .before .before .before .before .meet-triangle .ensures), c .before .before .before .before .before .before .meet-triangle .ensures .more, c .before .before .before .before .before .before .before .before .before .before .before .before .before .before .before .before .before .pre .1)
+add-put-three-2 c = let m = c .before .before .before .before .before .before .meet-triangle .ensures in omega (arith, met-below m, m .more, c .before .before .before .before .before .before .before .before .before .before .before .before .before .before .before .pre .1)
 
 cast-put-three : tie.Need-cast-put-three
-cast-put-three c = omega (arith, met-below (c .before .before .before .before .before .before .meet-triangle .ensures), c .before .before .before .before .before .before .meet-triangle .ensures .more, c .before .before .before .before .before .before .before .before .before .before .before .before .before .before .before .before .before .pre .1)
+cast-put-three c = let m = c .before .before .before .before .before .before .meet-triangle .ensures in omega (arith, met-below m, m .more, c .before .before .before .before .before .before .before .before .before .before .before .before .before .before .before .pre .1)
 
 add-put-three-3 : tie.Need-add-put-three-3
-add-put-three-3 c = omega (arith, met-below (c .before .before .before .before .before .before .before .meet-triangle .ensures), c .before .before .before .before .before .before .before .meet-triangle .ensures .more, c .before .before .before .before .before .before .before .before .before .before .before .before .before .before .before .before .before .before .pre .1)
+add-put-three-3 c = let m = c .before .before .before .before .before .before .before .meet-triangle .ensures in omega (arith, met-below m, m .more, c .before .before .before .before .before .before .before .before .before .before .before .before .before .before .before .before .pre .1)
 
 add-put-three-4 : tie.Need-add-put-three-4
-add-put-three-4 c = omega (arith, met-below (c .before .before .before .before .before .before .before .meet-triangle .ensures), c .before .before .before .before .before .before .before .meet-triangle .ensures .more, c .before .before .before .before .before .before .before .before .before .before .before .before .before .before .before .before .before .before .pre .1)
+add-put-three-4 c = let m = c .before .before .before .before .before .before .before .meet-triangle .ensures in omega (arith, met-below m, m .more, c .before .before .before .before .before .before .before .before .before .before .before .before .before .before .before .before .pre .1)
 
 cast-put-three-2 : tie.Need-cast-put-three-2
-cast-put-three-2 c = omega (arith, met-below (c .before .before .before .before .before .before .before .meet-triangle .ensures), c .before .before .before .before .before .before .before .meet-triangle .ensures .more, c .before .before .before .before .before .before .before .before .before .before .before .before .before .before .before .before .before .before .pre .1)
+cast-put-three-2 c = let m = c .before .before .before .before .before .before .before .meet-triangle .ensures in omega (arith, met-below m, m .more, c .before .before .before .before .before .before .before .before .before .before .before .before .before .before .before .before .pre .1)
 
 add-put-three-5 : tie.Need-add-put-three-5
-add-put-three-5 c = omega (arith, met-below (c .before .before .before .before .before .before .before .before .meet-triangle .ensures), c .before .before .before .before .before .before .before .before .meet-triangle .ensures .more, c .before .before .before .before .before .before .before .before .before .before .before .before .before .before .before .before .before .before .before .pre .1)
+add-put-three-5 c = let m = c .before .before .before .before .before .before .before .before .meet-triangle .ensures in omega (arith, met-below m, m .more, c .before .before .before .before .before .before .before .before .before .before .before .before .before .before .before .before .before .pre .1)
 
 add-put-three-6 : tie.Need-add-put-three-6
-add-put-three-6 c = omega (arith, met-below (c .before .before .before .before .before .before .before .before .meet-triangle .ensures), c .before .before .before .before .before .before .before .before .meet-triangle .ensures .more, c .before .before .before .before .before .before .before .before .before .before .before .before .before .before .before .before .before .before .before .pre .1)
+add-put-three-6 c = let m = c .before .before .before .before .before .before .before .before .meet-triangle .ensures in omega (arith, met-below m, m .more, c .before .before .before .before .before .before .before .before .before .before .before .before .before .before .before .before .before .pre .1)
 
 cast-put-three-3 : tie.Need-cast-put-three-3
-cast-put-three-3 c = omega (arith, met-below (c .before .before .before .before .before .before .before .before .meet-triangle .ensures), c .before .before .before .before .before .before .before .before .meet-triangle .ensures .more, c .before .before .before .before .before .before .before .before .before .before .before .before .before .before .before .before .before .before .before .pre .1)
+cast-put-three-3 c = let m = c .before .before .before .before .before .before .before .before .meet-triangle .ensures in omega (arith, met-below m, m .more, c .before .before .before .before .before .before .before .before .before .before .before .before .before .before .before .before .before .pre .1)
 
 put-three-requires : tie.Need-put-three-requires
-put-three-requires c κs = omega (arith, c .before .before .before .before .before .before .before .before .meet-triangle .ensures .outside .same, c .before .before .before .before .before .before .before .before .before .before .before .before .before .before .before .before .before .before .before .pre .0 .links-in, c .before .before .before .before .before .before .before .before .before .before .before .before .before .before .before .before .before .before .before .pre .1)
+put-three-requires c κs = omega (arith, c .before .before .before .before .before .before .before .before .meet-triangle .ensures .outside .same, c .before .before .before .before .before .before .before .before .before .before .before .before .before .before .before .before .before .pre .0 .links-in, c .before .before .before .before .before .before .before .before .before .before .before .before .before .before .before .before .before .pre .1)
 
 same-length : tie.Need-same-length
 same-length c = c .before .before .before .before .before .before .before .before .before .before .before .meet-triangle .ensures .outside .same-ends
@@ -83,7 +62,7 @@ same-length-2 : tie.Need-same-length-2
 same-length-2 c = ap length (c .before .before .put-three .ensures) ∙ simp length-set (c .before .before .before .before .before .before .before .before .before .before .before .meet-triangle .ensures .outside .same)
 
 returns-2 : tie.Need-returns-2
-returns-2 c = cut-cut (c .before .before .before .before .before .before .before .before .before .before .before .before .before .before .before .before .before .before .before .before .before .before .pre .1 .0 .1 .0) (omega (arith, c .before .before .before .before .before .before .before .before .before .before .before .before .before .before .before .before .before .before .before .before .before .before .pre .0 .links-in)) (c .before .before .before .before .before .before .before .before .before .before .before .before .before .before .before .before .before .if1 .left) (c .before .before .before .before .before .before .before .before .before .before .before .meet-triangle .ensures) (c .before .before .put-three .ensures)
+returns-2 c = cut-cut (c .before .before .before .before .before .before .before .before .before .before .before .before .before .before .before .before .before .before .before .before .pre .1 .0 .1 .0) (omega (arith, c .before .before .before .before .before .before .before .before .before .before .before .before .before .before .before .before .before .before .before .before .pre .0 .links-in)) (c .before .before .before .before .before .before .before .before .before .before .before .before .before .before .before .if1 .left) (rw (c .before .before .before .before .before .before .before .before .before .before .before .before .before .before .corners .ensures) at (c .before .before .before .before .before .before .before .before .before .before .before .meet-triangle .ensures)) (c .before .before .put-three .ensures)
 
 pub cut-marked-spec : {M : Type 1} → statement M
 cut-marked-spec =
@@ -93,14 +72,7 @@ cut-marked-spec =
     mul-if1
     slice-read-if1
     returns
-    mul-a
-    shared-slice-read-a
-    add-b
-    mul-b
-    shared-slice-read-b
-    add-c
-    mul-c
-    shared-slice-read-c
+    corners-requires
     meet-triangle-requires
     add-put-three
     add-put-three-2

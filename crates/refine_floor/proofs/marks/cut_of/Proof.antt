@@ -1,6 +1,5 @@
 -- `refine_floor::marks::cut_of` meets its contract: by cases of the mark.
 use Rattle.refine_floor.proofs.Marking.{cut-none, cut-some}
-use borrow.Author.Needs.{needs}
 use Rattle.refine_floor.proofs.marks.cut_of.Statement.{statement}
 use Rattle.refine_floor.proofs.marks.cut_of.Tie as tie
 

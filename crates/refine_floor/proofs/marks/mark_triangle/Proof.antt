@@ -1,7 +1,7 @@
 -- `refine_floor::marks::mark_triangle` meets its contract: a flagged triangle has its marks, any other gets them; the laws are in proofs/Marking.
 use native.Mathlib.Omega.{arith}
-use Rattle.refine_floor.proofs.Marking.{mark-found, mark-put}
 use borrow.Author.Needs.{needs}
+use Rattle.refine_floor.proofs.Marking.{mark-found, mark-put}
 use Rattle.refine_floor.proofs.marks.mark_triangle.Statement.{statement}
 use Rattle.refine_floor.proofs.marks.mark_triangle.Tie as tie
 
@@ -17,29 +17,8 @@ slice-read-if1 c = search needs
 returns : tie.Need-returns
 returns c = mark-found (c .if1 .taken) (c .before .before .before .before .before .pre .1 .1 (c .if1 .taken))
 
-mul-a : tie.Need-mul-a
-mul-a c = search needs
-
-shared-slice-read-a : tie.Need-shared-slice-read-a
-shared-slice-read-a c = search needs
-
-add-b : tie.Need-add-b
-add-b c = search needs
-
-mul-b : tie.Need-mul-b
-mul-b c = search needs
-
-shared-slice-read-b : tie.Need-shared-slice-read-b
-shared-slice-read-b c = search needs
-
-add-c : tie.Need-add-c
-add-c c = search needs
-
-mul-c : tie.Need-mul-c
-mul-c c = search needs
-
-shared-slice-read-c : tie.Need-shared-slice-read-c
-shared-slice-read-c c = search needs
+corners-requires : tie.Need-corners-requires
+corners-requires c κs = search needs
 
 mark-of-requires : tie.Need-mark-of-requires
 mark-of-requires c κs = search needs
@@ -51,7 +30,7 @@ mark-of-requires-3 : tie.Need-mark-of-requires-3
 mark-of-requires-3 c κs = search needs
 
 put-three-requires : tie.Need-put-three-requires
-put-three-requires c κs = omega (arith, c .before .before .before .before .before .before .before .before .before .before .before .before .before .before .before .pre .0 .links-in, c .before .before .before .before .before .before .before .before .before .before .before .before .before .before .before .pre .1)
+put-three-requires c κs = omega (arith, c .before .before .before .before .before .before .before .before .before .before .before .before .before .pre .0 .links-in, c .before .before .before .before .before .before .before .before .before .before .before .before .before .pre .1)
 
 pieces-with-requires : tie.Need-pieces-with-requires
 pieces-with-requires c κs = search needs
@@ -60,7 +39,7 @@ same-length : tie.Need-same-length
 same-length c = search needs
 
 returns-2 : tie.Need-returns-2
-returns-2 c = mark-put (omega (arith, c .before .before .before .before .before .before .before .before .before .before .before .before .before .before .before .before .before .before .before .pre .0 .links-in, c .before .before .before .before .before .before .before .before .before .before .before .before .before .before .before .before .before .before .before .pre .1)) (c .before .before .before .before .before .before .before .before .before .before .before .before .before .before .if1 .left) (c .before .before .before .before .before .before .before .before .before .mark-of .ensures) (c .before .before .before .before .before .before .before .mark-of2 .ensures) (c .before .before .before .before .before .mark-of3 .ensures) (c .before .before .before .put-three .ensures) (c .pieces-with .ensures)
+returns-2 c = let e = c .before .before .before .before .before .before .before .before .before .before .before .corners .ensures in mark-put (omega (arith, c .before .before .before .before .before .before .before .before .before .before .before .before .before .before .before .before .before .pre .0 .links-in, c .before .before .before .before .before .before .before .before .before .before .before .before .before .before .before .before .before .pre .1)) (c .before .before .before .before .before .before .before .before .before .before .before .before .if1 .left) (rw e at (c .before .before .before .before .before .before .before .before .before .mark-of .ensures)) (rw e at (c .before .before .before .before .before .before .before .mark-of2 .ensures)) (rw e at (c .before .before .before .before .before .mark-of3 .ensures)) (c .before .before .before .put-three .ensures) (c .pieces-with .ensures)
 
 pub mark-triangle-spec : {M : Type 1} → statement M
 mark-triangle-spec =
@@ -70,14 +49,7 @@ mark-triangle-spec =
     mul-if1
     slice-read-if1
     returns
-    mul-a
-    shared-slice-read-a
-    add-b
-    mul-b
-    shared-slice-read-b
-    add-c
-    mul-c
-    shared-slice-read-c
+    corners-requires
     mark-of-requires
     mark-of-requires-2
     mark-of-requires-3

@@ -1,5 +1,5 @@
 -- `refine_floor::marks::split_all` meets its contract: the pieces of the triangles from i on stand; the laws are in proofs/Splitting.
-use Prim.Native.Nat.{_-_, _≤_}
+use Prim.Native.Nat.{_≤_}
 use native.Mathlib.Omega.{arith}
 use Rattle.refine_floor.proofs.Splitting.{SplitFrom, split-start, split-bounds, split-room, split-on, split-long, split-done}
 use borrow.Author.Needs.{needs}
