@@ -28,9 +28,6 @@ flatTerms area z p q r =
     (flatEntries area (z .jk) q r p)
     (flatEntries area (z .ki) r p q)
 
--- the same of arrays of three
-abbrev pub flatEntriesIn : Float → Complex → List Pair → Entry
-flatEntriesIn area z p = flatEntries area z (getD p 0 no-pair) (getD p 1 no-pair) (getD p 2 no-pair)
-
+-- the same of an array of three
 abbrev pub flatTermsIn : Float → Sides → List Pair → Terms
 flatTermsIn area z p = flatTerms area z (getD p 0 no-pair) (getD p 1 no-pair) (getD p 2 no-pair)

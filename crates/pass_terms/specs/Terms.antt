@@ -83,10 +83,14 @@ correctedEntry h ω area z mass energy =
 unfoldable pub holomorphicEntry : Float → Float → Float → Complex → Complex → Complex → Complex
 holomorphicEntry h ω area z mass energy = cond (isPlain h) energy (correctedEntry h ω area z mass energy)
 
+-- both entries, from the scalar of the mass and the energy along the side
+unfoldable pub entryWith : Float → Float → Complex → Float → Complex → Complex → Entry
+entryWith h ω scalar area z energy =
+    let mass = massEntry scalar area z in
+    record { mass = mass; energy = holomorphicEntry h ω area z mass energy }
+
 unfoldable pub entryOf : Mode → Float → Float → Complex → Pair → Pair → Pair → Entry
-entryOf m ω area z p q o =
-    let mass = massEntry (massScalar (m .accurate) ω) area z in
-    record { mass = mass; energy = holomorphicEntry (m .holomorphic) ω area z mass (energyEntry (m .accurate) ω area z p q o) }
+entryOf m ω area z p q o = entryWith (m .holomorphic) ω (massScalar (m .accurate) ω) area z (energyEntry (m .accurate) ω area z p q o)
 
 -- ---- of the whole triangle: the pairs (0, 1, 2), (1, 2, 0) and (2, 0, 1) of line 1353
 
@@ -119,18 +123,6 @@ cornerIn accurate ω area p = energyCorner accurate ω area (getD p 0 no-pair) (
 
 abbrev pub cornersIn : Bool → Float → Float → List Pair → Corners
 cornersIn accurate ω area p = energyCorners accurate ω area (getD p 0 no-pair) (getD p 1 no-pair) (getD p 2 no-pair)
-
-abbrev pub flatIn : Float → Complex → List Pair → Complex
-flatIn area z p = flatEntry area z (getD p 0 no-pair) (getD p 1 no-pair) (getD p 2 no-pair)
-
-abbrev pub accurateIn : Float → Float → Complex → List Pair → Complex
-accurateIn ω area z p = accurateEntry ω area z (getD p 0 no-pair) (getD p 1 no-pair) (getD p 2 no-pair)
-
-abbrev pub energyIn : Bool → Float → Float → Complex → List Pair → Complex
-energyIn accurate ω area z p = energyEntry accurate ω area z (getD p 0 no-pair) (getD p 1 no-pair) (getD p 2 no-pair)
-
-abbrev pub entryIn : Mode → Float → Float → Complex → List Pair → Entry
-entryIn m ω area z p = entryOf m ω area z (getD p 0 no-pair) (getD p 1 no-pair) (getD p 2 no-pair)
 
 abbrev pub termsBy : Mode → Float → Float → Sides → List Pair → Terms
 termsBy m ω area z p = termsWith m ω area z (getD p 0 no-pair) (getD p 1 no-pair) (getD p 2 no-pair)

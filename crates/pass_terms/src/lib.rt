@@ -5,9 +5,9 @@ use integrals::Closed;
 use integrals::Factors;
 use plane::Pair;
 ghost use mathlib.Core.Path.{_≡_};
-ghost use Rattle.pass_terms.specs.Terms.{holonomyOf, massCorner, flatCorner, correctionIn, massScalar, massEntry, correctedEntry, holomorphicEntry};
-ghost use Rattle.pass_terms.specs.Terms.{sidesOf, partsOf, cornerIn, cornersIn, flatIn, accurateIn, energyIn, entryIn, termsBy, termsIn};
-ghost use Rattle.pass_terms.specs.Flat.{flatEntriesIn, flatTermsIn};
+ghost use Rattle.pass_terms.specs.Terms.{holonomyOf, massCorner, flatCorner, correctionIn, massScalar, massEntry, accurateEntry, flatEntry, energyEntry, correctedEntry, holomorphicEntry, entryWith};
+ghost use Rattle.pass_terms.specs.Terms.{sidesOf, partsOf, cornerIn, cornersIn, termsBy, termsIn};
+ghost use Rattle.pass_terms.specs.Flat.{flatEntries, flatTermsIn};
 ghost use Rattle.pass_terms.specs.Factors.{factorsIn};
 ghost use Rattle.integrals.specs.Factors.{factorsOf};
 
@@ -37,10 +37,10 @@ pub struct Entry {
     pub energy: Complex,
 }
 
-// What a triangle adds to a matrix: at its corners, and along its sides.
+// What a triangle adds to a matrix: along its sides, and at its corners. In this order, so that it is copied in the pieces in which it was stored.
 pub struct Part {
-    pub corners: Corners,
     pub sides: Sides,
+    pub corners: Corners,
 }
 
 // What it adds to both. Where the holomorphic weight is not 0, the correction is added to the energy at each corner besides.
@@ -129,13 +129,21 @@ fn mass_entry(scalar: Complex, area: f64, z: Complex) -> Complex
     z.conj().mul(scalar).scale(area)
 }
 
-fn accurate_entry(omega: f64, f: Factors, area: f64, z: Complex, p: [Pair; 3]) -> Complex
+// Along the side from p to q, whose third corner is at o.
+fn accurate_entry(
+    omega: f64,
+    f: Factors,
+    area: f64,
+    z: Complex,
+    p: Pair,
+    q: Pair,
+    o: Pair,
+) -> Complex
     requires { ⌜ f ≡ factorsOf omega ⌝ }
-    ensures { λ r. ⌜ r ≡ accurateIn omega area z p ⌝ }
+    ensures { λ r. ⌜ r ≡ accurateEntry omega area z p q o ⌝ }
 {
-    let o = p[2];
-    let a = plane::sub2(p[0], o);
-    let b = plane::sub2(p[1], o);
+    let a = plane::sub2(p, o);
+    let b = plane::sub2(q, o);
     let integral = integrals::dirichlet_by(
         omega,
         f,
@@ -146,12 +154,11 @@ fn accurate_entry(omega: f64, f: Factors, area: f64, z: Complex, p: [Pair; 3]) -
     z.conj().mul(integral).scale(float::recip(area))
 }
 
-fn flat_entry(area: f64, z: Complex, p: [Pair; 3]) -> Complex
-    ensures { λ r. ⌜ r ≡ flatIn area z p ⌝ }
+fn flat_entry(area: f64, z: Complex, p: Pair, q: Pair, o: Pair) -> Complex
+    ensures { λ r. ⌜ r ≡ flatEntry area z p q o ⌝ }
 {
-    let o = p[2];
-    let a = plane::sub2(p[0], o);
-    let b = plane::sub2(p[1], o);
+    let a = plane::sub2(p, o);
+    let b = plane::sub2(q, o);
     z.conj()
         .scale(-plane::dot2(a, b) * float::recip(4.0 * area))
 }
@@ -162,15 +169,17 @@ fn energy_entry(
     f: Factors,
     area: f64,
     z: Complex,
-    p: [Pair; 3],
+    p: Pair,
+    q: Pair,
+    o: Pair,
 ) -> Complex
     requires { ⌜ f ≡ factorsIn accurate omega ⌝ }
-    ensures { λ r. ⌜ r ≡ energyIn accurate omega area z p ⌝ }
+    ensures { λ r. ⌜ r ≡ energyEntry accurate omega area z p q o ⌝ }
 {
     if accurate {
-        return accurate_entry(omega, f, area, z, p);
+        return accurate_entry(omega, f, area, z, p, q, o);
     }
-    flat_entry(area, z, p)
+    flat_entry(area, z, p, q, o)
 }
 
 fn corrected_entry(
@@ -203,25 +212,14 @@ fn holomorphic_entry(
     corrected_entry(h, omega, area, z, mass, energy)
 }
 
-// The entries of the side from the first of three corners to the second; z is the transport along it, and the scalar that of the triangle's mass.
-fn entry_of(
-    m: Mode,
-    omega: f64,
-    f: Factors,
-    scalar: Complex,
-    area: f64,
-    z: Complex,
-    p: [Pair; 3],
-) -> Entry
-    requires { ⌜ f ≡ factorsIn (m .accurate) omega ⌝ }
-    requires { ⌜ scalar ≡ massScalar (m .accurate) omega ⌝ }
-    ensures { λ r. ⌜ r ≡ entryIn m omega area z p ⌝ }
+// The entries of a side, from the scalar of the triangle's mass, the transport along the side and the energy there.
+fn entry_with(h: f64, omega: f64, scalar: Complex, area: f64, z: Complex, energy: Complex) -> Entry
+    ensures { λ r. ⌜ r ≡ entryWith h omega scalar area z energy ⌝ }
 {
     let mass = mass_entry(scalar, area, z);
-    let energy = energy_entry(m.accurate, omega, f, area, z, p);
     Entry {
         mass,
-        energy: holomorphic_entry(m.holomorphic, omega, area, z, mass, energy),
+        energy: holomorphic_entry(h, omega, area, z, mass, energy),
     }
 }
 
@@ -255,13 +253,13 @@ fn parts(mass: f64, energy: Corners, correction: f64, a: Entry, b: Entry, c: Ent
 }
 
 // The entries of a side, flat and without the correction.
-fn flat_entries(area: f64, z: Complex, p: [Pair; 3]) -> Entry
-    ensures { λ r. ⌜ r ≡ flatEntriesIn area z p ⌝ }
+fn flat_entries(area: f64, z: Complex, p: Pair, q: Pair, o: Pair) -> Entry
+    ensures { λ r. ⌜ r ≡ flatEntries area z p q o ⌝ }
 {
     let mass = mass_entry(Complex::new(1.0 / 12.0, 0.0), area, z);
     Entry {
         mass,
-        energy: flat_entry(area, z, p),
+        energy: flat_entry(area, z, p, q, o),
     }
 }
 
@@ -269,9 +267,12 @@ fn flat_entries(area: f64, z: Complex, p: [Pair; 3]) -> Entry
 fn flat_terms(area: f64, z: Sides, p: [Pair; 3]) -> Terms
     ensures { λ r. ⌜ r ≡ flatTermsIn area z p ⌝ }
 {
-    let ij = flat_entries(area, z.ij, p);
-    let jk = flat_entries(area, z.jk, [p[1], p[2], p[0]]);
-    let ki = flat_entries(area, z.ki, [p[2], p[0], p[1]]);
+    let i = p[0];
+    let j = p[1];
+    let k = p[2];
+    let ij = flat_entries(area, z.ij, i, j, k);
+    let jk = flat_entries(area, z.jk, j, k, i);
+    let ki = flat_entries(area, z.ki, k, i, j);
     let energy = energy_corners(false, 0.0, area, p);
     parts(mass_corner(area), energy, 0.0, ij, jk, ki)
 }
@@ -282,17 +283,23 @@ fn terms_by(m: Mode, omega: f64, area: f64, z: Sides, p: [Pair; 3]) -> Terms
 {
     let f = factors_in(m.accurate, omega);
     let scalar = mass_scalar(m.accurate, omega, f);
-    let ij = entry_of(m, omega, f, scalar, area, z.ij, p);
-    let jk = entry_of(m, omega, f, scalar, area, z.jk, [p[1], p[2], p[0]]);
-    let ki = entry_of(m, omega, f, scalar, area, z.ki, [p[2], p[0], p[1]]);
+    let i = p[0];
+    let j = p[1];
+    let k = p[2];
+    let ij = energy_entry(m.accurate, omega, f, area, z.ij, i, j, k);
+    let jk = energy_entry(m.accurate, omega, f, area, z.jk, j, k, i);
+    let ki = energy_entry(m.accurate, omega, f, area, z.ki, k, i, j);
+    let a = entry_with(m.holomorphic, omega, scalar, area, z.ij, ij);
+    let b = entry_with(m.holomorphic, omega, scalar, area, z.jk, jk);
+    let c = entry_with(m.holomorphic, omega, scalar, area, z.ki, ki);
     let energy = energy_corners(m.accurate, omega, area, p);
     parts(
         mass_corner(area),
         energy,
         correction(m.holomorphic, omega),
-        ij,
-        jk,
-        ki,
+        a,
+        b,
+        c,
     )
 }
 

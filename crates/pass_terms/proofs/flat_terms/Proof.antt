@@ -1,32 +1,23 @@
 -- `pass_terms::flat_terms` meets its contract: the definition is its calls.
-use borrow.Author.Needs.{needs}
 use Rattle.pass_terms.specs.Flat.{flatTerms}
+use borrow.Author.Needs.{needs}
 use Rattle.pass_terms.proofs.flat_terms.Statement.{statement}
 use Rattle.pass_terms.proofs.flat_terms.Tie as tie
+
+array-copy-out-i : tie.Need-array-copy-out-i
+array-copy-out-i c = search needs
+
+array-copy-out-j : tie.Need-array-copy-out-j
+array-copy-out-j c = search needs
+
+array-copy-out-k : tie.Need-array-copy-out-k
+array-copy-out-k c = search needs
 
 flat-entries-requires : tie.Need-flat-entries-requires
 flat-entries-requires c κs = search needs
 
-array-copy-out-t12 : tie.Need-array-copy-out-t12
-array-copy-out-t12 c = search needs
-
-array-copy-out-t15 : tie.Need-array-copy-out-t15
-array-copy-out-t15 c = search needs
-
-array-copy-out-t18 : tie.Need-array-copy-out-t18
-array-copy-out-t18 c = search needs
-
 flat-entries-requires-2 : tie.Need-flat-entries-requires-2
 flat-entries-requires-2 c κs = search needs
-
-array-copy-out-t12-2 : tie.Need-array-copy-out-t12-2
-array-copy-out-t12-2 c = search needs
-
-array-copy-out-t15-2 : tie.Need-array-copy-out-t15-2
-array-copy-out-t15-2 c = search needs
-
-array-copy-out-t18-2 : tie.Need-array-copy-out-t18-2
-array-copy-out-t18-2 c = search needs
 
 flat-entries-requires-3 : tie.Need-flat-entries-requires-3
 flat-entries-requires-3 c κs = search needs
@@ -42,20 +33,17 @@ parts-requires c κs = search needs
 
 returns : tie.Need-returns
 unfolding flatTerms
-returns c = simp (c .parts .ensures, c .before .mass-corner .ensures, c .before .before .energy-corners .ensures, c .before .before .before .flat-entries3 .ensures, c .before .before .before .before .before .before .before .flat-entries2 .ensures, c .before .before .before .before .before .before .before .before .before .before .before .flat-entries .ensures)
+returns c = simp (c .parts .ensures, c .before .mass-corner .ensures, c .before .before .energy-corners .ensures, c .before .before .before .flat-entries3 .ensures, c .before .before .before .before .flat-entries2 .ensures, c .before .before .before .before .before .flat-entries .ensures)
 
 pub flat-terms-spec : {M : Type 1} → statement M
 flat-terms-spec =
     tie.close
     (tie.spec
+    array-copy-out-i
+    array-copy-out-j
+    array-copy-out-k
     flat-entries-requires
-    array-copy-out-t12
-    array-copy-out-t15
-    array-copy-out-t18
     flat-entries-requires-2
-    array-copy-out-t12-2
-    array-copy-out-t15-2
-    array-copy-out-t18-2
     flat-entries-requires-3
     energy-corners-requires
     mass-corner-requires

@@ -1,5 +1,5 @@
 -- `pass_terms::terms_by` meets its contract: the definition is its calls.
-use Rattle.pass_terms.specs.Terms.{termsWith}
+use Rattle.pass_terms.specs.Terms.{entryOf, termsWith}
 use borrow.Author.Needs.{needs}
 use Rattle.pass_terms.proofs.terms_by.Statement.{statement}
 use Rattle.pass_terms.proofs.terms_by.Tie as tie
@@ -10,32 +10,32 @@ factors-in-requires c κs = search needs
 mass-scalar-requires : tie.Need-mass-scalar-requires
 mass-scalar-requires c κs = search needs
 
-entry-of-requires : tie.Need-entry-of-requires
-entry-of-requires c κs = search needs
+array-copy-out-i : tie.Need-array-copy-out-i
+array-copy-out-i c = search needs
 
-array-copy-out-t16 : tie.Need-array-copy-out-t16
-array-copy-out-t16 c = search needs
+array-copy-out-j : tie.Need-array-copy-out-j
+array-copy-out-j c = search needs
 
-array-copy-out-t19 : tie.Need-array-copy-out-t19
-array-copy-out-t19 c = search needs
+array-copy-out-k : tie.Need-array-copy-out-k
+array-copy-out-k c = search needs
 
-array-copy-out-t22 : tie.Need-array-copy-out-t22
-array-copy-out-t22 c = search needs
+energy-entry-requires : tie.Need-energy-entry-requires
+energy-entry-requires c κs = search needs
 
-entry-of-requires-2 : tie.Need-entry-of-requires-2
-entry-of-requires-2 c κs = search needs
+energy-entry-requires-2 : tie.Need-energy-entry-requires-2
+energy-entry-requires-2 c κs = search needs
 
-array-copy-out-t16-2 : tie.Need-array-copy-out-t16-2
-array-copy-out-t16-2 c = search needs
+energy-entry-requires-3 : tie.Need-energy-entry-requires-3
+energy-entry-requires-3 c κs = search needs
 
-array-copy-out-t19-2 : tie.Need-array-copy-out-t19-2
-array-copy-out-t19-2 c = search needs
+entry-with-requires : tie.Need-entry-with-requires
+entry-with-requires c κs = search needs
 
-array-copy-out-t22-2 : tie.Need-array-copy-out-t22-2
-array-copy-out-t22-2 c = search needs
+entry-with-requires-2 : tie.Need-entry-with-requires-2
+entry-with-requires-2 c κs = search needs
 
-entry-of-requires-3 : tie.Need-entry-of-requires-3
-entry-of-requires-3 c κs = search needs
+entry-with-requires-3 : tie.Need-entry-with-requires-3
+entry-with-requires-3 c κs = search needs
 
 energy-corners-requires : tie.Need-energy-corners-requires
 energy-corners-requires c κs = search needs
@@ -50,8 +50,8 @@ parts-requires : tie.Need-parts-requires
 parts-requires c κs = search needs
 
 returns : tie.Need-returns
-unfolding termsWith
-returns c = simp (c .parts .ensures, c .before .correction .ensures, c .before .before .mass-corner .ensures, c .before .before .before .energy-corners .ensures, c .before .before .before .before .entry-of3 .ensures, c .before .before .before .before .before .before .before .before .entry-of2 .ensures, c .before .before .before .before .before .before .before .before .before .before .before .before .entry-of .ensures)
+unfolding termsWith entryOf
+returns c = simp (c .parts .ensures, c .before .correction .ensures, c .before .before .mass-corner .ensures, c .before .before .before .energy-corners .ensures, c .before .before .before .before .entry-with3 .ensures, c .before .before .before .before .before .entry-with2 .ensures, c .before .before .before .before .before .before .entry-with .ensures, c .before .before .before .before .before .before .before .energy-entry3 .ensures, c .before .before .before .before .before .before .before .before .energy-entry2 .ensures, c .before .before .before .before .before .before .before .before .before .energy-entry .ensures, c .before .before .before .before .before .before .before .before .before .before .before .before .before .mass-scalar .ensures)
 
 pub terms-by-spec : {M : Type 1} → statement M
 terms-by-spec =
@@ -59,15 +59,15 @@ terms-by-spec =
     (tie.spec
     factors-in-requires
     mass-scalar-requires
-    entry-of-requires
-    array-copy-out-t16
-    array-copy-out-t19
-    array-copy-out-t22
-    entry-of-requires-2
-    array-copy-out-t16-2
-    array-copy-out-t19-2
-    array-copy-out-t22-2
-    entry-of-requires-3
+    array-copy-out-i
+    array-copy-out-j
+    array-copy-out-k
+    energy-entry-requires
+    energy-entry-requires-2
+    energy-entry-requires-3
+    entry-with-requires
+    entry-with-requires-2
+    entry-with-requires-3
     energy-corners-requires
     mass-corner-requires
     correction-requires
