@@ -7,8 +7,8 @@ use Rattle.complex.specs.Complex.{argumentOf}
 use Rattle.complex.specs.Angle.{inRange, crossAngle, unwound, wrapToPi}
 use Rattle.geometry.specs.Edge.{alignmentWeight}
 use Rattle.mesh.specs.Mesh.{key, indexIn, met, metAll, sidesAfter, marked, cuts, mid, refine}
-use Rattle.areas.specs.Area.{halfway}
-use Rattle.areas.specs.Points.{morePoints, midpoints}
+use Rattle.mesh.specs.Area.{halfway}
+use Rattle.mesh.specs.Points.{morePoints, midpoints}
 use Rattle.refinement.specs.Flag.{turnAlong, variation, flagged, flaggedTri}
 use Rattle.refinement.specs.Floor.{refinementOf}
 use Rattle.text_answer.proofs.Listing.{listing}

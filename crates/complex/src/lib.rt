@@ -1,5 +1,7 @@
 // Complex numbers by value, as in the Rust, and the two functions that turn them to angles:
 // `cross_angle`, the angle of a cross in [0, FRAC_PI_2), and `wrap_to_pi`, an angle in (-PI, PI].
+pub mod guidance;
+
 ghost use mathlib.Core.Path.{_≡_};
 ghost use Rattle.complex.specs.Complex.{cnew, fromAngle, cadd, csub, cmul, cscale, cconj, isZero, argumentOf};
 ghost use Rattle.complex.specs.Angle.{crossAngle, wrapToPi, IsCross, WrapRange};

@@ -17,7 +17,7 @@ use Rattle.linear_hermitian.specs.Hermitian.{Matrix, dotOf, normOf, scaled, app
 use Rattle.linear_hermitian.specs.Work.{matrix}
 use Rattle.linear_hermitian.proofs.Product.{length-applied, length-scaled}
 use Rattle.linear_conjugate_gradient.specs.declared.Vectors.{Vectors}
-use Rattle.linear_residual.specs.declared.Sums.{Sums}
+use Rattle.linear_vectors.specs.declared.residual.Sums.{Sums}
 use Rattle.linear_vectors.specs.Vectors.{recipsOf}
 use Rattle.linear_conjugate_gradient.specs.declared.Progress.{Progress}
 use Rattle.linear_conjugate_gradient.specs.declared.Progress.the-variants.{Going, Converged, Broken}

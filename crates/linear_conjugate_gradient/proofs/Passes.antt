@@ -10,11 +10,11 @@ use Rattle.linear_cells.specs.Cell.{regionC, putC}
 use Rattle.linear_cells.proofs.Loops.{length-tab}
 use Rattle.linear_hermitian.specs.Hermitian.{scaled}
 use Rattle.linear_hermitian.proofs.Product.{length-scaled}
-use Rattle.linear_residual.specs.declared.Sums.{Sums}
+use Rattle.linear_vectors.specs.declared.residual.Sums.{Sums}
 use Rattle.linear_vectors.specs.Vectors.{zipOf, addScaled}
 use Rattle.linear_vectors.proofs.Zip.{length-zipOf}
-use Rattle.linear_residual.specs.Work.{Reduced}
-use Rattle.linear_residual.proofs.Residuals.{length-productsOf}
+use Rattle.linear_vectors.specs.ResidualWork.{Reduced}
+use Rattle.linear_vectors.proofs.Residuals.{length-productsOf}
 use Rattle.linear_conjugate_gradient.specs.declared.Vectors.{Vectors}
 use Rattle.linear_conjugate_gradient.specs.Solve.{State, preconditioned, residualDot, reduced, advanced, directed}
 use Rattle.linear_conjugate_gradient.specs.Work.{read, lay, VectorRoom, Updated}

@@ -9,7 +9,7 @@ use Rattle.linear_cells.specs.Rows.{Row, row, laid, Ranged}
 use Rattle.linear_hermitian.specs.declared.Hermitian.{Hermitian}
 use Rattle.linear_hermitian.specs.Hermitian.{Matrix, dotOf, applied}
 use Rattle.linear_hermitian.specs.Work.{matrix}
-use Rattle.linear_residual.specs.declared.Sums.{Sums}
+use Rattle.linear_vectors.specs.declared.residual.Sums.{Sums}
 use Rattle.linear_conjugate_gradient.specs.declared.Vectors.{Vectors}
 use Rattle.linear_conjugate_gradient.specs.declared.Progress.{Progress}
 use Rattle.linear_conjugate_gradient.specs.declared.Answer.{Answer}

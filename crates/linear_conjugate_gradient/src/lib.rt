@@ -2,7 +2,7 @@
 // the Rust's steps.
 use linear_cells::load_real;
 use linear_hermitian::Hermitian;
-use linear_residual::Sums;
+use linear_vectors::residual::Sums;
 ghost use mathlib.Core.Path.{_≡_};
 ghost use Prim.Native.Nat.{_+_, _*_, _<_, _≤_};
 ghost use lib.ListN.{length};
@@ -91,7 +91,7 @@ fn update(work: &mut [f64], n: usize, l: Vectors, alpha: f64) -> Sums
     requires { ⌜ VectorRoom (length (now work)) n l ⌝ }
     ensures { λ r. ⌜ Updated (now (work .entry)) (now (work .exit)) n l alpha r ⌝ }
 {
-    linear_residual::reduce(work, l.residual, l.applied, l.inverse, n, alpha)
+    linear_vectors::residual::reduce(work, l.residual, l.applied, l.inverse, n, alpha)
 }
 
 // x = x + direction * alpha.

@@ -1,2 +1,4 @@
 pub mod Vectors
 pub mod Work
+pub mod Residual
+pub mod ResidualWork

@@ -1,5 +1,7 @@
 // The passes over the vectors of conjugate gradients that add up nothing, in regions of one lent slice. What one pass over memory can
-// serve is done in one loop. The residual's pass is crate linear_residual.
+// serve is done in one loop. The residual's pass, which adds up, is module residual.
+pub mod residual;
+
 use complex::Complex;
 use linear_cells::load;
 use linear_cells::load_real;

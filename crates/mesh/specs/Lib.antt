@@ -1,2 +1,5 @@
 pub mod Mesh
 pub mod Claim
+pub mod Area
+pub mod Points
+pub mod AreaClaim

@@ -4,6 +4,7 @@ ghost use mathlib.Core.Path.{_≡_};
 ghost use Prim.Native.Nat.{_+_, _≤_};
 ghost use lib.ListN.{length};
 ghost use Rattle.mesh.specs.Mesh.{cornersAt};
+ghost use Rattle.mesh.specs.Area.{halfway};
 
 // The corners of a triangle: three numbers of points.
 pub struct ThreeCorners {
@@ -29,4 +30,11 @@ pub fn corners(list: &[u32], at: usize) -> ThreeCorners
         b: list[at + 1],
         c: list[at + 2],
     }
+}
+
+// Half the sum: a midpoint's coordinate from those of its ends, and its size from theirs.
+pub fn half_sum(x: f64, y: f64) -> f64
+    ensures { λ r. ⌜ r ≡ halfway x y ⌝ }
+{
+    0.5 * (x + y)
 }

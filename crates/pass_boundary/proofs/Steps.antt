@@ -15,7 +15,7 @@ use lib.Seq.{getD-set-same, getD-set-other}
 use lib.Ieee.{Float, nan}
 use Rattle.float.specs.Double.{_⊖_}
 use Rattle.arctangent.specs.Arc.{atan2Of}
-use Rattle.guidance.specs.Guidance.{fourfold}
+use Rattle.complex.specs.Guidance.{fourfold}
 use Rattle.complex.specs.declared.Complex.{Complex}
 use Rattle.complex.specs.Complex.{cadd}
 use Rattle.linear_cells.specs.Region.{region, Apart}

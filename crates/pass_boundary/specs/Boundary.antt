@@ -12,7 +12,7 @@ use Rattle.complex.specs.Complex.{czero, cone, cadd, cscale}
 use Rattle.linear_cells.specs.Region.{tab}
 use Rattle.mesh.specs.Mesh.{Side, side, key, Tri, tri, one}
 use Rattle.edges.specs.Numbering.{times, listed}
-use Rattle.guidance.specs.Guidance.{fourfold, normOf}
+use Rattle.complex.specs.Guidance.{fourfold, normOf}
 
 -- ---- which sides
 

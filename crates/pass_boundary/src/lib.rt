@@ -60,7 +60,7 @@ fn direction(w: &[f64], p: Planes, a: usize, b: usize) -> Complex
 {
     let dy = load_real(w, p.y, b) - load_real(w, p.y, a);
     let dx = load_real(w, p.x, b) - load_real(w, p.x, a);
-    guidance::fourfold_direction(arctangent::atan2(dy, dx))
+    complex::guidance::fourfold_direction(arctangent::atan2(dy, dx))
 }
 
 // The first value at point v, where z is added now.
@@ -136,7 +136,7 @@ fn mark_all(w: &mut [f64], u: &mut [u32], l: Listing, p: Planes) -> usize
 fn normal(sum: Complex, first: Complex) -> Complex
     ensures { λ r. ⌜ r ≡ normalised sum first ⌝ }
 {
-    let norm = guidance::norm(sum);
+    let norm = complex::guidance::norm(sum);
     if float::is_finite(norm) {
         if norm > 1e-12 {
             return sum.scale(float::recip(norm));

@@ -8,7 +8,7 @@ use lib.Ieee.{Float, nan}
 use Rattle.linear_cells.specs.Region.{put}
 use Rattle.linear_cells.proofs.Regions.{length-put, put-within}
 use Rattle.mesh.specs.Mesh.{Side, Tri}
-use Rattle.areas.specs.Points.{midpoints, morePoints, midSizes, moreSizes}
+use Rattle.mesh.specs.Points.{midpoints, morePoints, midSizes, moreSizes}
 use Rattle.edges.specs.Table.{pairs, cutsIn}
 use Rattle.edges.specs.Numbering.{trisFrom, Below}
 use Rattle.refine_floor.specs.Guidance.{midAngles, moreAngles}

@@ -11,8 +11,8 @@ use Rattle.linear_cells.specs.Region.{tab, region, put, Apart}
 use Rattle.linear_cells.proofs.Loops.{apart, length-tab, tab-ext}
 use Rattle.linear_cells.proofs.Regions.{length-put, region-put, region-else, put-else}
 use Rattle.mesh.specs.Mesh.{Side, side, Tri}
-use Rattle.areas.specs.Points.{xOf, yOf, midSize, midSizes, morePoints, moreSizes}
-use Rattle.areas.proofs.Points.{points-length}
+use Rattle.mesh.specs.Points.{xOf, yOf, midSize, midSizes, morePoints, moreSizes}
+use Rattle.mesh.proofs.Points.{points-length}
 use Rattle.edges.specs.Numbering.{trisFrom}
 use Rattle.refine_floor.specs.Guidance.{midAngleOn, midAngles, moreAngles}
 use Rattle.edges.specs.declared.Table.{Table}

@@ -7,7 +7,7 @@ use lib.ListN.{length, getD}
 use lib.Ieee.{Float, nan}
 use Rattle.linear_cells.specs.Region.{region, put}
 use Rattle.mesh.specs.Mesh.{Side, Tri}
-use Rattle.areas.specs.Points.{morePoints, moreSizes}
+use Rattle.mesh.specs.Points.{morePoints, moreSizes}
 use Rattle.edges.specs.declared.Table.{Table}
 use Rattle.edges.specs.Table.{endOf, cutsIn}
 use Rattle.edges.specs.Numbering.{trisFrom}

@@ -15,9 +15,9 @@ use Rattle.linear_hermitian.specs.Hermitian.{Matrix, dotOf, normOf, applied}
 use Rattle.linear_hermitian.specs.Work.{matrix}
 use Rattle.linear_hermitian.proofs.Product.{length-applied}
 use Rattle.linear_vectors.proofs.Zip.{length-zipOf}
-use Rattle.linear_residual.specs.declared.Sums.{Sums}
-use Rattle.linear_residual.specs.Work.{Reduced}
-use Rattle.linear_residual.proofs.Residuals.{length-productsOf}
+use Rattle.linear_vectors.specs.declared.residual.Sums.{Sums}
+use Rattle.linear_vectors.specs.ResidualWork.{Reduced}
+use Rattle.linear_vectors.proofs.Residuals.{length-productsOf}
 use Rattle.linear_conjugate_gradient.specs.declared.Vectors.{Vectors}
 use Rattle.linear_conjugate_gradient.specs.Solve.{State, massOf}
 use Rattle.linear_conjugate_gradient.specs.Work.{read, lay, VectorRoom}

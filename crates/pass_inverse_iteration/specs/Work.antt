@@ -11,7 +11,7 @@ use Rattle.linear_hermitian.specs.declared.Hermitian.{Hermitian}
 use Rattle.linear_hermitian.specs.Hermitian.{Matrix, dotOf, normOf, applied}
 use Rattle.linear_hermitian.specs.Work.{matrix, Graph}
 use Rattle.linear_vectors.specs.Vectors.{zipOf, subScaled}
-use Rattle.linear_residual.specs.Residual.{productsOf}
+use Rattle.linear_vectors.specs.Residual.{productsOf}
 use Rattle.linear_conjugate_gradient.specs.declared.Vectors.{Vectors}
 use Rattle.linear_conjugate_gradient.specs.Solve.{State, massOf}
 use Rattle.linear_conjugate_gradient.specs.Work.{read, lay, SolverRoom}

@@ -63,7 +63,7 @@ fn relative(work: &mut [f64], n: usize, l: Vectors, lambda: f64, average: f64) -
     requires { ⌜ VectorRoom (length (now work)) n l ⌝ }
     ensures { λ r. ⌜ Relative (now (work .entry)) (now (work .exit)) n l lambda average r ⌝ }
 {
-    let sums = linear_residual::reduce(work, l.applied, l.direction, l.inverse, n, lambda);
+    let sums = linear_vectors::residual::reduce(work, l.applied, l.direction, l.inverse, n, lambda);
     root::sqrt(float::max(sums.square, 0.0)) / average
 }
 

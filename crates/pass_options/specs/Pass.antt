@@ -7,7 +7,7 @@ use lib.ListN.{length, getD}
 use lib.Ieee.{Float, nan}
 use Rattle.complex.specs.Angle.{IsCross}
 use Rattle.linear_cells.specs.Region.{tab}
-use Rattle.areas.specs.Points.{xOf, yOf}
+use Rattle.mesh.specs.Points.{xOf, yOf}
 use Rattle.mesh.specs.Mesh.{Tri, tri, All}
 use Rattle.mesh.specs.Claim.{InRange}
 use Rattle.floor.specs.Floor.{Floor, pointsOf}

@@ -9,8 +9,8 @@ use lib.Ieee.{Float, nan}
 use Rattle.linear_cells.specs.Region.{tab, put}
 use Rattle.linear_cells.proofs.Loops.{length-tab, getD-tab}
 use Rattle.mesh.specs.Mesh.{Side, side}
-use Rattle.areas.specs.Area.{halfway}
-use Rattle.areas.specs.Points.{midpoint, midpoints, morePoints}
+use Rattle.mesh.specs.Area.{halfway}
+use Rattle.mesh.specs.Points.{midpoint, midpoints, morePoints}
 use Rattle.edges.specs.declared.Table.{Table}
 use Rattle.edges.specs.Table.{loOf, hiOf, cutsIn}
 use Rattle.edges.proofs.Tree.{length-pairs, pair-at}

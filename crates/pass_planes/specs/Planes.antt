@@ -6,11 +6,11 @@ use lib.ListN.{length, getD}
 use lib.Ieee.{Float, nan}
 use Rattle.linear_cells.specs.Region.{tab}
 use Rattle.mesh.specs.Mesh.{Side, side}
-use Rattle.areas.specs.Area.{halfway}
-use Rattle.areas.specs.Points.{morePoints}
+use Rattle.mesh.specs.Area.{halfway}
+use Rattle.mesh.specs.Points.{morePoints}
 use Rattle.edges.specs.declared.Table.{Table}
 use Rattle.edges.specs.Table.{loOf, hiOf, endOf}
-use Rattle.guidance.specs.Guidance.{midAngle}
+use Rattle.complex.specs.Guidance.{midAngle}
 use Rattle.pass_planes.specs.declared.Mean.{Mean}
 use Rattle.pass_planes.specs.declared.Mean.the-variants.{Half, Angle}
 

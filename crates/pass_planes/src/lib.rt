@@ -24,7 +24,7 @@ fn midway(points: &[f64], numbers: &[u32], table: Table, k: usize, j: usize) -> 
     ensures { λ r. ⌜ r ≡ midwayAt (now (points .entry)) table (now (numbers .entry)) k j ⌝ }
 {
     let at = edges::row(table, j);
-    areas::half_sum(
+    mesh::half_sum(
         given(points, k, numbers[at]),
         given(points, k, numbers[at + 1]),
     )
@@ -86,8 +86,8 @@ fn between(kind: Mean, a: f64, b: f64) -> f64
     ensures { λ r. ⌜ r ≡ meanOf kind a b ⌝ }
 {
     match kind {
-        Mean::Half => areas::half_sum(a, b),
-        Mean::Angle => guidance::mid_angle(a, b),
+        Mean::Half => mesh::half_sum(a, b),
+        Mean::Angle => complex::guidance::mid_angle(a, b),
     }
 }
 

@@ -12,7 +12,7 @@ use Rattle.float.specs.Double.{lit, isFinite}
 use Rattle.mesh.specs.Mesh.{All, cuts}
 use Rattle.mesh.specs.Claim.{InRange}
 use Rattle.mesh.proofs.Order.{cut-sides}
-use Rattle.areas.proofs.Points.{points-length}
+use Rattle.mesh.proofs.Points.{points-length}
 use Rattle.floor.specs.declared.Check.{Check}
 use Rattle.floor.specs.declared.Check.the-variants.{Sound, Refused}
 use Rattle.floor.specs.Checks.{row, lowest, badPoint, badSize, badCorner, wellFormed, notFiniteOrBelowZero, checkFloor}

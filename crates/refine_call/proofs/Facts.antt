@@ -11,7 +11,7 @@ use lib.ListN.{length, take}
 use lib.Seq.{sets, take-length}
 use lib.Ieee.{Float}
 use Rattle.mesh.specs.Mesh.{mid, cuts, refine, refined}
-use Rattle.areas.specs.Points.{morePoints, moreSizes}
+use Rattle.mesh.specs.Points.{morePoints, moreSizes}
 use Rattle.edges.specs.Table.{pairs}
 use Rattle.edges.specs.TwoSlices.{loAt, hiAt, sidesAt}
 use Rattle.edges.proofs.Tree.{length-pairs}
@@ -26,7 +26,7 @@ use Rattle.refinement.specs.Floor.{tris, trisOf, cornersOf, Refined, refinement
 use Rattle.refinement.proofs.Runs.{front}
 use Rattle.refinement.proofs.Triangles.{tris-length, corners-length}
 use Rattle.refinement.proofs.Parts.{refined-most}
-use Rattle.areas.proofs.Points.{points-length, sizes-length}
+use Rattle.mesh.proofs.Points.{points-length, sizes-length}
 use Rattle.refine_floor.specs.Stored.{Stored}
 use Rattle.refine_floor.specs.Marks.{markedBy, MarksRoom, Marked}
 use Rattle.refine_floor.proofs.Splitting.{front-same}

@@ -7,7 +7,7 @@ ghost use mathlib.Core.Path.{_≡_};
 ghost use Prim.Native.Nat.{_+_, _*_, _≤_};
 ghost use lib.ListN.{length};
 ghost use lib.Seq.{sets};
-ghost use Rattle.areas.specs.Points.{morePoints, moreSizes};
+ghost use Rattle.mesh.specs.Points.{morePoints, moreSizes};
 ghost use Rattle.edges.specs.TwoSlices.{sidesAt};
 ghost use Rattle.floor.specs.Checks.{MOST-POINTS, MOST-TRIANGLES};
 ghost use Rattle.refinement.specs.Floor.{refinementOf, trisOf};

@@ -10,8 +10,8 @@ use lib.Seq.{sets, length-sets}
 use lib.Ieee.{Float}
 use Rattle.mesh.specs.Mesh.{Tri, Side, side, mid, pieces, refined}
 use Rattle.mesh.proofs.Theorem.{refined-append}
-use Rattle.areas.specs.Points.{midpoint, midpoints, midSize, midSizes}
-use Rattle.areas.proofs.Points.{mids-length}
+use Rattle.mesh.specs.Points.{midpoint, midpoints, midSize, midSizes}
+use Rattle.mesh.proofs.Points.{mids-length}
 use Rattle.edges.specs.declared.Table.{Table}
 use Rattle.edges.specs.Table.{pairs, endOf, cutsIn}
 use Rattle.edges.specs.TwoSlices.{loAt, hiAt, sidesAt}

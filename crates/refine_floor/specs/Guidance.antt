@@ -3,7 +3,7 @@ use mathlib.Core.List.{List, _++_, map}
 use lib.ListN.{getD}
 use lib.Ieee.{Float, nan}
 use Rattle.mesh.specs.Mesh.{Side, side}
-use Rattle.guidance.specs.Guidance.{midAngle}
+use Rattle.complex.specs.Guidance.{midAngle}
 
 -- the angle at the midpoint of a side, from those at its ends, the lower end's first
 abbrev pub midAngleOn : List Float → Side → Float

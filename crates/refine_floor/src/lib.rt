@@ -8,7 +8,7 @@ ghost use Prim.Native.Nat.{_+_, _*_, _<_, _≤_, _^_};
 ghost use lib.ListN.{length};
 ghost use lib.Seq.{sets};
 ghost use Rattle.mesh.specs.Mesh.{side, mid, pieces, refined};
-ghost use Rattle.areas.specs.Points.{xOf, yOf, midpoint, midpoints, midSize, midSizes, morePoints, moreSizes};
+ghost use Rattle.mesh.specs.Points.{xOf, yOf, midpoint, midpoints, midSize, midSizes, morePoints, moreSizes};
 ghost use Rattle.edges.specs.Table.{endOf, cutsIn};
 ghost use Rattle.edges.specs.TwoSlices.{loAt, hiAt, sidesAt};
 ghost use Rattle.refinement.specs.Floor.{tris, triAt};
@@ -91,8 +91,8 @@ fn put_midpoint(points: &[f64], ends: &[u32], k: usize, out: &mut [f64], at: usi
 {
     let u = ends[2 * k];
     let v = ends[2 * k + 1];
-    let x = areas::half_sum(x_of(points, u), x_of(points, v));
-    let y = areas::half_sum(y_of(points, u), y_of(points, v));
+    let x = mesh::half_sum(x_of(points, u), x_of(points, v));
+    let y = mesh::half_sum(y_of(points, u), y_of(points, v));
     out[at] = x;
     out[at + 1] = y;
     out[at + 2] = 0.0;
@@ -126,7 +126,7 @@ fn mid_size(sizes: &[f64], ends: &[u32], k: usize) -> f64
 {
     let u = floor::read(sizes, mesh::index(ends[2 * k]));
     let v = floor::read(sizes, mesh::index(ends[2 * k + 1]));
-    areas::half_sum(u, v)
+    mesh::half_sum(u, v)
 }
 
 // The sizes at the midpoints of the first `count` sides, from `at` on.

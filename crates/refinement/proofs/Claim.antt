@@ -9,7 +9,7 @@ use Rattle.float.specs.Double.{lit}
 use Rattle.mesh.specs.Mesh.{Tri, All, Good, cuts, marked}
 use Rattle.mesh.proofs.Theorem.{refines}
 use Rattle.mesh.proofs.Good.{refined-good}
-use Rattle.areas.proofs.Points.{placed, floor-keeps-area, points-length, sizes-length}
+use Rattle.mesh.proofs.Points.{placed, floor-keeps-area, points-length, sizes-length}
 use Rattle.refinement.specs.Flag.{flaggedTri}
 use Rattle.refinement.specs.Floor.{refinementOf}
 use Rattle.refinement.specs.Claim.{countOf, Refinement}

@@ -10,7 +10,7 @@ use lib.Ieee.{Float}
 use Rattle.float.specs.Double.{lit, isFinite, remEuclid, minOf, FRAC-PI-2, _⊖_}
 use Rattle.mesh.specs.Mesh.{Tri, mid, marked, All, Good}
 use Rattle.mesh.specs.Claim.{Refines}
-use Rattle.areas.specs.Claim.{Placed, EvenPoints, KeepsArea}
+use Rattle.mesh.specs.AreaClaim.{Placed, EvenPoints, KeepsArea}
 use Rattle.refinement.specs.Flag.{variation, largest, turnsBy, flaggedTri, turnsMore}
 use Rattle.refinement.specs.Floor.{Refined}
 

@@ -5,7 +5,7 @@ use mathlib.Core.List.{List, [], _∷_, _++_}
 use lib.ListN.{length, getD, drop}
 use lib.Ieee.{Float}
 use Rattle.mesh.specs.Mesh.{Tri, tri, Side, side, cuts, marked, refine}
-use Rattle.areas.specs.Points.{morePoints, moreSizes}
+use Rattle.mesh.specs.Points.{morePoints, moreSizes}
 use Rattle.refinement.specs.Flag.{flaggedTri}
 
 abbrev pub triAt : List ℕ → ℕ → Tri

@@ -20,7 +20,10 @@ fn width(list: u64) -> usize
 fn guidance_row(row: &[u8]) -> bool {
     let low = rows::double(row, 0);
     let high = rows::double(row, 1);
-    rows::same(guidance::mid_angle(low, high), rows::double(row, 2))
+    rows::same(
+        complex::guidance::mid_angle(low, high),
+        rows::double(row, 2),
+    )
 }
 
 // Whether a row holds for the program too.

@@ -5,7 +5,7 @@ use mathlib.Core.List.{List, [], _∷_}
 use lib.Ieee.{add, sub, mul, div, rem, neg, eq, lt, le, ne, ofBits, ofInt}
 use Rattle.float.specs.Double.{mag, notPositive}
 use Rattle.mesh.specs.Mesh.{key, indexIn, met, metAll, sidesAfter, marked, cuts, mid, refine}
-use Rattle.areas.specs.Points.{morePoints, moreSizes, midpoints, midSizes}
+use Rattle.mesh.specs.Points.{morePoints, moreSizes, midpoints, midSizes}
 use Rattle.floor.specs.Checks.{lowest, badPoint, badSize, badCorner, notFiniteOrBelowZero, checkFloor}
 use Rattle.refinement.specs.Flag.{turnAlong, variation, flagged, flaggedTri}
 use Rattle.refinement.specs.Floor.{tris, refinementOf}

@@ -7,7 +7,7 @@ use Rattle.edges.proofs.walk.Statement.{statement}
 use Rattle.edges.proofs.walk.Tie as tie
 
 abbrev Inv-loop : tie.InvT-loop
-Inv-loop w t a b position₀ rest₀ at₀ position rest at = 
+Inv-loop w t a b position₀ rest₀ at₀ position rest at =
     Held (t .base) (t .buckets) w (t .sides)
     × Going (t .base) (t .buckets) (loOf (t .base) (t .buckets) w) (hiOf (t .base) (t .buckets) w) (holdOf w) (underOf (t .base) (t .buckets)) (t .sides) a b position rest at
 

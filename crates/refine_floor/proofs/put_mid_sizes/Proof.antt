@@ -4,7 +4,7 @@ use native.Mathlib.Omega.{arith}
 use mathlib.Core.Path.{_≡_, refl}
 use lib.ListN.{length, length-set}
 use lib.Seq.{sets}
-use Rattle.areas.specs.Points.{midSizes}
+use Rattle.mesh.specs.Points.{midSizes}
 use Rattle.edges.specs.TwoSlices.{sidesAt}
 use Rattle.refine_floor.proofs.Parts.{sizes-none, sizes-again}
 use borrow.Author.Needs.{needs}

@@ -4,7 +4,7 @@ use native.Mathlib.Omega.{arith}
 use mathlib.Core.Path.{_≡_, refl, ap, _∙_}
 use lib.ListN.{length, length-set}
 use lib.Seq.{sets}
-use Rattle.areas.specs.Points.{midpoints}
+use Rattle.mesh.specs.Points.{midpoints}
 use Rattle.edges.specs.TwoSlices.{sidesAt}
 use Rattle.refine_floor.proofs.Parts.{mids-none, mids-again}
 use borrow.Author.Needs.{needs}

@@ -8,7 +8,7 @@ use Rattle.edges.proofs.two_slices.walk.Statement.{statement}
 use Rattle.edges.proofs.two_slices.walk.Tie as tie
 
 abbrev Inv-loop : tie.InvT-loop
-Inv-loop ends links t a b position₀ rest₀ at₀ position rest at = 
+Inv-loop ends links t a b position₀ rest₀ at₀ position rest at =
     HeldInTwo (t .base) (t .buckets) ends links (t .sides)
     × Going (t .base) (t .buckets) (loAt ends) (hiAt ends) (holdOf links) (underAt (t .base) (t .buckets)) (t .sides) a b position rest at
 

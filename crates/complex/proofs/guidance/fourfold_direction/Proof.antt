@@ -1,0 +1,17 @@
+-- `complex::guidance::fourfold_direction` meets its contract: each return opens the definition and rewrites it by the tests and the calls on its way.
+use borrow.Author.Needs.{needs}
+use mathlib.Core.Path.{_≡_, refl, sym, ap, _∙_}
+use lib.Ieee.{mul}
+use Rattle.complex.specs.Guidance.{fourfold, normOf, meanOr, midAngle}
+use Rattle.complex.proofs.guidance.fourfold_direction.Statement.{statement}
+use Rattle.complex.proofs.guidance.fourfold_direction.Tie as tie
+
+from-angle-requires : tie.Need-from-angle-requires
+from-angle-requires c κs = search needs
+
+returns : tie.Need-returns
+unfolding fourfold
+returns c = c .from-angle .ensures
+
+pub fourfold-direction-spec : {M : Type 1} → statement M
+fourfold-direction-spec = tie.close (tie.spec from-angle-requires returns)

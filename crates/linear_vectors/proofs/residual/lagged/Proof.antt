@@ -1,0 +1,51 @@
+-- `linear_vectors::residual::lagged` meets its contract: the loop keeps what `Inv-loop` says, and what is left to do falls at each iteration; the laws are in proofs/Sweeps.
+use Rattle.linear_vectors.proofs.Sweeps.{lagTo, lag-none, lag-again, lag-done}
+use mathlib.Core.Path.{_≡_}
+use Prim.Native.Nat.{_≤_, _-_}
+use lib.ListN.{length}
+use native.Mathlib.Omega.{arith}
+use Rattle.linear_vectors.specs.ResidualWork.{lag}
+use borrow.Author.Needs.{needs}
+use Rattle.linear_vectors.proofs.residual.lagged.Statement.{statement}
+use Rattle.linear_vectors.proofs.residual.lagged.Tie as tie
+
+abbrev Inv-loop : tie.InvT-loop
+Inv-loop work₀ r q inverse n alpha count s₀ k₀ work s k = (k ≤ count) × (length work ≡ length work₀) × (lag work s ≡ lagTo work₀ r q inverse n alpha k)
+
+abbrev μ-loop : tie.MeasureT-loop
+μ-loop work₀ r q inverse n alpha count s₀ k₀ work s k = count - k
+
+loop-holds : tie.Need-loop-holds Inv-loop μ-loop
+loop-holds c = search (lag-none, needs)
+
+lag-at-requires : tie.Need-lag-at-requires Inv-loop μ-loop
+lag-at-requires c κs = omega arith
+
+add-k : tie.Need-add-k Inv-loop μ-loop
+add-k c = search needs
+
+loop-less : tie.Need-loop-less Inv-loop μ-loop
+loop-less c = search needs
+
+loop-again : tie.Need-loop-again Inv-loop μ-loop
+loop-again c = search (lag-again, needs)
+
+same-length : tie.Need-same-length Inv-loop μ-loop
+same-length c = search needs
+
+returns : tie.Need-returns Inv-loop μ-loop
+returns c = search lag-done
+
+pub lagged-spec : {M : Type 1} → statement M
+lagged-spec =
+    tie.close
+    (tie.spec
+    Inv-loop
+    μ-loop
+    loop-holds
+    lag-at-requires
+    add-k
+    loop-less
+    loop-again
+    same-length
+    returns)

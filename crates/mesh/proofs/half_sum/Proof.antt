@@ -1,0 +1,13 @@
+-- `mesh::half_sum` is safe: what it calls asks holds where it is called.
+use borrow.Author.Needs.{needs}
+use lib.Ieee.{mul}
+use Rattle.mesh.specs.Area.{halfway}
+use Rattle.mesh.proofs.half_sum.Statement.{statement}
+use Rattle.mesh.proofs.half_sum.Tie as tie
+
+returns : tie.Need-returns
+unfolding mul halfway
+returns c = search needs
+
+pub half-sum-spec : {M : Type 1} → statement M
+half-sum-spec = tie.close (tie.spec returns)
