@@ -1,11 +1,11 @@
 -- Where the code is shorter than fdlibm: k = (iy - ix) >> 20 against 60 and -60, by a sum on one side. Assumes nothing.
-use mathlib.Core.Path.{_≡_, refl, sym}
+use mathlib.Core.Path.{_≡_, refl}
 use mathlib.Core.Bool.{Bool, true, false, cond, _&&_}
 use Prim.Native.Nat.{ℕ, suc, _+_, _-_, _/_, _≤_, _<_}
 use native.Mathlib.Omega.{arith}
-use borrow.Author.Tests.{leb-true, leb-false, le-leb, lt-leb, lt-ltb, le-ltb}
-use lib.Dec.{leb, ltb}
-use lib.IntN.{ℤ, pos, negsuc}
+use borrow.Author.Tests.{leb-false, le-leb, lt-leb, lt-ltb, le-ltb}
+use lib.Dec.{leb}
+use lib.IntN.{pos, negsuc}
 use lib.Ieee.{minus}
 use Rattle.arctangent.specs.Arc.{shifted, above60, below60}
 

@@ -1,22 +1,22 @@
 -- A table of sides in one slice: what the stores of a new side do to it, and what a side that is met, or three, comes to. Assumes nothing.
-use Prim.Native.Nat.{ℕ, zero, suc, _+_, _-_, _*_, _/_, _%_, _^_, _≤_, _<_}
+use Prim.Native.Nat.{ℕ, zero, suc, _+_, _-_, _*_, _%_, _^_, _≤_, _<_}
 use native.Mathlib.Omega.{arith}
 use native.Mathlib.Decide.{ℕ-discrete}
 use native.Mathlib.Numerals.{add-one}
 use native.Mathlib.Nat.{mod-lt}
 use mathlib.Core.Path.{_≡_, refl, sym, ap, _∙_, subst}
-use mathlib.Core.Logic.{_≢_, _⊎_, inl, inr, ⊎-elim}
-use mathlib.Core.Bool.{true, false, cond, _&&_}
+use mathlib.Core.Logic.{_≢_, _⊎_, inl, inr}
+use mathlib.Core.Bool.{cond}
 use mathlib.Core.List.{List, [], _∷_, _++_}
-use mathlib.Core.Option.{Option, none, some}
-use lib.Dec.{eqb, ltb}
-use lib.ListN.{length, getD, set, length-set, length-append, replicate}
+use mathlib.Core.Option.{some}
+use lib.Dec.{ltb}
+use lib.ListN.{length, getD, set, length-set, replicate}
 use lib.Seq.{getD-set-same, getD-set-other, sets, length-sets}
 use borrow.Author.Tests.{lt-ltb, le-ltb}
-use Rattle.mesh.specs.Mesh.{Side, side, key, tri, indexIn, met, metAll}
+use Rattle.mesh.specs.Mesh.{Side, side, key, tri, indexIn, met}
 use Rattle.runs.proofs.Runs.{sets-before}
 use Rattle.mesh.proofs.Cuts.{index-end, met-old, met-new, met-numbered}
-use Rattle.edges.specs.Table.{slotOf, pathOf, pairs, Spot, bucket, link, Trees, Free, holdOf, loOf, hiOf, underOf, sidesIn, Held, WalkedIn, Outside, Met, MetTri, oneMore}
+use Rattle.edges.specs.Table.{slotOf, pairs, Spot, bucket, link, Trees, holdOf, loOf, hiOf, underOf, sidesIn, Held, WalkedIn, Outside, Met, MetTri}
 use Rattle.edges.proofs.Tree.{Put, trees-more, no-trees, new-pairs, length-pairs, some-of, none-of, pairs-most, three-met}
 
 -- the bucket of a side is one of the N

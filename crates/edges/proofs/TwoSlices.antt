@@ -1,19 +1,17 @@
 -- A table of sides in two slices: what the stores of a new side do to it, what a side that is met, or three, comes to, and where a table stays. The laws on
 -- trees are those of proofs/Tree. Assumes nothing.
-use Prim.Native.Nat.{ℕ, zero, suc, _+_, _-_, _*_, _/_, _%_, _≤_, _<_}
+use Prim.Native.Nat.{ℕ, zero, suc, _+_, _-_, _*_, _≤_, _<_}
 use native.Mathlib.Omega.{arith}
 use native.Mathlib.Numerals.{add-one}
 use mathlib.Core.Path.{_≡_, refl, sym, ap, _∙_, subst}
-use mathlib.Core.Logic.{_≢_, ⊎-elim}
-use mathlib.Core.Bool.{true, false, _&&_}
+use mathlib.Core.Logic.{_≢_}
 use mathlib.Core.List.{List, [], _∷_, _++_}
 use mathlib.Core.Option.{some}
-use lib.Dec.{eqb}
-use lib.ListN.{length, getD, set, length-set, length-append, replicate}
+use lib.ListN.{length, getD, set, length-set, replicate}
 use lib.Seq.{getD-set-same, getD-set-other, sets, length-sets}
-use Rattle.mesh.specs.Mesh.{Side, side, key, tri, indexIn, met, metAll}
+use Rattle.mesh.specs.Mesh.{Side, side, key, tri, indexIn, met}
 use Rattle.mesh.proofs.Cuts.{index-end, met-old, met-new, met-numbered}
-use Rattle.edges.specs.Table.{slotOf, pathOf, pairs, Spot, bucket, link, Trees, holdOf, oneMore}
+use Rattle.edges.specs.Table.{pairs, Spot, bucket, link, Trees, holdOf}
 use Rattle.edges.specs.TwoSlices.{loAt, hiAt, underAt, sidesAt, HeldInTwo, WalkedInTwo, OutsideInTwo, MetInTwo, MetTriInTwo}
 use Rattle.edges.proofs.Tree.{Put, trees-more, trees-same, no-trees, new-pairs, length-pairs, some-of, none-of, pairs-most, three-met}
 use Rattle.edges.proofs.Stored.{slot-below, zeros-at}

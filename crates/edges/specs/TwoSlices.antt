@@ -5,7 +5,7 @@ use mathlib.Core.Path.{_≡_}
 use mathlib.Core.List.{List}
 use mathlib.Core.Option.{some}
 use lib.ListN.{length, getD}
-use Rattle.mesh.specs.Mesh.{Side, side, Tri, sides, met, metAll, indexIn, Numbered}
+use Rattle.mesh.specs.Mesh.{Side, Tri, sides, met, metAll, indexIn, Numbered}
 use Rattle.edges.specs.Table.{pairs, Trees, Walked, holdOf, NumbersOf}
 
 abbrev pub loAt : List ℕ → ℕ → ℕ

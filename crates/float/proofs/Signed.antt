@@ -1,13 +1,13 @@
 -- Rust's `x as i64` beyond the range of an i64: the largest from 2 ^ 63 up, the smallest below -2 ^ 63, and 0 for a NaN.
 use mathlib.Core.Path.{_≡_, refl, sym, ap, subst}
-use Prim.Native.Nat.{ℕ, _+_, _-_, _*_, _/_, _^_, _≤_, _<_, min}
+use Prim.Native.Nat.{ℕ, _+_, _*_, _^_, _≤_}
 use native.Mathlib.Nat.{le-div-iff-mul-le, min-eq-right}
 use native.Mathlib.Omega.{arith}
-use mathlib.Core.Bool.{Bool, true, false, cond, _&&_, _||_}
-use borrow.Author.Tests.{ltb-true, ltb-false, lt-ltb, eqb-false}
-use lib.Dec.{T, ltb, eqb}
-use lib.IntN.{ℤ, pos, negsuc, negℤ}
-use lib.Ieee.{Float, nan, inf, fin, binary64, up, down, neg, lt, le, ne, eq, ofBits, toSigned}
+use mathlib.Core.Bool.{Bool, true, false, _||_}
+use borrow.Author.Tests.{ltb-false}
+use lib.Dec.{T}
+use lib.IntN.{pos, negsuc, negℤ}
+use lib.Ieee.{Float, nan, inf, fin, up, down, neg, lt, le, ne, eq, ofBits, toSigned}
 use lib.Ieee.Fits.{down-pos}
 use lib.Ieee.Compare.{differs-from-itself}
 use Rattle.float.specs.Double.{lit}

@@ -1,6 +1,6 @@
 -- transport_coefficient and anisotropy_alignment_weight of the Rust, step by step; and row 22 of the refusals. Definitions only.
 use Prim.Native.Nat.{ℕ}
-use mathlib.Core.Bool.{Bool, not, cond, _||_}
+use mathlib.Core.Bool.{not, cond, _||_}
 use mathlib.Core.List.{List, [], _∷_}
 use lib.Ieee.{Float, neg, le, eq}
 use Rattle.float.specs.Double.{lit, isFinite, recipOf, _⊕_, _⊖_, _⊗_, _⊘_}

@@ -7,7 +7,6 @@ use lib.Ieee.{Float, nan, lt, le}
 use Rattle.float.specs.Double.{lit, mag, isFinite, maxOf, recipOf, _⊕_, _⊗_}
 use Rattle.plane.specs.declared.Pair.{Pair}
 use Rattle.plane.specs.Pair.{sub2, dot2, cross2, rotate90, scale2, no-pair}
-use Rattle.geometry.specs.declared.TriangleGeometry.{TriangleGeometry}
 use Rattle.geometry.specs.declared.Geometry.{Geometry}
 use Rattle.geometry.specs.declared.Geometry.the-variants.{Triangle, Degenerate}
 

@@ -1,6 +1,5 @@
 -- Laws of complex vectors: `getC`, `setC`, `flat`, `regionC` and `putC`. Assumes nothing.
 use mathlib.Core.Path.{_≡_, refl, sym, ap, _∙_}
-use mathlib.Core.Logic.{_⊎_, ⊎-elim}
 use mathlib.Core.List.{List, [], _∷_, _++_, map}
 use Prim.Native.Nat.{ℕ, zero, suc, _+_, _-_, _*_, _≤_, _<_}
 use native.Mathlib.Decide.{decLe}
@@ -11,10 +10,10 @@ use lib.ListN.{length, getD, set, length-set, length-append, length-map, List·g
 use lib.Seq.{ext-getD, getD-append-add, set-append-left}
 use Rattle.complex.specs.declared.Complex.{Complex}
 use Rattle.complex.specs.Complex.{cnan}
-use Rattle.linear_cells.specs.Region.{tab, region, put, Apart}
+use Rattle.linear_cells.specs.Region.{region, put, Apart}
 use Rattle.linear_cells.specs.Cell.{getC, setC, reOf, imOf, flat, regionC, putC}
-use Rattle.linear_cells.proofs.Loops.{apart, apart-cases, length-tab, getD-tab, tab-ext}
-use Rattle.linear_cells.proofs.Regions.{length-region, getD-region, length-put, put-within, set-put, put-else, region-else, region-put, put-put, put-apart, put-region}
+use Rattle.linear_cells.proofs.Loops.{length-tab, getD-tab, tab-ext}
+use Rattle.linear_cells.proofs.Regions.{length-region, getD-region, length-put, put-within, set-put, put-else, region-else, put-put, put-apart, put-region}
 
 -- ---- flat
 

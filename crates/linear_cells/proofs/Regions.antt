@@ -7,8 +7,8 @@ use native.Mathlib.Nat.{le-of-suc-le-suc, not-suc-le-zero, zero-add, add-zero, a
 use native.Mathlib.Omega.{arith}
 use lib.ListN.{length, getD, set, length-set}
 use lib.Seq.{getD-set-same, getD-set-other, set-comm, set-set, set-getD, ext-getD}
-use Rattle.linear_cells.specs.Region.{tab, region, put, Apart}
-use Rattle.linear_cells.proofs.Loops.{apart, apart-cases, length-tab, getD-tab, tab-ext}
+use Rattle.linear_cells.specs.Region.{region, put, Apart}
+use Rattle.linear_cells.proofs.Loops.{apart-cases, length-tab, getD-tab, tab-ext}
 
 module _ {ℓ} {A : Type ℓ} where
   pub length-region : (d : A) (xs : List A) (at n : ℕ) → length (region d xs at n) ≡ n

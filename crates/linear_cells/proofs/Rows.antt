@@ -1,11 +1,11 @@
 -- Laws of a layout, `rows` and `laid`: one region read, one written, regions laid over regions. Assumes nothing.
-use mathlib.Core.Path.{_≡_, refl, sym, ap, _∙_}
+use mathlib.Core.Path.{_≡_, refl, ap, _∙_}
 use mathlib.Core.List.{List, [], _∷_}
 use Prim.Native.Nat.{ℕ, zero, suc, _+_, _≤_, _<_}
 use native.Mathlib.Nat.{not-suc-le-zero, le-of-suc-le-suc}
 use native.Mathlib.Omega.{arith}
 use lib.ListN.{length, getD, set}
-use Rattle.linear_cells.specs.Region.{region, put, Apart}
+use Rattle.linear_cells.specs.Region.{region, put}
 use Rattle.linear_cells.specs.Rows.{Row, row, rows, laid, Ranged, Rowed}
 use Rattle.linear_cells.proofs.Loops.{apart}
 use Rattle.linear_cells.proofs.Regions.{length-put, length-region, put-region, put-put, put-apart, region-put, region-else}

@@ -1,7 +1,7 @@
 -- Complex vectors in a flat list of doubles. A vector of n cells at `base` is split: its n real parts, and then its n imaginary parts.
 -- `getC`, `setC`, `regionC` and `putC` hide this from every other definition.
-use Prim.Native.Nat.{ℕ, _+_, _*_}
-use mathlib.Core.List.{List, [], _∷_, _++_, map}
+use Prim.Native.Nat.{ℕ, _+_}
+use mathlib.Core.List.{List, _++_, map}
 use lib.ListN.{getD, set}
 use lib.Ieee.{Float, nan}
 use Rattle.complex.specs.declared.Complex.{Complex}

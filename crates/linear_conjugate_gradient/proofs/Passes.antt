@@ -7,7 +7,6 @@ use lib.ListN.{length}
 use Rattle.complex.specs.declared.Complex.{Complex}
 use Rattle.linear_cells.specs.Region.{region}
 use Rattle.linear_cells.specs.Cell.{regionC, putC}
-use Rattle.linear_cells.proofs.Loops.{length-tab}
 use Rattle.linear_hermitian.specs.Hermitian.{scaled}
 use Rattle.linear_hermitian.proofs.Product.{length-scaled}
 use Rattle.linear_vectors.specs.declared.residual.Sums.{Sums}

@@ -1,9 +1,9 @@
 -- The real part of conj u * v with one sign less: a * b - (-c) * d is a * b + c * d, for every a, b, c and d. Assumes nothing.
 use mathlib.Core.Path.{_≡_, refl, sym, ap, _∙_}
 use mathlib.Core.Bool.{Bool, true, false, not, cond}
-use Prim.Native.Nat.{ℕ, _*_}
+use Prim.Native.Nat.{_*_}
 use lib.Dec.{eqb}
-use lib.Ieee.{Float, nan, inf, fin, Format, binary64, up, down, neg, add, sub, mul, round, unlike}
+use lib.Ieee.{Float, nan, inf, fin, Format, binary64, up, down, neg, add, sub, mul, unlike}
 use Rattle.float.specs.Double.{_⊕_, _⊖_, _⊗_}
 use Rattle.float.proofs.Sign.{round-neg}
 use Rattle.complex.specs.declared.Complex.{Complex}

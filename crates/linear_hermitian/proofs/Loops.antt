@@ -1,7 +1,7 @@
 -- The iterations of the loops that sum and that scale, over lists. Assumes nothing.
-use mathlib.Core.Path.{_≡_, refl, sym, ap, _∙_}
+use mathlib.Core.Path.{_≡_, sym, ap, _∙_}
 use mathlib.Core.List.{List}
-use Prim.Native.Nat.{ℕ, _+_, _*_, _≤_, _<_}
+use Prim.Native.Nat.{ℕ, _+_, _≤_, _<_}
 use native.Mathlib.Omega.{arith}
 use lib.Ieee.{Float, nan}
 use lib.ListN.{length, getD}
@@ -10,7 +10,7 @@ use Rattle.root.specs.Root.{rootOf}
 use Rattle.complex.specs.declared.Complex.{Complex}
 use Rattle.complex.specs.Complex.{cnew, czero, cnan, cadd, cmul, cconj, cscale}
 use Rattle.linear_cells.specs.Iter.{iter}
-use Rattle.linear_cells.specs.Region.{tab, region, Apart}
+use Rattle.linear_cells.specs.Region.{region}
 use Rattle.linear_cells.specs.Cell.{getC, setC, regionC, putC, reOf}
 use Rattle.linear_cells.proofs.Loops.{iter-none, iter-more}
 use Rattle.linear_cells.proofs.Regions.{getD-region}

@@ -1,5 +1,5 @@
 -- The iterations of the loops of `shifted` and `trace`, and what they make of a matrix. Assumes nothing.
-use mathlib.Core.Path.{_≡_, refl, sym, ap, _∙_}
+use mathlib.Core.Path.{_≡_, sym, ap, _∙_}
 use mathlib.Core.List.{List}
 use Prim.Native.Nat.{ℕ, _+_, _*_, _≤_, _<_}
 use native.Mathlib.Omega.{arith}
@@ -9,14 +9,14 @@ use Rattle.float.specs.Double.{lit, _⊕_, _⊗_}
 use Rattle.complex.specs.declared.Complex.{Complex}
 use Rattle.complex.specs.Complex.{cnan, cadd, cscale}
 use Rattle.linear_cells.specs.Iter.{iter}
-use Rattle.linear_cells.specs.Region.{tab, region, put, Apart}
+use Rattle.linear_cells.specs.Region.{region, put}
 use Rattle.linear_cells.specs.Cell.{getC, setC, regionC, putC}
 use Rattle.linear_cells.proofs.Loops.{apart-other, iter-none, iter-more, length-tab}
 use Rattle.linear_cells.proofs.Regions.{length-region, getD-region, put-region, put-else, region-put, length-put}
 use Rattle.linear_cells.proofs.Cells.{putC-regionC, getD-regionC, length-regionC, putC-else, regionC-putC, regionR-else, regionC-put-else}
-use Rattle.linear_cells.proofs.Over.{over, over-none, over-todo, length-over, over-all, over-region, over-read, over-cell}
+use Rattle.linear_cells.proofs.Over.{over, over-none, length-over, over-all, over-region, over-read, over-cell}
 use Rattle.linear_hermitian.specs.declared.Hermitian.{Hermitian}
-use Rattle.linear_hermitian.specs.Hermitian.{Matrix, shiftedDiagonal, shiftedOff, shiftedBy, traceStep, traceOf}
+use Rattle.linear_hermitian.specs.Hermitian.{shiftedDiagonal, shiftedOff, shiftedBy, traceStep, traceOf}
 use Rattle.linear_hermitian.specs.Work.{matrix, shiftMatrix, PairRoom, ShiftRoom}
 
 -- ---- trace

@@ -17,9 +17,8 @@ use Rattle.linear_hermitian.specs.Work.{matrix, Graph, ApplyRoom}
 use Rattle.linear_conjugate_gradient.specs.declared.Vectors.{Vectors}
 use Rattle.linear_conjugate_gradient.specs.declared.Answer.{Answer}
 use Rattle.linear_conjugate_gradient.specs.declared.Normalized.{Normalized}
-use Rattle.linear_conjugate_gradient.specs.Solve.{Outcome, solved}
-use Rattle.linear_conjugate_gradient.specs.Work.{read, lay, SolverRoom, Solved, InMass}
-use Rattle.linear_layers.specs.declared.Checked.{Checked}
+use Rattle.linear_conjugate_gradient.specs.Solve.{solved}
+use Rattle.linear_conjugate_gradient.specs.Work.{read, SolverRoom, Solved, InMass}
 use Rattle.linear_layers.specs.declared.Checked.the-variants as checked
 use Rattle.linear_layers.specs.Checked.{allTo, edgeGood, edgeAt, good, matrixFor, vectorsFor, outcome, solvedWork, solvedAnswer, SolveChecked, SolveTold, normalWork, normalAnswer, NormalChecked}
 

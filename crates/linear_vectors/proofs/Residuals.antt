@@ -8,21 +8,18 @@ use native.Mathlib.Omega.{arith}
 use lib.Ieee.{Float, nan}
 use lib.ListN.{length, getD, set}
 use lib.Seq.{set-comm, ext-getD}
-use Rattle.float.specs.Double.{lit, _⊕_}
 use Rattle.complex.specs.declared.Complex.{Complex}
-use Rattle.complex.specs.Complex.{cnan, cscale}
+use Rattle.complex.specs.Complex.{cnan}
 use Rattle.linear_cells.specs.Iter.{iter}
-use Rattle.linear_cells.specs.Region.{tab, region, Apart}
+use Rattle.linear_cells.specs.Region.{region, Apart}
 use Rattle.linear_cells.specs.Cell.{getC, setC, regionC, putC}
 use Rattle.linear_cells.proofs.Loops.{apart-other, length-tab, getD-tab}
 use Rattle.linear_cells.proofs.Regions.{getD-region}
 use Rattle.linear_cells.proofs.Cells.{length-putC, getD-regionC, length-regionC, putC-else, putC-else-real, putC-apart}
-use Rattle.linear_hermitian.specs.Hermitian.{dotOf, scaled}
-use Rattle.linear_hermitian.specs.Work.{reTerm}
+use Rattle.linear_hermitian.specs.Hermitian.{scaled}
 use Rattle.linear_hermitian.proofs.Loops.{reSum, re-sum-none, re-sum-more, re-sum-all}
 use Rattle.linear_hermitian.proofs.Product.{length-scaled}
 use Rattle.linear_vectors.specs.declared.residual.Sums.{Sums}
-use Rattle.linear_vectors.specs.declared.residual.Term.{Term}
 use Rattle.linear_vectors.specs.Vectors.{zipOf, subScaled}
 use Rattle.linear_vectors.specs.Residual.{productsAt, productsOf}
 use Rattle.linear_vectors.specs.ResidualWork.{ReduceRoom, Reduced, termAt, putTerm, termStep, putPair, pairStep, noSums, addC, addStep, Lag, lag, lagStep}

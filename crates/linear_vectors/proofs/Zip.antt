@@ -1,5 +1,5 @@
 -- A loop over two vectors that changes one of them: iteration i sets y i to f (y i) (x i). Assumes nothing.
-use mathlib.Core.Path.{_≡_, refl, sym, ap, _∙_}
+use mathlib.Core.Path.{_≡_, ap, _∙_}
 use mathlib.Core.List.{List}
 use Prim.Native.Nat.{ℕ, _+_, _*_, _≤_, _<_}
 use native.Mathlib.Omega.{arith}
@@ -7,7 +7,6 @@ use lib.Ieee.{Float, nan}
 use lib.ListN.{length, getD}
 use Rattle.complex.specs.declared.Complex.{Complex}
 use Rattle.complex.specs.Complex.{cnan, cscale}
-use Rattle.linear_cells.specs.Region.{tab, Apart}
 use Rattle.linear_cells.specs.Cell.{getC, setC, regionC, putC}
 use Rattle.linear_cells.proofs.Loops.{length-tab, getD-tab}
 use Rattle.linear_cells.proofs.Cells.{putC-regionC, getD-regionC, length-regionC, putC-at}

@@ -1,5 +1,4 @@
 -- The Rust's loops over vectors in `conjugate_gradient` and `normalize_in_mass`, as lists of complex numbers. Definitions only.
-use Prim.Native.Nat.{ℕ}
 use mathlib.Core.List.{List}
 use lib.ListN.{length, getD}
 use lib.Ieee.{Float, nan}

@@ -1,18 +1,18 @@
 -- The inner sides: each lies in two new triangles, if no two triangles have the same three corners. An inner side joins the midpoint of a side to
 -- the corner opposite, or the midpoints of two sides; either way the corners below its two ends are the three of its triangle. Assumes nothing.
-use Prim.Native.Nat.{ℕ, zero, suc, _+_, _*_, _≤_, _<_}
+use Prim.Native.Nat.{ℕ, _+_, _*_, _≤_, _<_}
 use native.Mathlib.Omega.{arith}
 use native.Mathlib.Decide.{ℕ-discrete}
-use mathlib.Core.Path.{_≡_, refl, sym, ap, ap₂, _∙_, subst}
+use mathlib.Core.Path.{_≡_, refl, sym, _∙_, subst}
 use mathlib.Core.Logic.{_≢_, _↔_, _⊎_, inl, inr, ⊎-elim}
 use mathlib.Core.Bool.{Bool, true, false, _||_}
-use mathlib.Core.List.{List, [], _∷_, _++_}
+use mathlib.Core.List.{List, [], _∷_}
 use mathlib.Core.Option.{Option, none, some}
 use lib.Dec.{T, eqb, eqb→eq, eqb-refl}
-use Rattle.mesh.specs.Mesh.{Tri, tri, Same, Mids, Good, All, AllDifferent, SameCorners, at, one, isNone, total, places, count, pieces, refined}
+use Rattle.mesh.specs.Mesh.{Tri, tri, Same, Mids, Good, All, AllDifferent, SameCorners, at, total, count, pieces, refined}
 use Rattle.mesh.proofs.Weigh.{F, F-sym, F-zero, F-pair, F-le, or-T, around, parts, inner}
 use Rattle.mesh.proofs.Local.{Distinct, inner-zero, mids-differ, weighed}
-use Rattle.mesh.proofs.Whole.{All-map, All-both, count-around, counted, good-distinct, total-times, total-zero}
+use Rattle.mesh.proofs.Whole.{All-map, count-around, counted, good-distinct, total-times, total-zero}
 
 -- v is a corner
 abbrev Corner : ℕ → ℕ → ℕ → ℕ → Type 0

@@ -1,14 +1,12 @@
 -- One triangle: how often a side of each kind lies in its pieces. Assumes nothing.
-use Prim.Native.Nat.{ℕ, zero, suc, _+_, _*_, _≤_, _<_}
+use Prim.Native.Nat.{ℕ, _+_, _*_, _≤_, _<_}
 use native.Mathlib.Omega.{arith}
 use native.Mathlib.Decide.{ℕ-discrete}
-use mathlib.Core.Path.{_≡_, refl, sym, ap, ap₂, _∙_, subst}
+use mathlib.Core.Path.{_≡_, refl, sym, _∙_}
 use mathlib.Core.Logic.{_≢_, _⊎_, inl, inr, ⊎-elim}
-use mathlib.Core.Bool.{Bool, true, false}
-use mathlib.Core.List.{List, [], _∷_, _++_}
 use mathlib.Core.Option.{Option, none, some}
-use Rattle.mesh.specs.Mesh.{Tri, tri, Same, Mids, Good, All, one, isNone, total, places, split, pieces}
-use Rattle.mesh.proofs.Weigh.{F, F-sym, F-zero, F-one, around, places-around, parts, inner, split-weighs}
+use Rattle.mesh.specs.Mesh.{Tri, tri, Same, Mids, Good, All, one, isNone, total, split, pieces}
+use Rattle.mesh.proofs.Weigh.{F, F-sym, F-zero, F-one, around, parts, inner, split-weighs}
 
 -- the inner sides weigh nothing where each does
 pub inner-zero : (W : ℕ → ℕ → ℕ) (a b c : ℕ) (o₁ o₂ o₃ : Option ℕ)

@@ -1,14 +1,11 @@
 -- What holds of every accepted pass: three different corners in each triangle, as many angles as points, each in [0, FRAC_PI_2). Assumes nothing.
-use Prim.Native.Nat.{ℕ, _<_}
+use Prim.Native.Nat.{ℕ}
 use native.Mathlib.Omega.{arith}
-use mathlib.Core.Path.{_≡_, refl, sym, ap, _∙_}
+use mathlib.Core.Path.{_≡_, refl}
 use mathlib.Core.Bool.{Bool, true, false, cond}
 use mathlib.Core.List.{List, [], _∷_}
-use lib.ListN.{length, getD}
-use lib.Ieee.{Float, nan}
-use Rattle.complex.specs.Angle.{IsCross}
+use lib.Ieee.{Float}
 use Rattle.mesh.specs.Mesh.{Tri, tri, Good, All}
-use Rattle.mesh.specs.Claim.{InRange}
 use Rattle.floor.specs.Floor.{Floor, pointsOf}
 use Rattle.float.specs.Double.{notPositive}
 use Rattle.pass_shift.specs.declared.Traces.{Traces}

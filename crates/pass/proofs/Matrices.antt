@@ -1,6 +1,6 @@
 -- The matrices that stand in the work slices once they are assembled over a floor that is set up are those of the floor's definition, and so are their
 -- traces and the shifted energy. Nothing before the matrices changes. Assumes nothing.
-use Prim.Native.Nat.{ℕ, zero, suc, _+_, _*_, _≤_, _<_}
+use Prim.Native.Nat.{ℕ, zero, suc, _*_, _≤_, _<_}
 use native.Mathlib.Omega.{arith}
 use mathlib.Core.Path.{_≡_, refl, sym, ap, _∙_, subst}
 use mathlib.Core.List.{List}
@@ -9,7 +9,7 @@ use lib.Ieee.{Float, nan}
 use Rattle.linear_cells.specs.Region.{region}
 use Rattle.linear_cells.proofs.Loops.{apart}
 use Rattle.linear_cells.proofs.Regions.{length-region}
-use Rattle.edges.specs.Numbering.{triFrom, trisFrom}
+use Rattle.edges.specs.Numbering.{trisFrom}
 use Rattle.floor.specs.Floor.{Floor, pointsOf, trianglesOf}
 use Rattle.linear_hermitian.specs.Hermitian.{Matrix}
 use Rattle.linear_hermitian.specs.Work.{matrix, shiftMatrix, ShiftRoom}
@@ -30,7 +30,6 @@ use Rattle.pass_layout.specs.Matrices.{massAt, energyAt}
 use Rattle.pass_layout.specs.Work.{floorIn, fromIn, toIn}
 use Rattle.pass_setup.specs.Setup.{woundOf, areasOf, edgesOf, lowersOf, uppersOf, transportsOf}
 use Rattle.pass_setup.specs.Work.{Stands}
-use Rattle.pass_branches.specs.Branches.{Built}
 use Rattle.pass_branches.specs.Work.{builtIn}
 use Rattle.pass.specs.Pass.{modeOf, assembledFloor, massOf, energyOf, tracesIn, builtOf}
 use Rattle.pass.specs.Work.{planAt}

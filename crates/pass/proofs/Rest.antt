@@ -1,5 +1,5 @@
 -- The rest of a pass, once its floor is set up: it refuses by the traces, or finds what the branch finds over the floor's own matrices. Assumes nothing.
-use Prim.Native.Nat.{ℕ, _≤_, _<_}
+use Prim.Native.Nat.{ℕ, _<_}
 use native.Mathlib.Omega.{arith}
 use mathlib.Core.Path.{_≡_, refl, sym, ap, _∙_, subst}
 use mathlib.Core.Logic.{_⊎_, inl, inr}
@@ -18,8 +18,7 @@ use Rattle.pass_refusal.specs.Refusal.{gaveUp}
 use Rattle.pass_shift.specs.declared.Traces.{Traces}
 use Rattle.pass_shift.specs.Shift.{shiftOf, tracesStage}
 use Rattle.pass_options.specs.declared.Options.{Options}
-use Rattle.pass_options.specs.Options.{guidanceOf}
-use Rattle.pass_options.specs.Pass.{Passed, field, faulty, stageOf}
+use Rattle.pass_options.specs.Pass.{Passed, faulty, stageOf}
 use Rattle.pass_layout.specs.declared.Layout.{Layout}
 use Rattle.pass_layout.specs.Layout.{Ordered}
 use Rattle.pass_layout.specs.Matrices.{massAt, energyAt}
@@ -27,7 +26,7 @@ use Rattle.pass_layout.specs.Work.{floorIn, guidanceIn}
 use Rattle.pass_layout.proofs.Regions.{floor-stays}
 use Rattle.pass_setup.specs.Work.{Stands}
 use Rattle.pass_branches.specs.declared.Search.{Search}
-use Rattle.pass_branches.specs.Branches.{Built, branchOf}
+use Rattle.pass_branches.specs.Branches.{branchOf}
 use Rattle.pass_branches.specs.Work.{builtIn, soughtIn, Finds}
 use Rattle.pass.specs.declared.Asked.{Asked}
 use Rattle.pass.specs.Pass.{modeOf, tracesIn, builtOf, afterTraces, fieldOver}

@@ -1,9 +1,9 @@
 -- A whole pass, from its two parts: set-up refuses, or the rest goes on from the floor that it leaves as it was. Assumes nothing.
-use Prim.Native.Nat.{ℕ, _*_, _≤_, _<_}
+use Prim.Native.Nat.{ℕ, _*_}
 use native.Mathlib.Omega.{arith}
-use mathlib.Core.Path.{_≡_, refl, sym, ap, _∙_, subst}
+use mathlib.Core.Path.{_≡_, sym, ap, _∙_, subst}
 use mathlib.Core.List.{List}
-use lib.ListN.{length, getD}
+use lib.ListN.{length}
 use lib.Ieee.{Float, nan}
 use Rattle.floor.specs.Floor.{Floor}
 use Rattle.pass_refusal.specs.declared.Fault.{Fault}

@@ -2,7 +2,6 @@
 -- no pass depends on one. Definitions only.
 use Prim.Native.Nat.{ℕ}
 use mathlib.Core.Bool.{cond}
-use lib.Ieee.{Float}
 use Rattle.floor.specs.Floor.{Floor, pointsOf, trianglesOf}
 use Rattle.linear_hermitian.specs.Hermitian.{Matrix}
 use Rattle.pass_terms.specs.declared.Mode.{Mode}

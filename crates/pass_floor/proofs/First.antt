@@ -1,24 +1,21 @@
 -- The pass over a floor as given: its triangles stand where they were laid, and a floor without cut sides is the floor as given. Assumes nothing.
-use Prim.Native.Nat.{ℕ, zero, suc, _+_, _*_, _/_, _≤_, _<_}
+use Prim.Native.Nat.{ℕ, _+_, _*_, _/_, _<_}
 use native.Mathlib.Omega.{arith}
-use mathlib.Core.Path.{_≡_, refl, sym, ap, _∙_, subst}
-use mathlib.Core.List.{List, [], _++_, append-nil}
+use mathlib.Core.Path.{_≡_, refl, ap, _∙_, subst}
+use mathlib.Core.List.{List, [], append-nil}
 use lib.ListN.{length, getD}
-use lib.Ieee.{Float, nan}
+use lib.Ieee.{Float}
 use Rattle.linear_cells.specs.Region.{put}
 use Rattle.linear_cells.proofs.Regions.{length-put, put-within}
-use Rattle.mesh.specs.Mesh.{Side, Tri}
 use Rattle.mesh.specs.Points.{midpoints, morePoints, midSizes, moreSizes}
 use Rattle.edges.specs.Table.{pairs, cutsIn}
-use Rattle.edges.specs.Numbering.{trisFrom, Below}
+use Rattle.edges.specs.Numbering.{Below}
 use Rattle.refine_floor.specs.Guidance.{midAngles, moreAngles}
-use Rattle.refinement.specs.Floor.{tris, trisOf}
 use Rattle.refinement.proofs.Triangles.{tris-held}
 use Rattle.edges.specs.declared.Table.{Table}
 use Rattle.pass_refusal.specs.declared.Stage.{Stage}
-use Rattle.pass_layout.specs.Layout.{Fits}
 use Rattle.pass_options.specs.declared.Options.{Options}
-use Rattle.pass_options.specs.Pass.{Passed, stageOf, floorOf}
+use Rattle.pass_options.specs.Pass.{stageOf}
 use Rattle.pass.specs.declared.Asked.{Asked}
 use Rattle.pass_floor.specs.Lay.{passOver, passAt, LaidRoom, Made}
 use Rattle.pass_floor.specs.First.{firstBase, firstOver, FirstRoom}

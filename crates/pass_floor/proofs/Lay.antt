@@ -1,26 +1,24 @@
 -- A floor that is laid out stands in the slices as its definition says, and so does its guidance; the pass over it is the pass of the definition. Nothing before
 -- the planes changes. Assumes nothing.
-use Prim.Native.Nat.{ℕ, _+_, _*_, _/_, _≤_, _<_}
+use Prim.Native.Nat.{ℕ, _+_, _*_, _/_, _<_}
 use native.Mathlib.Omega.{arith}
 use mathlib.Core.Path.{_≡_, refl, sym, ap, _∙_, subst}
 use mathlib.Core.Bool.{Bool, true, false, cond}
 use mathlib.Core.List.{List, [], _∷_, _++_, map}
-use lib.ListN.{length, length-append, length-map, getD}
+use lib.ListN.{length, getD}
 use lib.Ieee.{Float, nan}
 use Rattle.linear_cells.specs.Region.{tab, region, put, Apart}
 use Rattle.linear_cells.proofs.Loops.{apart, length-tab, tab-ext}
-use Rattle.linear_cells.proofs.Regions.{length-put, region-put, region-else, put-else}
-use Rattle.mesh.specs.Mesh.{Side, side, Tri}
+use Rattle.linear_cells.proofs.Regions.{length-put, region-put, region-else}
+use Rattle.mesh.specs.Mesh.{Side, side}
 use Rattle.mesh.specs.Points.{xOf, yOf, midSize, midSizes, morePoints, moreSizes}
 use Rattle.mesh.proofs.Points.{points-length}
 use Rattle.edges.specs.Numbering.{trisFrom}
 use Rattle.refine_floor.specs.Guidance.{midAngleOn, midAngles, moreAngles}
 use Rattle.edges.specs.declared.Table.{Table}
-use Rattle.pass_planes.specs.declared.Mean.{Mean}
 use Rattle.pass_planes.specs.declared.Mean.the-variants.{Half, Angle}
 use Rattle.pass_planes.specs.Planes.{coordinateAt, coordinatePlane, meanOf, meanOn, valuePlane}
 use Rattle.pass_planes.proofs.Points.{cuts-length, length-plane}
-use Rattle.floor.specs.Floor.{Floor}
 use Rattle.pass_refusal.specs.declared.Stage.{Stage}
 use Rattle.pass_layout.specs.declared.Base.{Base}
 use Rattle.pass_layout.specs.declared.Layout.{Layout}
@@ -28,13 +26,12 @@ use Rattle.pass_layout.specs.Layout.{layoutOf, Fits, Ordered}
 use Rattle.pass_layout.specs.Work.{floorIn, guidanceIn}
 use Rattle.pass_layout.proofs.Regions.{fits-ordered}
 use Rattle.pass_options.specs.declared.Options.{Options}
-use Rattle.pass_options.specs.Options.{Guidance, guidanceOf}
-use Rattle.pass_options.specs.Pass.{Passed, stageOf, floorOf}
+use Rattle.pass_options.specs.Options.{guidanceOf}
+use Rattle.pass_options.specs.Pass.{stageOf, floorOf}
 use Rattle.pass_branches.specs.Work.{Finds}
 use Rattle.pass.proofs.Below.{below-regions}
 use Rattle.pass.specs.declared.Asked.{Asked}
-use Rattle.pass.specs.Pass.{passOf}
-use Rattle.pass.specs.Work.{guidanceAt, passIn}
+use Rattle.pass.specs.Work.{passIn}
 use Rattle.edges.specs.Table.{cutsIn}
 use Rattle.pass_floor.specs.Lay.{pointsLaid, guidanceLaid, passOver, passAt, LayRoom, GuidanceRoom, LaidRoom, Made}
 

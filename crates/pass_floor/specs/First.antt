@@ -1,9 +1,8 @@
 -- The pass over a floor as given, from the lent slices: where it begins, what it finds, and how much room it takes. Definitions only.
-use Prim.Native.Nat.{ℕ, _+_, _*_, _/_, _^_, _≤_, _<_}
+use Prim.Native.Nat.{ℕ, _*_, _/_, _^_, _≤_, _<_}
 use mathlib.Core.Path.{_≡_}
 use mathlib.Core.Bool.{Bool, true}
 use mathlib.Core.List.{List}
-use lib.ListN.{length}
 use lib.Ieee.{Float}
 use Rattle.refinement.specs.Floor.{trisOf}
 use Rattle.pass_layout.specs.declared.Base.{Base}

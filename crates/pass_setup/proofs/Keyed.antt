@@ -1,7 +1,6 @@
 -- The edges of a list of good triangles: each has the lower end first, and both ends are points. Assumes nothing.
 use Prim.Native.Nat.{ℕ, _<_}
 use native.Mathlib.Omega.{arith}
-use mathlib.Core.Path.{_≡_}
 use mathlib.Core.Logic.{_≢_, ⊎-elim}
 use mathlib.Core.List.{List, [], _∷_}
 use Rattle.mesh.specs.Mesh.{Tri, tri, Side, side, key, met, metAll, sidesAfter, Good, All}

@@ -1,8 +1,8 @@
 -- Recorded answers: a text of words, each 16 lowercase hex digits and one byte that parts it from the next (a blank or a line feed), so that word k starts at byte 17 * k. Definitions only.
 use Prim.Native.Nat.{ℕ, zero, suc, _+_, _-_, _*_, _%_}
-use mathlib.Core.Bool.{Bool, true, false, cond}
+use mathlib.Core.Bool.{Bool, cond}
 use mathlib.Core.List.{List}
-use lib.Dec.{ltb, leb, eqb}
+use lib.Dec.{ltb, eqb}
 use lib.ListN.{getD}
 
 -- the value of a hex digit; any other byte counts as 0

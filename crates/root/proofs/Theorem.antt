@@ -2,8 +2,8 @@
 -- Why: the root is r * 2 ^ k units with 2 ^ 52 ≤ r, and a double is either a multiple of 2 ^ k units or below 2 ^ 52 * 2 ^ k, since it has at most 53 digits. So the nearest other doubles are at least 2 ^ k away,
 -- but below r = 2 ^ 52, where the root is known not to have been rounded up. Assumes nothing.
 use mathlib.Core.Path.{_≡_, refl, sym, ap, _∙_, subst}
-use Prim.Native.Nat.{ℕ, zero, suc, _+_, _-_, _*_, _/_, _%_, _^_, _≤_, _<_}
-use native.Mathlib.Nat.{mul-one, one-mul, zero-mul, mul-assoc, mul-comm, mul-left-comm, add-mul, mul-pos, mul-le-mul, mul-le-mul-right, mul-lt-mul-of-pos-right, lt-of-mul-lt-mul-right, eq-of-mul-eq-mul-right, le-trans, lt-of-lt-of-le, lt-of-le-of-lt, pow-suc}
+use Prim.Native.Nat.{ℕ, zero, suc, _+_, _-_, _*_, _%_, _^_, _≤_, _<_}
+use native.Mathlib.Nat.{mul-one, zero-mul, mul-assoc, mul-left-comm, add-mul, mul-le-mul, mul-le-mul-right, mul-lt-mul-of-pos-right, lt-of-mul-lt-mul-right, eq-of-mul-eq-mul-right, le-trans, lt-of-lt-of-le, lt-of-le-of-lt, pow-suc}
 use native.Mathlib.Omega.{arith}
 use mathlib.Core.Bool.{Bool, true, false, _&&_}
 use lib.Dec.{T, leb, ltb, eqb, leb→le, ltb→lt}
@@ -11,11 +11,9 @@ use lib.Pow.{pow-pos, pow-add, pow-mono, pow-lt}
 use lib.IntN.{ℤ, pos, negsuc}
 use borrow.Author.Tests.{leb-true, leb-false, eqb-true, eqb-false}
 use lib.Ieee.{Float, nan, inf, fin, binary64, up, down, ofBits, fits}
-use lib.Ieee.Exact.{HasValue}
 use Rattle.root.specs.Root.{rootOf}
 use Rattle.root.specs.Nearest.{Double, Nearest}
 use Rattle.root.proofs.Laws.{next-square}
-use Rattle.root.proofs.Value.{Bracket}
 use Rattle.root.proofs.Small.{root-bracket}
 
 -- ---- a double has at most 53 digits

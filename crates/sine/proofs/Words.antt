@@ -7,7 +7,7 @@ use borrow.Author.Tests.{eqb-true, eqb-false}
 use lib.Dec.{T, eqb}
 use lib.ListN.{getD}
 use lib.IntN.{pos}
-use lib.Ieee.{Float, binary64, ofInt, mul, ofBits, toBits}
+use lib.Ieee.{binary64, ofInt, mul, ofBits, toBits}
 use Rattle.float.specs.Double.{high, FRAC-PI-2, _⊗_}
 use Rattle.sine.specs.Sine.{npio2-hw}
 

@@ -1,7 +1,6 @@
 -- `arctangent::atan_tail` meets its contract: the operations are those of `atanTail`. Assumes nothing.
 use mathlib.Core.Path.{refl}
 use Rattle.arctangent.specs.Arc.{atanTail}
-use borrow.Author.Needs.{needs}
 use Rattle.arctangent.proofs.atan_tail.Statement.{statement}
 use Rattle.arctangent.proofs.atan_tail.Tie as tie
 

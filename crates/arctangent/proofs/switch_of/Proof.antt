@@ -1,6 +1,5 @@
 -- `arctangent::switch_of` meets its contract: the arms of `switch`. Assumes nothing.
 use borrow.Author.Tests.{eq-eqb, ne-eqb}
-use borrow.Author.Needs.{needs}
 use Rattle.arctangent.proofs.switch_of.Statement.{statement}
 use Rattle.arctangent.proofs.switch_of.Tie as tie
 

@@ -1,5 +1,4 @@
 -- `integrals::by_series` meets its contract: each return opens the definition and rewrites it by the tests and the calls on its way.
-use mathlib.Core.Path.{refl}
 use Rattle.integrals.specs.Integrals.{bySeries}
 use borrow.Author.Needs.{needs}
 use Rattle.integrals.proofs.by_series.Statement.{statement}

@@ -1,7 +1,6 @@
 -- `integrals::series_of` meets its contract: the definition is its body.
 use mathlib.Core.Path.{refl}
 use Rattle.integrals.specs.Factors.{seriesOf}
-use borrow.Author.Needs.{needs}
 use Rattle.integrals.proofs.series_of.Statement.{statement}
 use Rattle.integrals.proofs.series_of.Tie as tie
 

@@ -1,5 +1,5 @@
 -- `linear_hermitian::trace` meets its contract: the loop keeps what `Inv-loop` says, and what is left to do falls at each iteration; the laws are in proofs/Shift.
-use mathlib.Core.Path.{refl, _≡_}
+use mathlib.Core.Path.{_≡_}
 use Rattle.linear_hermitian.proofs.Shift.{traceTo, trace-none, trace-again, trace-done}
 use Prim.Native.Nat.{_≤_, _-_}
 use borrow.Author.Needs.{needs}

@@ -1,6 +1,5 @@
 -- `linear_layers::edge_good` meets its contract: each return opens the definition and rewrites it by the tests and the calls on its way; the laws are in proofs/Tests.
 use Rattle.linear_layers.proofs.Tests.{edge-high-a, edge-high-b, edge-good}
-use borrow.Author.Needs.{needs}
 use Rattle.linear_layers.proofs.edge_good.Statement.{statement}
 use Rattle.linear_layers.proofs.edge_good.Tie as tie
 

@@ -1,6 +1,5 @@
 -- `linear_layers::edges_good` meets its contract: the loop keeps what `Inv-loop` says, and what is left to do falls at each iteration; the laws are in proofs/Tests.
 use Rattle.linear_layers.proofs.Tests.{not-true, not-false}
-use mathlib.Core.Bool.{false}
 use Rattle.linear_layers.proofs.Tests.{all-none, edges-again, edges-not, edges-done}
 use Rattle.linear_layers.specs.Checked.{allTo, edgeAt}
 use mathlib.Core.Path.{_≡_}

@@ -1,7 +1,6 @@
 -- `linear_layers::matrix_for` meets its contract: each return opens the definition and rewrites it by the tests and the calls on its way.
 use Rattle.linear_layers.specs.Checked.{matrixFor}
 use mathlib.Core.Path.{refl}
-use borrow.Author.Needs.{needs}
 use Rattle.linear_layers.proofs.matrix_for.Statement.{statement}
 use Rattle.linear_layers.proofs.matrix_for.Tie as tie
 

@@ -1,5 +1,4 @@
 -- `pass_terms::correction` meets its contract: each return opens the definition at its test.
-use borrow.Author.Needs.{needs}
 use Rattle.pass_terms.specs.Terms.{correctionIn, correctionOf}
 use Rattle.pass_terms.proofs.correction.Statement.{statement}
 use Rattle.pass_terms.proofs.correction.Tie as tie

@@ -1,7 +1,6 @@
 -- `complex::Complex::add` meets its contract: each return opens the definition and rewrites it by the tests and the calls on its way.
 use mathlib.Core.Path.{refl}
 use Rattle.complex.specs.Complex.{cadd}
-use borrow.Author.Needs.{needs}
 use Rattle.complex.proofs.Complex.add.Statement.{statement}
 use Rattle.complex.proofs.Complex.add.Tie as tie
 

@@ -1,8 +1,6 @@
 -- `complex::guidance::fourfold_direction` meets its contract: each return opens the definition and rewrites it by the tests and the calls on its way.
 use borrow.Author.Needs.{needs}
-use mathlib.Core.Path.{_≡_, refl, sym, ap, _∙_}
-use lib.Ieee.{mul}
-use Rattle.complex.specs.Guidance.{fourfold, normOf, meanOr, midAngle}
+use Rattle.complex.specs.Guidance.{fourfold}
 use Rattle.complex.proofs.guidance.fourfold_direction.Statement.{statement}
 use Rattle.complex.proofs.guidance.fourfold_direction.Tie as tie
 

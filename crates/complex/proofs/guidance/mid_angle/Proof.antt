@@ -1,8 +1,7 @@
 -- `complex::guidance::mid_angle` meets its contract: each return opens the definition and rewrites it by the tests and the calls on its way.
 use borrow.Author.Needs.{needs}
-use mathlib.Core.Path.{_≡_, refl, sym, ap, _∙_}
-use lib.Ieee.{mul}
-use Rattle.complex.specs.Guidance.{fourfold, normOf, meanOr, midAngle}
+use mathlib.Core.Path.{_∙_}
+use Rattle.complex.specs.Guidance.{midAngle}
 use Rattle.complex.proofs.guidance.mid_angle.Statement.{statement}
 use Rattle.complex.proofs.guidance.mid_angle.Tie as tie
 

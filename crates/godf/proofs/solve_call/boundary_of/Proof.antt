@@ -1,6 +1,5 @@
 -- `godf::solve_call::boundary_of` meets its contract: each return opens the definition and rewrites it by the tests and the calls on its way.
 use Rattle.godf.specs.Solve.{boundaryOf}
-use borrow.Author.Needs.{needs}
 use Rattle.godf.proofs.solve_call.boundary_of.Statement.{statement}
 use Rattle.godf.proofs.solve_call.boundary_of.Tie as tie
 
