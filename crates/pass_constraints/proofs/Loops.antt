@@ -1,4 +1,4 @@
--- The iterations of the loops: drop, fix, blank, couple, penalise. Each is a loop of cells/proofs/Each. Assumes nothing.
+-- The iterations of the loops: drop, fix, blank, couple, penalise. Each is a loop of linear_cells/proofs/Each. Assumes nothing.
 use mathlib.Core.Path.{_≡_, sym, _∙_}
 use mathlib.Core.List.{List}
 use Prim.Native.Nat.{ℕ, _+_, _*_, _≤_, _<_}

@@ -37,7 +37,7 @@ meanOn kind values (side a b) = meanOf kind (getD values a nan) (getD values b n
 abbrev pub cutAt : Table → List ℕ → ℕ → Side
 cutAt t u j = side (loOf (t .base) (t .buckets) u j) (hiOf (t .base) (t .buckets) u j)
 
--- the values at the old points, and then those at the midpoints: crate areas' `moreSizes` of halves, and refine_floor's `moreAngles` of angles
+-- the values at the old points, and then those at the midpoints: mesh's `moreSizes` of halves, and refine_floor's `moreAngles` of angles
 unfoldable pub valuePlane : Mean → List Float → List Side → List Float
 valuePlane kind values cuts = values ++ map (meanOn kind values) cuts
 

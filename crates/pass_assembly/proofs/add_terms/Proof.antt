@@ -1,4 +1,4 @@
--- `pass_assembly::add_terms` meets its contract: the calls' contracts, one after the other; the laws are in proofs/Turns.
+-- `pass_assembly::add_terms` meets its contract: the calls' contracts, one after the other; the laws are in proofs/Rounds.
 use Rattle.pass_assembly.proofs.Rounds.{terms-all}
 use borrow.Author.Needs.{needs}
 use Rattle.pass_assembly.proofs.add_terms.Statement.{statement}

@@ -1,4 +1,4 @@
--- `pass_assembly::add_triangle` meets its contract: the calls' contracts, one after the other; the laws are in proofs/Turns and proofs/Floors.
+-- `pass_assembly::add_triangle` meets its contract: the calls' contracts, one after the other; the laws are in proofs/Rounds and proofs/Floors.
 use Rattle.pass_assembly.proofs.Floors.{terms-in, both-within}
 use Rattle.pass_assembly.proofs.Rounds.{triangle-all}
 use borrow.Author.Needs.{needs}

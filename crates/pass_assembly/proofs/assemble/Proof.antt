@@ -1,4 +1,4 @@
--- `pass_assembly::assemble` meets its contract: the calls' contracts, one after the other; the laws are in proofs/Turns.
+-- `pass_assembly::assemble` meets its contract: the calls' contracts, one after the other; the laws are in proofs/Rounds.
 use Rattle.pass_assembly.proofs.Rounds.{cleared-room, cleared-none, assemble-all}
 use borrow.Author.Needs.{needs}
 use Rattle.pass_assembly.proofs.assemble.Statement.{statement}

@@ -1,4 +1,4 @@
--- `pass_setup::set_up` meets its contract: each return follows from the tests and the calls on its way; the laws are in proofs/Turn.
+-- `pass_setup::set_up` meets its contract: each return follows from the tests and the calls on its way; the laws are in proofs/Wind.
 use native.Mathlib.Omega.{arith}
 use Rattle.pass_setup.proofs.Wind.{stays, row-19, turned}
 use Rattle.pass_setup.proofs.Slices.{set-up-then, ordered-now}
