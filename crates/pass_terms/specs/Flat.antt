@@ -13,10 +13,10 @@ use Rattle.integrals.specs.Consts.{one, n12}
 use Rattle.pass_terms.specs.declared.Sides.{Sides}
 use Rattle.pass_terms.specs.declared.Entry.{Entry}
 use Rattle.pass_terms.specs.declared.Terms.{Terms}
-use Rattle.pass_terms.specs.Terms.{massCorner, energyCorners, massEntry, flatEntry, partsOf}
+use Rattle.pass_terms.specs.Terms.{massCorner, energyCorners, massEntry, scaleIn, flatEntry, partsOf}
 
-unfoldable pub flatEntries : Float → Complex → Pair → Pair → Pair → Entry
-flatEntries area z p q o = record { mass = massEntry (cnew (one ⊘ n12) (lit 0)) area z; energy = flatEntry area z p q o }
+unfoldable pub flatEntries : Float → Float → Complex → Pair → Pair → Pair → Entry
+flatEntries area scale z p q o = record { mass = massEntry (cnew (one ⊘ n12) (lit 0)) area z; energy = flatEntry scale z p q o }
 
 unfoldable pub flatTerms : Float → Sides → Pair → Pair → Pair → Terms
 flatTerms area z p q r =
@@ -24,9 +24,9 @@ flatTerms area z p q r =
     (massCorner area)
     (energyCorners false (lit 0) area p q r)
     (lit 0)
-    (flatEntries area (z .ij) p q r)
-    (flatEntries area (z .jk) q r p)
-    (flatEntries area (z .ki) r p q)
+    (flatEntries area (scaleIn false area) (z .ij) p q r)
+    (flatEntries area (scaleIn false area) (z .jk) q r p)
+    (flatEntries area (scaleIn false area) (z .ki) r p q)
 
 -- the same of an array of three
 abbrev pub flatTermsIn : Float → Sides → List Pair → Terms

@@ -62,18 +62,21 @@ massScalar accurate ω = cond accurate (massIntegral ω) (cnew (one ⊘ n12) (li
 unfoldable pub massEntry : Complex → Float → Complex → Complex
 massEntry scalar area z = cscale (cmul (cconj z) scalar) area
 
--- lines 1378 to 1382, 1390 to 1396
+-- lines 1378 to 1382, 1390 to 1396, from the reciprocal that the energy is scaled by, which depends on the area alone
+unfoldable pub scaleIn : Bool → Float → Float
+scaleIn accurate area = cond accurate (recipOf area) (recipOf (n4 ⊗ area))
+
 unfoldable pub accurateEntry : Float → Float → Complex → Pair → Pair → Pair → Complex
-accurateEntry ω area z p q o =
+accurateEntry ω scale z p q o =
     let a = sub2 p o in
     let b = sub2 q o in
-    cscale (cmul (cconj z) (dirichletIntegral ω (dot2 a a) (dot2 a b) (dot2 b b))) (recipOf area)
+    cscale (cmul (cconj z) (dirichletIntegral ω (dot2 a a) (dot2 a b) (dot2 b b))) scale
 
 unfoldable pub flatEntry : Float → Complex → Pair → Pair → Pair → Complex
-flatEntry area z p q o = cscale (cconj z) (neg (dot2 (sub2 p o) (sub2 q o)) ⊗ recipOf (n4 ⊗ area))
+flatEntry scale z p q o = cscale (cconj z) (neg (dot2 (sub2 p o) (sub2 q o)) ⊗ scale)
 
 unfoldable pub energyEntry : Bool → Float → Float → Complex → Pair → Pair → Pair → Complex
-energyEntry accurate ω area z p q o = cond accurate (accurateEntry ω area z p q o) (flatEntry area z p q o)
+energyEntry accurate ω scale z p q o = cond accurate (accurateEntry ω scale z p q o) (flatEntry scale z p q o)
 
 -- lines 1402 to 1406, where h is not 0
 unfoldable pub correctedEntry : Float → Float → Float → Complex → Complex → Complex → Complex
@@ -90,7 +93,7 @@ entryWith h ω scalar area z energy =
     record { mass = mass; energy = holomorphicEntry h ω area z mass energy }
 
 unfoldable pub entryOf : Mode → Float → Float → Complex → Pair → Pair → Pair → Entry
-entryOf m ω area z p q o = entryWith (m .holomorphic) ω (massScalar (m .accurate) ω) area z (energyEntry (m .accurate) ω area z p q o)
+entryOf m ω area z p q o = entryWith (m .holomorphic) ω (massScalar (m .accurate) ω) area z (energyEntry (m .accurate) ω (scaleIn (m .accurate) area) z p q o)
 
 -- ---- of the whole triangle: the pairs (0, 1, 2), (1, 2, 0) and (2, 0, 1) of line 1353
 

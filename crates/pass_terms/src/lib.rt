@@ -5,7 +5,7 @@ use integrals::Closed;
 use integrals::Factors;
 use plane::Pair;
 ghost use mathlib.Core.Path.{_≡_};
-ghost use Rattle.pass_terms.specs.Terms.{holonomyOf, massCorner, flatCorner, correctionIn, massScalar, massEntry, accurateEntry, flatEntry, energyEntry, correctedEntry, holomorphicEntry, entryWith};
+ghost use Rattle.pass_terms.specs.Terms.{holonomyOf, massCorner, flatCorner, correctionIn, massScalar, massEntry, scaleIn, accurateEntry, flatEntry, energyEntry, correctedEntry, holomorphicEntry, entryWith};
 ghost use Rattle.pass_terms.specs.Terms.{sidesOf, partsOf, cornerIn, cornersIn, termsBy, termsIn};
 ghost use Rattle.pass_terms.specs.Flat.{flatEntries, flatTermsIn};
 ghost use Rattle.pass_terms.specs.Factors.{factorsIn};
@@ -129,18 +129,28 @@ fn mass_entry(scalar: Complex, area: f64, z: Complex) -> Complex
     z.conj().mul(scalar).scale(area)
 }
 
+// What the energy of an entry is scaled by.
+fn scale_in(accurate: bool, area: f64) -> f64
+    ensures { λ r. ⌜ r ≡ scaleIn accurate area ⌝ }
+{
+    if accurate {
+        return float::recip(area);
+    }
+    float::recip(4.0 * area)
+}
+
 // Along the side from p to q, whose third corner is at o.
 fn accurate_entry(
     omega: f64,
     f: Factors,
-    area: f64,
+    scale: f64,
     z: Complex,
     p: Pair,
     q: Pair,
     o: Pair,
 ) -> Complex
     requires { ⌜ f ≡ factorsOf omega ⌝ }
-    ensures { λ r. ⌜ r ≡ accurateEntry omega area z p q o ⌝ }
+    ensures { λ r. ⌜ r ≡ accurateEntry omega scale z p q o ⌝ }
 {
     let a = plane::sub2(p, o);
     let b = plane::sub2(q, o);
@@ -151,35 +161,34 @@ fn accurate_entry(
         plane::dot2(a, b),
         plane::dot2(b, b),
     );
-    z.conj().mul(integral).scale(float::recip(area))
+    z.conj().mul(integral).scale(scale)
 }
 
-fn flat_entry(area: f64, z: Complex, p: Pair, q: Pair, o: Pair) -> Complex
-    ensures { λ r. ⌜ r ≡ flatEntry area z p q o ⌝ }
+fn flat_entry(scale: f64, z: Complex, p: Pair, q: Pair, o: Pair) -> Complex
+    ensures { λ r. ⌜ r ≡ flatEntry scale z p q o ⌝ }
 {
     let a = plane::sub2(p, o);
     let b = plane::sub2(q, o);
-    z.conj()
-        .scale(-plane::dot2(a, b) * float::recip(4.0 * area))
+    z.conj().scale(-plane::dot2(a, b) * scale)
 }
 
 fn energy_entry(
     accurate: bool,
     omega: f64,
     f: Factors,
-    area: f64,
+    scale: f64,
     z: Complex,
     p: Pair,
     q: Pair,
     o: Pair,
 ) -> Complex
     requires { ⌜ f ≡ factorsIn accurate omega ⌝ }
-    ensures { λ r. ⌜ r ≡ energyEntry accurate omega area z p q o ⌝ }
+    ensures { λ r. ⌜ r ≡ energyEntry accurate omega scale z p q o ⌝ }
 {
     if accurate {
-        return accurate_entry(omega, f, area, z, p, q, o);
+        return accurate_entry(omega, f, scale, z, p, q, o);
     }
-    flat_entry(area, z, p, q, o)
+    flat_entry(scale, z, p, q, o)
 }
 
 fn corrected_entry(
@@ -253,13 +262,13 @@ fn parts(mass: f64, energy: Corners, correction: f64, a: Entry, b: Entry, c: Ent
 }
 
 // The entries of a side, flat and without the correction.
-fn flat_entries(area: f64, z: Complex, p: Pair, q: Pair, o: Pair) -> Entry
-    ensures { λ r. ⌜ r ≡ flatEntries area z p q o ⌝ }
+fn flat_entries(area: f64, scale: f64, z: Complex, p: Pair, q: Pair, o: Pair) -> Entry
+    ensures { λ r. ⌜ r ≡ flatEntries area scale z p q o ⌝ }
 {
     let mass = mass_entry(Complex::new(1.0 / 12.0, 0.0), area, z);
     Entry {
         mass,
-        energy: flat_entry(area, z, p, q, o),
+        energy: flat_entry(scale, z, p, q, o),
     }
 }
 
@@ -270,9 +279,10 @@ fn flat_terms(area: f64, z: Sides, p: [Pair; 3]) -> Terms
     let i = p[0];
     let j = p[1];
     let k = p[2];
-    let ij = flat_entries(area, z.ij, i, j, k);
-    let jk = flat_entries(area, z.jk, j, k, i);
-    let ki = flat_entries(area, z.ki, k, i, j);
+    let scale = scale_in(false, area);
+    let ij = flat_entries(area, scale, z.ij, i, j, k);
+    let jk = flat_entries(area, scale, z.jk, j, k, i);
+    let ki = flat_entries(area, scale, z.ki, k, i, j);
     let energy = energy_corners(false, 0.0, area, p);
     parts(mass_corner(area), energy, 0.0, ij, jk, ki)
 }
@@ -283,12 +293,13 @@ fn terms_by(m: Mode, omega: f64, area: f64, z: Sides, p: [Pair; 3]) -> Terms
 {
     let f = factors_in(m.accurate, omega);
     let scalar = mass_scalar(m.accurate, omega, f);
+    let scale = scale_in(m.accurate, area);
     let i = p[0];
     let j = p[1];
     let k = p[2];
-    let ij = energy_entry(m.accurate, omega, f, area, z.ij, i, j, k);
-    let jk = energy_entry(m.accurate, omega, f, area, z.jk, j, k, i);
-    let ki = energy_entry(m.accurate, omega, f, area, z.ki, k, i, j);
+    let ij = energy_entry(m.accurate, omega, f, scale, z.ij, i, j, k);
+    let jk = energy_entry(m.accurate, omega, f, scale, z.jk, j, k, i);
+    let ki = energy_entry(m.accurate, omega, f, scale, z.ki, k, i, j);
     let a = entry_with(m.holomorphic, omega, scalar, area, z.ij, ij);
     let b = entry_with(m.holomorphic, omega, scalar, area, z.jk, jk);
     let c = entry_with(m.holomorphic, omega, scalar, area, z.ki, ki);

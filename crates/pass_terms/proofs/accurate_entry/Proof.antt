@@ -28,15 +28,12 @@ conj-requires c κs = search needs
 mul-requires : tie.Need-mul-requires
 mul-requires c κs = search needs
 
-recip-requires : tie.Need-recip-requires
-recip-requires c κs = search needs
-
 scale-requires : tie.Need-scale-requires
 scale-requires c κs = search needs
 
 returns : tie.Need-returns
 unfolding accurateEntry
-returns c = simp (c .scale .ensures, c .before .recip .ensures, c .before .before .mul .ensures, c .before .before .before .conj .ensures, c .before .before .before .before .dirichlet-by .ensures, c .before .before .before .before .before .dot23 .ensures, c .before .before .before .before .before .before .dot22 .ensures, c .before .before .before .before .before .before .before .dot2 .ensures, c .before .before .before .before .before .before .before .before .sub22 .ensures, c .before .before .before .before .before .before .before .before .before .sub2 .ensures)
+returns c = simp (c .scale .ensures, c .before .mul .ensures, c .before .before .conj .ensures, c .before .before .before .dirichlet-by .ensures, c .before .before .before .before .dot23 .ensures, c .before .before .before .before .before .dot22 .ensures, c .before .before .before .before .before .before .dot2 .ensures, c .before .before .before .before .before .before .before .sub22 .ensures, c .before .before .before .before .before .before .before .before .sub2 .ensures)
 
 pub accurate-entry-spec : {M : Type 1} → statement M
 accurate-entry-spec =
@@ -50,6 +47,5 @@ accurate-entry-spec =
     dirichlet-by-requires
     conj-requires
     mul-requires
-    recip-requires
     scale-requires
     returns)

@@ -16,15 +16,12 @@ conj-requires c κs = search needs
 dot2-requires : tie.Need-dot2-requires
 dot2-requires c κs = search needs
 
-recip-requires : tie.Need-recip-requires
-recip-requires c κs = search needs
-
 scale-requires : tie.Need-scale-requires
 scale-requires c κs = search needs
 
 returns : tie.Need-returns
 unfolding flatEntry
-returns c = simp (c .scale .ensures, c .before .recip .ensures, c .before .before .dot2 .ensures, c .before .before .before .conj .ensures, c .before .before .before .before .sub22 .ensures, c .before .before .before .before .before .sub2 .ensures)
+returns c = simp (c .scale .ensures, c .before .dot2 .ensures, c .before .before .conj .ensures, c .before .before .before .sub22 .ensures, c .before .before .before .before .sub2 .ensures)
 
 pub flat-entry-spec : {M : Type 1} → statement M
 flat-entry-spec =
@@ -34,6 +31,5 @@ flat-entry-spec =
     sub2-requires-2
     conj-requires
     dot2-requires
-    recip-requires
     scale-requires
     returns)

@@ -13,6 +13,9 @@ array-copy-out-j c = search needs
 array-copy-out-k : tie.Need-array-copy-out-k
 array-copy-out-k c = search needs
 
+scale-in-requires : tie.Need-scale-in-requires
+scale-in-requires c κs = search needs
+
 flat-entries-requires : tie.Need-flat-entries-requires
 flat-entries-requires c κs = search needs
 
@@ -33,7 +36,7 @@ parts-requires c κs = search needs
 
 returns : tie.Need-returns
 unfolding flatTerms
-returns c = simp (c .parts .ensures, c .before .mass-corner .ensures, c .before .before .energy-corners .ensures, c .before .before .before .flat-entries3 .ensures, c .before .before .before .before .flat-entries2 .ensures, c .before .before .before .before .before .flat-entries .ensures)
+returns c = simp (c .parts .ensures, c .before .mass-corner .ensures, c .before .before .energy-corners .ensures, c .before .before .before .flat-entries3 .ensures, c .before .before .before .before .flat-entries2 .ensures, c .before .before .before .before .before .flat-entries .ensures, c .before .before .before .before .before .before .scale-in .ensures)
 
 pub flat-terms-spec : {M : Type 1} → statement M
 flat-terms-spec =
@@ -42,6 +45,7 @@ flat-terms-spec =
     array-copy-out-i
     array-copy-out-j
     array-copy-out-k
+    scale-in-requires
     flat-entries-requires
     flat-entries-requires-2
     flat-entries-requires-3

@@ -10,6 +10,9 @@ factors-in-requires c κs = search needs
 mass-scalar-requires : tie.Need-mass-scalar-requires
 mass-scalar-requires c κs = search needs
 
+scale-in-requires : tie.Need-scale-in-requires
+scale-in-requires c κs = search needs
+
 array-copy-out-i : tie.Need-array-copy-out-i
 array-copy-out-i c = search needs
 
@@ -51,7 +54,7 @@ parts-requires c κs = search needs
 
 returns : tie.Need-returns
 unfolding termsWith entryOf
-returns c = simp (c .parts .ensures, c .before .correction .ensures, c .before .before .mass-corner .ensures, c .before .before .before .energy-corners .ensures, c .before .before .before .before .entry-with3 .ensures, c .before .before .before .before .before .entry-with2 .ensures, c .before .before .before .before .before .before .entry-with .ensures, c .before .before .before .before .before .before .before .energy-entry3 .ensures, c .before .before .before .before .before .before .before .before .energy-entry2 .ensures, c .before .before .before .before .before .before .before .before .before .energy-entry .ensures, c .before .before .before .before .before .before .before .before .before .before .before .before .before .mass-scalar .ensures)
+returns c = simp (c .parts .ensures, c .before .correction .ensures, c .before .before .mass-corner .ensures, c .before .before .before .energy-corners .ensures, c .before .before .before .before .entry-with3 .ensures, c .before .before .before .before .before .entry-with2 .ensures, c .before .before .before .before .before .before .entry-with .ensures, c .before .before .before .before .before .before .before .energy-entry3 .ensures, c .before .before .before .before .before .before .before .before .energy-entry2 .ensures, c .before .before .before .before .before .before .before .before .before .energy-entry .ensures, c .before .before .before .before .before .before .before .before .before .before .before .before .before .scale-in .ensures, c .before .before .before .before .before .before .before .before .before .before .before .before .before .before .mass-scalar .ensures)
 
 pub terms-by-spec : {M : Type 1} → statement M
 terms-by-spec =
@@ -59,6 +62,7 @@ terms-by-spec =
     (tie.spec
     factors-in-requires
     mass-scalar-requires
+    scale-in-requires
     array-copy-out-i
     array-copy-out-j
     array-copy-out-k
