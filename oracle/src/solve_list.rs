@@ -123,7 +123,14 @@ fn kinds(case: &Case, given: &Given) -> Vec<&'static str> {
     let angles = case.guidance.as_ref().map_or(&none, |g| &g.angle);
     let weight = case.guidance.as_ref().map_or(0.0, |g| g.weight);
     let weak = if let Boundary::Weak(w) = o.boundary { w } else { 0.0 };
-    let options = [weight, weak, o.holomorphic, o.anisotropy, o.anisotropy_angle, o.adaptive];
+    let options = [
+        weight,
+        weak,
+        o.holomorphic,
+        o.anisotropy,
+        o.anisotropy_angle,
+        o.adaptive,
+    ];
     let mut doubles = case.points.iter().chain(&case.sizes).chain(angles).chain(&options);
     let passes = !matches!(given.answer, Answer::Refused(r) if r.number < 19);
     let all = [
