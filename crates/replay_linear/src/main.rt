@@ -1,11 +1,12 @@
 // Replays the reference's conjugate gradient and normalize_in_mass on recorded systems of at most 16 rows and 40 edges.
-// data/README.md says how the list was made. Prints how many answers there are, and how many differ.
+// data/README.md says how the list was made. A program: it prints how many answers there are and how many differ, which the gate compares
+// with the file stdout.
 use linear_conjugate_gradient::Answer;
 use linear_conjugate_gradient::Normalized;
 use linear_conjugate_gradient::Reason;
 use linear_layers::Checked;
 use replay::rows;
-use replay::rows::Tally;
+use replay::rows::Reading;
 ghost use mathlib.Core.Path.{_≡_};
 ghost use Prim.Native.Nat.{_+_, _<_, _≤_};
 ghost use lib.ListN.{length};
@@ -206,24 +207,27 @@ fn holds(row: &[u8]) -> bool {
 }
 
 // The next system.
-fn some(fd: i32, seen: Tally) -> Tally {
+fn some(at: Reading) -> Reading
+    requires { ⌜ 0 < at .left ⌝ }
+    ensures { λ r. ⌜ r .left < at .left ⌝ }
+{
     let mut row = [0u8; 4352];
-    let n = rows::next(fd, WIDTH, &mut row);
+    let n = rows::next(at.fd, WIDTH, &mut row);
     if n == 0 {
-        return rows::paused(seen);
+        return rows::ended(at);
     }
-    rows::judged(seen, holds(&row[..n]))
+    rows::judged(at, holds(&row[..n]))
 }
 
-// The whole list. The iterations only fall so that the loop is known to end.
-fn main() {
-    let fd = replay::open(b"systems");
-    let mut seen = rows::unseen();
-    let mut iterations = u64::MAX;
-    while iterations > 0 && seen.more {
-        seen = some(fd, seen);
-        iterations -= 1;
+// The whole list.
+fn all_of(name: &[u8]) {
+    let mut at = rows::begin(name);
+    while at.left > 0 {
+        at = some(at);
     }
-    replay::report(b"systems", seen.recorded, seen.differ);
-    libc::close(fd);
+    replay::report(name, at);
+}
+
+fn main() {
+    all_of(b"systems");
 }

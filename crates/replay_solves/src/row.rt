@@ -239,3 +239,25 @@ pub fn holds(row: &[u8]) -> bool {
     rows::corners(row, t, end - t, &mut tris);
     given(row, end, &points, &tris, &sizes, &angles)
 }
+
+// How many numbers of points, sizes and guidance angles are given.
+fn given_doubles(row: &[u8]) -> usize
+    ensures { λ r. ⌜ r ≤ 72 ⌝ }
+{
+    count(row, 1, 0, 40) + count(row, 1, 2, 16) + count(row, 1, 3, 16)
+}
+
+// Whether a weight, an option, a coordinate, a size or a guidance angle is NaN.
+pub fn has_nan(row: &[u8]) -> bool {
+    if rows::has_nan(row, 4, 6) {
+        return true;
+    }
+    rows::has_nan(row, PARTS, given_doubles(row))
+}
+
+// Whether an angle of the recorded answer is -0.
+pub fn has_minus_zero(row: &[u8]) -> bool {
+    let k = PARTS + given_doubles(row) + count(row, 1, 1, 40);
+    let n = count(row, 3, 3, 24) + count(row, 11, 3, 64);
+    rows::has_word(row, k, n, 0x8000_0000_0000_0000)
+}
