@@ -8,9 +8,12 @@ use replay::rows::Reading;
 ghost use mathlib.Core.Path.{_≡_};
 ghost use Prim.Native.Nat.{_<_, _≤_};
 ghost use lib.ListN.{length};
+ghost use Rattle.replay_solves.specs.Row.{wantedIn};
 
 // Whether a row is one of those to judge: 0 each, 1 with an angle -0 in the answer, 2 with a NaN given.
-fn wanted(row: &[u8], kind: u64) -> bool {
+fn wanted(row: &[u8], kind: u64) -> bool
+    ensures { λ r. ⌜ r ≡ wantedIn kind (now (row .entry)) ⌝ }
+{
     if kind == 0 {
         return true;
     }
