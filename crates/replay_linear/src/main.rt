@@ -10,6 +10,7 @@ use replay::rows::Reading;
 ghost use mathlib.Core.Path.{_≡_};
 ghost use Prim.Native.Nat.{_+_, _<_, _≤_};
 ghost use lib.ListN.{length};
+ghost use Rattle.replay_linear.specs.Verdict.{toldAs, ofReason, ofAnswer, ofNormalized, ofChecked, endIn};
 
 // The words of a recorded system, and where its parts begin.
 const WIDTH: usize = 240;
@@ -20,11 +21,15 @@ struct Verdict {
     value: u64,
 }
 
-fn told(reason: u64, value: u64) -> Verdict {
+fn told(reason: u64, value: u64) -> Verdict
+    ensures { λ r. ⌜ r ≡ toldAs reason value ⌝ }
+{
     Verdict { reason, value }
 }
 
-fn told_reason(r: Reason) -> Verdict {
+fn told_reason(r: Reason) -> Verdict
+    ensures { λ v. ⌜ v ≡ ofReason r ⌝ }
+{
     match r {
         Reason::RightHandNorm => told(3, 0),
         Reason::Diagonal(i) => told(4, i as u64),
@@ -36,21 +41,27 @@ fn told_reason(r: Reason) -> Verdict {
     }
 }
 
-fn told_answer(a: Answer) -> Verdict {
+fn told_answer(a: Answer) -> Verdict
+    ensures { λ r. ⌜ r ≡ ofAnswer a ⌝ }
+{
     match a {
         Answer::Iterate(count) => told(0, count as u64),
         Answer::GaveUp(r) => told_reason(r),
     }
 }
 
-fn told_normalized(a: Normalized) -> Verdict {
+fn told_normalized(a: Normalized) -> Verdict
+    ensures { λ r. ⌜ r ≡ ofNormalized a ⌝ }
+{
     match a {
         Normalized::Done => told(0, 0),
         Normalized::GaveUp(r) => told_reason(r),
     }
 }
 
-fn told_checked(c: Checked) -> Verdict {
+fn told_checked(c: Checked) -> Verdict
+    ensures { λ r. ⌜ r ≡ ofChecked c ⌝ }
+{
     match c {
         Checked::Refused => told(255, 0),
         Checked::Solved(a) => told_answer(a),
@@ -74,7 +85,9 @@ fn load(work: &mut [f64], to: usize, row: &[u8], k: usize, n: usize)
 }
 
 // One end of an edge: the upper or the lower half of its word.
-fn end_of(word: u64, upper: bool) -> u64 {
+fn end_of(word: u64, upper: bool) -> u64
+    ensures { λ r. ⌜ r ≡ endIn word upper ⌝ }
+{
     if upper {
         return word / 0x1_0000_0000;
     }
