@@ -1,7 +1,8 @@
 // Rows of numbers: the arguments of one call, then what the reference answered.
 ghost use mathlib.Core.Path.{_≡_};
 ghost use Prim.Native.Nat.{_<_};
-ghost use Rattle.replay_scalars.specs.Numbers.{sameComplex, samePair, sameTriangle, pairAt, massRow, dirichletRow, diagonalRow, crossRow, wrapRow, weightRow};
+ghost use Rattle.replay_scalars.specs.Numbers.{sameComplex, samePair, sameTriangle, sameGeometry, sameTransport, pairAt};
+ghost use Rattle.replay_scalars.specs.Numbers.{massRow, dirichletRow, diagonalRow, crossRow, wrapRow, weightRow, triangleRow, transportRow};
 use complex::Complex;
 use geometry::End;
 use geometry::Geometry;
@@ -109,13 +110,12 @@ fn same_triangle(row: &[u8], g: TriangleGeometry, sigma: [f64; 3]) -> bool
     false
 }
 
-// three positions, three sizes; 0, the second corner, the area and the gradient, or 19
-pub fn triangle(row: &[u8]) -> bool {
-    let positions = [pair(row, 0), pair(row, 2), pair(row, 4)];
-    let sigma = [double(row, 6), double(row, 7), double(row, 8)];
+// 0, the second corner, the area and the gradient, or 19
+fn same_geometry(row: &[u8], answer: Geometry, sigma: [f64; 3]) -> bool
+    ensures { λ r. ⌜ r ≡ sameGeometry (now (row .entry)) sigma answer ⌝ }
+{
     let number = replay::word(row, 9);
     let second = replay::word(row, 10);
-    let answer = geometry::triangle_geometry([0, 1, 2], positions, 0);
     let Geometry::Triangle(g) = answer else {
         return number == 19;
     };
@@ -128,8 +128,34 @@ pub fn triangle(row: &[u8]) -> bool {
     same_triangle(row, g, sigma)
 }
 
-// two positions, two sizes, two gradients; 0 and re, im, or 22
-pub fn transport(row: &[u8]) -> bool {
+// three positions, three sizes; what is found
+pub fn triangle(row: &[u8]) -> bool
+    ensures { λ r. ⌜ r ≡ triangleRow (now (row .entry)) ⌝ }
+{
+    let positions = [pair(row, 0), pair(row, 2), pair(row, 4)];
+    let sigma = [double(row, 6), double(row, 7), double(row, 8)];
+    let answer = geometry::triangle_geometry([0, 1, 2], positions, 0);
+    same_geometry(row, answer, sigma)
+}
+
+// 0 and re, im, or 22
+fn same_transport(row: &[u8], answer: Transport) -> bool
+    ensures { λ r. ⌜ r ≡ sameTransport (now (row .entry)) answer ⌝ }
+{
+    let number = replay::word(row, 10);
+    let Transport::Coefficient(z) = answer else {
+        return number == 22;
+    };
+    if number != 0 {
+        return false;
+    }
+    same_complex(z, double(row, 11), double(row, 12))
+}
+
+// two positions, two sizes, two gradients; what is found
+pub fn transport(row: &[u8]) -> bool
+    ensures { λ r. ⌜ r ≡ transportRow (now (row .entry)) ⌝ }
+{
     let a = End {
         vertex: 0,
         position: pair(row, 0),
@@ -142,13 +168,5 @@ pub fn transport(row: &[u8]) -> bool {
         size: double(row, 5),
         gradient: pair(row, 8),
     };
-    let number = replay::word(row, 10);
-    let answer = geometry::transport_coefficient(a, b);
-    let Transport::Coefficient(z) = answer else {
-        return number == 22;
-    };
-    if number != 0 {
-        return false;
-    }
-    same_complex(z, double(row, 11), double(row, 12))
+    same_transport(row, geometry::transport_coefficient(a, b))
 }
