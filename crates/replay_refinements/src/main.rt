@@ -5,7 +5,10 @@ mod floors;
 
 use replay::rows;
 use replay::rows::Reading;
+ghost use mathlib.Core.Path.{_≡_};
 ghost use Prim.Native.Nat.{_<_, _≤_};
+ghost use Rattle.guidance.specs.Guidance.{midAngle};
+ghost use Rattle.replay.specs.Rows.{doubleAt, sameAs};
 
 // The words of a row of each list.
 fn width(list: u64) -> usize
@@ -18,7 +21,9 @@ fn width(list: u64) -> usize
 }
 
 // The angles of two ends; the angle at the midpoint.
-fn guidance_row(row: &[u8]) -> bool {
+fn guidance_row(row: &[u8]) -> bool
+    ensures { λ r. ⌜ r ≡ sameAs (midAngle (doubleAt (now (row .entry)) 0) (doubleAt (now (row .entry)) 1)) (doubleAt (now (row .entry)) 2) ⌝ }
+{
     let low = rows::double(row, 0);
     let high = rows::double(row, 1);
     rows::same(guidance::mid_angle(low, high), rows::double(row, 2))
