@@ -1,12 +1,14 @@
 //! Which reasons of row 24 the reference reaches: a search over small floors at extreme scales, weights, sizes and counts, and the
-//! smallest input found for each reason and pass.
+//! smallest input found for each reason and pass; and in which calls a NaN arises on the way.
 
 use crate::{
     case::{Boundary, Case, Guidance, Options},
     floors::{self, Floor},
+    known::meets_nan,
     outcome::{expected, Answer},
     random::Random,
     shrink::shrink,
+    solves::named,
     BOUND,
 };
 use std::collections::BTreeMap;
@@ -99,7 +101,11 @@ const FEW: usize = 5;
 
 pub fn search(count: u64, seed: u64) {
     let mut found: BTreeMap<(u32, u32), (usize, Vec<Case>)> = BTreeMap::new();
+    let mut with_nan: BTreeMap<String, usize> = BTreeMap::new();
     for case in (0..count).map(|i| nth(seed, i)) {
+        if meets_nan(&case) {
+            *with_nan.entry(named(&expected(BOUND, &case))).or_default() += 1;
+        }
         if let Some(key) = reason(&case) {
             let (times, few) = found.entry(key).or_default();
             *times += 1;
@@ -116,6 +122,9 @@ pub fn search(count: u64, seed: u64) {
             "reason {} in pass {}: {times} inputs; the smallest:\n{shortest}",
             key.0, key.1
         );
+    }
+    for (outcome, times) in with_nan {
+        println!("a NaN on the way: {times} inputs {outcome}");
     }
     for pass in [1, 2] {
         let missing = (1..=13)

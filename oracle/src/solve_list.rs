@@ -2,7 +2,7 @@
 //! a refusal, and `solves`, calls with any other. crates/replay_solves/data/README.md says what a row holds.
 
 use crate::{
-    case::{Boundary, Case},
+    case::{Boundary, Case, Guidance},
     cases, known,
     outcome::{expected, Answer, Given},
     reference::Reference,
@@ -81,12 +81,73 @@ fn row(case: &Case, given: &Given) -> Vec<u64> {
     row
 }
 
-/// The calls whose outcome is known, and the first of a seed, that have room in the program: `count` solves, and twice as many passes.
-/// What they come to is said on the error stream.
+/// The unit square in two triangles with every kind of double in use, and calls like it in which one of its doubles is NaN: each
+/// coordinate, size and guidance angle, both weights, the threshold and the other options. z may be NaN: nothing reads it.
+fn with_nan() -> Vec<Case> {
+    let mut whole = Case::base();
+    whole.points = vec![0.0, 0.0, 0.0, 1.0, 0.0, 0.0, 1.0, 1.0, 0.0, 0.0, 1.0, 0.0];
+    whole.tris = vec![0, 1, 2, 0, 2, 3];
+    whole.sizes = vec![1.0, 1.25, 1.5, 1.25];
+    whole.options.holomorphic = 0.5;
+    whole.options.anisotropy = 2.0;
+    whole.options.anisotropy_angle = 0.25;
+    whole.options.boundary = Boundary::Weak(1.0);
+    let angle = vec![0.1, 0.2, 0.3, 0.4];
+    whole.guidance = Some(Guidance { weight: 0.5, angle });
+    let mut cases = vec![whole.clone()];
+    let mut put = |edit: &dyn Fn(&mut Case)| {
+        let mut case = whole.clone();
+        edit(&mut case);
+        cases.push(case);
+    };
+    for k in 0..12 {
+        put(&|c| c.points[k] = f64::NAN);
+    }
+    for k in 0..4 {
+        put(&|c| c.sizes[k] = f64::NAN);
+        put(&|c| c.guidance.as_mut().expect("guidance").angle[k] = f64::NAN);
+    }
+    put(&|c| c.guidance.as_mut().expect("guidance").weight = f64::NAN);
+    put(&|c| c.options.boundary = Boundary::Weak(f64::NAN));
+    put(&|c| c.options.holomorphic = f64::NAN);
+    put(&|c| c.options.anisotropy = f64::NAN);
+    put(&|c| c.options.anisotropy_angle = f64::NAN);
+    put(&|c| c.options.adaptive = f64::NAN);
+    cases
+}
+
+/// What a call has of -0 and NaN.
+fn kinds(case: &Case, given: &Given) -> Vec<&'static str> {
+    let o = &case.options;
+    let none = vec![];
+    let angles = case.guidance.as_ref().map_or(&none, |g| &g.angle);
+    let weight = case.guidance.as_ref().map_or(0.0, |g| g.weight);
+    let weak = if let Boundary::Weak(w) = o.boundary { w } else { 0.0 };
+    let options = [
+        weight,
+        weak,
+        o.holomorphic,
+        o.anisotropy,
+        o.anisotropy_angle,
+        o.adaptive,
+    ];
+    let mut doubles = case.points.iter().chain(&case.sizes).chain(angles).chain(&options);
+    let passes = !matches!(given.answer, Answer::Refused(r) if r.number < 19);
+    let all = [
+        (known::has_minus_zero(given), "with an angle -0"),
+        (doubles.any(|x| x.is_nan()), "with a NaN given"),
+        (passes && known::meets_nan(case), "with a NaN on the way"),
+    ];
+    all.into_iter().filter_map(|(has, kind)| has.then_some(kind)).collect()
+}
+
+/// The calls whose outcome is known, those with a NaN, and the first of a seed, that have room in the program: `count` solves, and twice
+/// as many passes. What they come to is said on the error stream.
 pub fn record(reference: &Reference, seed: u64, count: u64, folder: &Path) {
     let calls = || {
         known::cases()
             .into_iter()
+            .chain(with_nan())
             .chain((0..).map(|i| cases::nth(seed, i)))
             .filter(fits)
     };
@@ -96,6 +157,9 @@ pub fn record(reference: &Reference, seed: u64, count: u64, folder: &Path) {
         for case in calls {
             let given = expected(reference, &case);
             *outcomes.entry(named(&given)).or_default() += 1;
+            for kind in kinds(&case, &given) {
+                *outcomes.entry(kind.to_string()).or_default() += 1;
+            }
             list.row(&row(&case, &given));
         }
         for (outcome, times) in outcomes {

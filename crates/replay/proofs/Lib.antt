@@ -1,3 +1,4 @@
 mod Spell
 pub mod Fill
 mod Same
+mod Any

@@ -1,11 +1,12 @@
--- Rows of recorded words: doubles, corners and counts, and what has been seen of a list of rows. Definitions only.
-use Prim.Native.Nat.{ℕ, zero, suc, _+_, _%_, _^_}
+-- Rows of recorded words: doubles, corners and counts, and how far a list of rows has been read. Definitions only.
+use Prim.Native.Nat.{ℕ, zero, suc, _+_, _-_, _%_, _^_}
 use mathlib.Core.Bool.{Bool, true, false, cond}
 use mathlib.Core.List.{List, [], _∷_, _++_}
 use lib.Dec.{ltb}
+use lib.IntN.{ℤ}
 use lib.Ieee.{Float, binary64, ofBits, toBits}
 use Rattle.replay.specs.Words.{wordAt, sameDouble}
-use Rattle.replay.specs.declared.rows.Tally.{Tally}
+use Rattle.replay.specs.declared.rows.Reading.{Reading}
 
 -- f 0, f 1, .. , as many as are asked for
 unfoldable pub upTo : {A : Type 0} → (ℕ → A) → ℕ → List A
@@ -38,6 +39,25 @@ sameAll f (x ∷ a) (y ∷ b) = cond (f x y) (sameAll f a b) false
 abbrev pub next : ℕ → ℕ
 next n = (n + 1) % 2 ^ 64
 
+-- whether f holds of a number below n
+unfoldable pub anyOf : (ℕ → Bool) → ℕ → Bool
+anyOf f zero = false
+anyOf f (suc i) = cond (anyOf f i) true (f i)
+
+-- ---- a list that is being read
+
+-- nothing read yet
+abbrev pub begun : ℤ → Reading
+begun fd = record { fd = fd; left = 2 ^ 64 - 1; recorded = 0; differ = 0 }
+
+-- nothing left
+abbrev pub endedAt : Reading → Reading
+endedAt t = record { fd = t .fd; left = 0; recorded = t .recorded; differ = t .differ }
+
+-- a row that is not judged
+abbrev pub passedBy : Reading → Reading
+passedBy t = record { fd = t .fd; left = t .left - 1; recorded = t .recorded; differ = t .differ }
+
 -- a row more, which holds or differs
-abbrev pub judgedBy : Bool → Tally → Tally
-judgedBy b t = record { more = true; recorded = next (t .recorded); differ = cond b (t .differ) (next (t .differ)) }
+abbrev pub judgedBy : Bool → Reading → Reading
+judgedBy b t = record { fd = t .fd; left = t .left - 1; recorded = next (t .recorded); differ = cond b (t .differ) (next (t .differ)) }

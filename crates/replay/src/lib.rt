@@ -1,11 +1,12 @@
 // Recorded answers, for programs that replay them: a text of words, each 16 lowercase hex digits
 // and one byte that parts it from the next (a blank or a line feed).
 //
-// A program opens its list by `open`, reads it row by row, takes the words out by `word`, compares by
-// `same_double`, and prints its counts by `report`. Module `rows` has what rows of doubles and corners
-// need, and the tally of a list.
+// A program begins a list by `rows::begin`, reads it row by row, takes the words out by `word`, compares by
+// `same_double`, judges each row by `rows::judged`, and prints its counts by `report`. Module `rows` has what
+// rows of doubles and corners need.
 pub mod rows;
 
+use rows::Reading;
 ghost use mathlib.Core.Path.{_≡_};
 ghost use Prim.Native.Nat.{_<_};
 ghost use lib.ListN.{getD};
@@ -72,7 +73,7 @@ pub fn same_double(a: u64, b: u64) -> bool
 }
 
 // Opens a file of the folder that the program runs in, and answers a descriptor; where there is none, says so and answers -1.
-pub fn open(name: &[u8]) -> i32 {
+fn open(name: &[u8]) -> i32 {
     let fd = os::open_read(name);
     if fd < 0 {
         os::fail(name);
@@ -86,12 +87,17 @@ fn put_decimal(n: u64) {
     io::write_all(libc::STDOUT_FILENO, &out[..length]);
 }
 
-// Prints `NAME N recorded, M differ` as one line.
-pub fn report(name: &[u8], recorded: u64, differ: u64) {
-    io::write_all(libc::STDOUT_FILENO, name);
-    io::write_all(libc::STDOUT_FILENO, b" ");
-    put_decimal(recorded);
-    io::write_all(libc::STDOUT_FILENO, b" recorded, ");
-    put_decimal(differ);
-    io::write_all(libc::STDOUT_FILENO, b" differ\n");
+fn print(text: &[u8]) {
+    io::write_all(libc::STDOUT_FILENO, text);
+}
+
+// Prints `NAME N recorded, M differ` as one line, and closes the list.
+pub fn report(name: &[u8], at: Reading) {
+    print(name);
+    print(b" ");
+    put_decimal(at.recorded);
+    print(b" recorded, ");
+    put_decimal(at.differ);
+    print(b" differ\n");
+    libc::close(at.fd);
 }

@@ -1,14 +1,14 @@
-// Rows of a list, each of so many words: the next row of a file; doubles, corners and counts out of a row; slices compared; and what a program has
-// seen of a list so far.
+// Rows of a list, each of so many words: the next row of a file; doubles, corners and counts out of a row; slices compared; whether a row has a NaN or
+// some word; and how far a program has read a list.
 ghost use mathlib.Core.Path.{_≡_};
 ghost use mathlib.Core.Bool.{true, false};
-ghost use Prim.Native.Nat.{_+_, _*_, _≤_};
+ghost use Prim.Native.Nat.{_+_, _*_, _<_, _≤_};
 ghost use lib.Dec.{eqb};
 ghost use lib.ListN.{length};
 ghost use lib.Seq.{sets};
 ghost use Rattle.io.specs.Counts.{Counts};
-ghost use Rattle.replay.specs.Words.{wordAt};
-ghost use Rattle.replay.specs.Rows.{upTo, doubleAt, cornerAt, atMost, sameAs, sameAll, judgedBy};
+ghost use Rattle.replay.specs.Words.{wordAt, nanPattern};
+ghost use Rattle.replay.specs.Rows.{upTo, doubleAt, cornerAt, atMost, sameAs, sameAll, anyOf, begun, endedAt, passedBy, judgedBy};
 
 // The next row of so many words, at the front of a slice. How many bytes were read: 0 where the list has ended.
 pub fn next(fd: i32, words: usize, row: &mut [u8]) -> usize
@@ -116,50 +116,102 @@ pub fn same_numbers(a: &[u32], b: &[u32]) -> bool
     true
 }
 
-// What has been seen of a list, and whether it may hold more.
-pub struct Tally {
-    pub more: bool,
+// Whether one of n words, from word k on, is w.
+pub fn has_word(row: &[u8], k: usize, n: usize, w: u64) -> bool
+    requires { ⌜ k + n ≤ 0x1000_0000 ⌝ }
+    ensures { λ r. ⌜ r ≡ anyOf (λ i. eqb (wordAt (now (row .entry)) (k + i)) w) n ⌝ }
+{
+    let mut i = 0;
+    while i < n {
+        if crate::word(row, k + i) == w {
+            return true;
+        }
+        i += 1;
+    }
+    false
+}
+
+// Whether one of them is the pattern of a NaN.
+pub fn has_nan(row: &[u8], k: usize, n: usize) -> bool
+    requires { ⌜ k + n ≤ 0x1000_0000 ⌝ }
+    ensures { λ r. ⌜ r ≡ anyOf (λ i. nanPattern (wordAt (now (row .entry)) (k + i))) n ⌝ }
+{
+    let mut i = 0;
+    while i < n {
+        if crate::is_nan_pattern(crate::word(row, k + i)) {
+            return true;
+        }
+        i += 1;
+    }
+    false
+}
+
+// A list that is being read: its file, how many more rows may be read, how many were judged, and how many of those differ. What is left falls with each row and is 0
+// once the list has ended, so that a loop over a list is known to end.
+pub struct Reading {
+    pub fd: i32,
+    pub left: u64,
     pub recorded: u64,
     pub differ: u64,
 }
 
-// Nothing yet.
-pub fn unseen() -> Tally
-    ensures { λ r. ⌜ r ≡ record { more = true; recorded = 0; differ = 0 } ⌝ }
+// Opens a list of the folder that the program runs in; where there is none, says so, and no row will be read.
+pub fn begin(name: &[u8]) -> Reading
+    ensures { λ r. ⌜ r ≡ begun (r .fd) ⌝ }
 {
-    Tally {
-        more: true,
+    Reading {
+        fd: crate::open(name),
+        left: u64::MAX,
         recorded: 0,
         differ: 0,
     }
 }
 
-// No more, unless another row is seen.
-pub fn paused(seen: Tally) -> Tally
-    ensures { λ r. ⌜ r ≡ record { more = false; recorded = seen .recorded; differ = seen .differ } ⌝ }
+// The list has ended.
+pub fn ended(at: Reading) -> Reading
+    requires { ⌜ 0 < at .left ⌝ }
+    ensures { λ r. ⌜ (r ≡ endedAt at) × (r .left < at .left) ⌝ }
 {
-    Tally {
-        more: false,
-        recorded: seen.recorded,
-        differ: seen.differ,
+    Reading {
+        fd: at.fd,
+        left: 0,
+        recorded: at.recorded,
+        differ: at.differ,
+    }
+}
+
+// A row was passed over.
+pub fn passed(at: Reading) -> Reading
+    requires { ⌜ 0 < at .left ⌝ }
+    ensures { λ r. ⌜ (r ≡ passedBy at) × (r .left < at .left) ⌝ }
+{
+    Reading {
+        fd: at.fd,
+        left: at.left - 1,
+        recorded: at.recorded,
+        differ: at.differ,
     }
 }
 
 // One row more, which holds for the program too, or differs.
-pub fn judged(seen: Tally, holds: bool) -> Tally
-    ensures { λ r. ⌜ r ≡ judgedBy holds seen ⌝ }
+pub fn judged(at: Reading, holds: bool) -> Reading
+    requires { ⌜ 0 < at .left ⌝ }
+    ensures { λ r. ⌜ (r ≡ judgedBy holds at) × (r .left < at .left) ⌝ }
 {
-    let recorded = std::num::wrapping_add_u64(seen.recorded, 1);
-    let differ = seen.differ;
+    let left = at.left - 1;
+    let recorded = std::num::wrapping_add_u64(at.recorded, 1);
+    let differ = at.differ;
     if holds {
-        return Tally {
-            more: true,
+        return Reading {
+            fd: at.fd,
+            left,
             recorded,
             differ,
         };
     }
-    Tally {
-        more: true,
+    Reading {
+        fd: at.fd,
+        left,
         recorded,
         differ: std::num::wrapping_add_u64(differ, 1),
     }

@@ -1,12 +1,15 @@
 // Replays recorded answers on the leaves: sin, cos and atan2 against java.lang.StrictMath, the root against the processor's.
-// data/README.md says how the lists were made. Prints a line for each function: how many answers, and how many differ.
+// data/README.md says how the lists were made. A program: it prints a line for each function, how many answers and how many differ,
+// which the gate compares with the file stdout.
 use replay::rows;
-use replay::rows::Tally;
-ghost use Prim.Native.Nat.{_≤_};
+use replay::rows::Reading;
+ghost use mathlib.Core.Path.{_≡_};
+ghost use Prim.Native.Nat.{_<_, _≤_};
+ghost use Rattle.replay_leaves.specs.Leaves.{widthOf, holdsOf};
 
 // The words of a row: `x sin cos` for the functions 0 and 1, `y x atan2` for 2, `x sqrt` for 3.
 fn width(function: u64) -> usize
-    ensures { λ r. ⌜ r ≤ 256 ⌝ }
+    ensures { λ r. ⌜ (r ≡ widthOf function) × (r ≤ 256) ⌝ }
 {
     if function == 3 {
         return 2;
@@ -15,39 +18,44 @@ fn width(function: u64) -> usize
 }
 
 // Whether a row holds for the program too.
-fn holds(row: &[u8], function: u64) -> bool {
+fn holds(row: &[u8], function: u64) -> bool
+    ensures { λ r. ⌜ r ≡ holdsOf function (now (row .entry)) ⌝ }
+{
     let x = rows::double(row, 0);
     let b = rows::double(row, 1);
     let c = rows::double(row, 2);
-    match function {
-        0 => rows::same(sine::sin(x), b),
-        1 => rows::same(sine::cos(x), c),
-        2 => rows::same(arctangent::atan2(x, b), c),
-        _ => rows::same(root::sqrt(x), b),
+    if function == 0 {
+        return rows::same(sine::sin(x), b);
     }
+    if function == 1 {
+        return rows::same(sine::cos(x), c);
+    }
+    if function == 2 {
+        return rows::same(arctangent::atan2(x, b), c);
+    }
+    rows::same(root::sqrt(x), b)
 }
 
 // The next row of a list.
-fn some(fd: i32, function: u64, seen: Tally) -> Tally {
+fn some(at: Reading, function: u64) -> Reading
+    requires { ⌜ 0 < at .left ⌝ }
+    ensures { λ r. ⌜ r .left < at .left ⌝ }
+{
     let mut row = [0u8; 4352];
-    let n = rows::next(fd, width(function), &mut row);
+    let n = rows::next(at.fd, width(function), &mut row);
     if n == 0 {
-        return rows::paused(seen);
+        return rows::ended(at);
     }
-    rows::judged(seen, holds(&row[..n], function))
+    rows::judged(at, holds(&row[..n], function))
 }
 
-// The whole list. The iterations only fall so that the loop is known to end.
+// The whole list.
 fn all_of(list: &[u8], name: &[u8], function: u64) {
-    let fd = replay::open(list);
-    let mut seen = rows::unseen();
-    let mut iterations = u64::MAX;
-    while iterations > 0 && seen.more {
-        seen = some(fd, function, seen);
-        iterations -= 1;
+    let mut at = rows::begin(list);
+    while at.left > 0 {
+        at = some(at, function);
     }
-    replay::report(name, seen.recorded, seen.differ);
-    libc::close(fd);
+    replay::report(name, at);
 }
 
 fn main() {

@@ -1,14 +1,16 @@
 // Replays the reference's conjugate gradient and normalize_in_mass on recorded systems of at most 16 rows and 40 edges.
-// data/README.md says how the list was made. Prints how many answers there are, and how many differ.
+// data/README.md says how the list was made. A program: it prints how many answers there are and how many differ, which the gate compares
+// with the file stdout.
 use linear_conjugate_gradient::Answer;
 use linear_conjugate_gradient::Normalized;
 use linear_conjugate_gradient::Reason;
 use linear_layers::Checked;
 use replay::rows;
-use replay::rows::Tally;
+use replay::rows::Reading;
 ghost use mathlib.Core.Path.{_≡_};
 ghost use Prim.Native.Nat.{_+_, _<_, _≤_};
 ghost use lib.ListN.{length};
+ghost use Rattle.replay_linear.specs.Verdict.{toldAs, ofReason, ofAnswer, ofNormalized, ofChecked, endIn};
 
 // The words of a recorded system, and where its parts begin.
 const WIDTH: usize = 240;
@@ -19,11 +21,15 @@ struct Verdict {
     value: u64,
 }
 
-fn told(reason: u64, value: u64) -> Verdict {
+fn told(reason: u64, value: u64) -> Verdict
+    ensures { λ r. ⌜ r ≡ toldAs reason value ⌝ }
+{
     Verdict { reason, value }
 }
 
-fn told_reason(r: Reason) -> Verdict {
+fn told_reason(r: Reason) -> Verdict
+    ensures { λ v. ⌜ v ≡ ofReason r ⌝ }
+{
     match r {
         Reason::RightHandNorm => told(3, 0),
         Reason::Diagonal(i) => told(4, i as u64),
@@ -35,21 +41,27 @@ fn told_reason(r: Reason) -> Verdict {
     }
 }
 
-fn told_answer(a: Answer) -> Verdict {
+fn told_answer(a: Answer) -> Verdict
+    ensures { λ r. ⌜ r ≡ ofAnswer a ⌝ }
+{
     match a {
         Answer::Iterate(count) => told(0, count as u64),
         Answer::GaveUp(r) => told_reason(r),
     }
 }
 
-fn told_normalized(a: Normalized) -> Verdict {
+fn told_normalized(a: Normalized) -> Verdict
+    ensures { λ r. ⌜ r ≡ ofNormalized a ⌝ }
+{
     match a {
         Normalized::Done => told(0, 0),
         Normalized::GaveUp(r) => told_reason(r),
     }
 }
 
-fn told_checked(c: Checked) -> Verdict {
+fn told_checked(c: Checked) -> Verdict
+    ensures { λ r. ⌜ r ≡ ofChecked c ⌝ }
+{
     match c {
         Checked::Refused => told(255, 0),
         Checked::Solved(a) => told_answer(a),
@@ -73,7 +85,9 @@ fn load(work: &mut [f64], to: usize, row: &[u8], k: usize, n: usize)
 }
 
 // One end of an edge: the upper or the lower half of its word.
-fn end_of(word: u64, upper: bool) -> u64 {
+fn end_of(word: u64, upper: bool) -> u64
+    ensures { λ r. ⌜ r ≡ endIn word upper ⌝ }
+{
     if upper {
         return word / 0x1_0000_0000;
     }
@@ -206,24 +220,27 @@ fn holds(row: &[u8]) -> bool {
 }
 
 // The next system.
-fn some(fd: i32, seen: Tally) -> Tally {
+fn some(at: Reading) -> Reading
+    requires { ⌜ 0 < at .left ⌝ }
+    ensures { λ r. ⌜ r .left < at .left ⌝ }
+{
     let mut row = [0u8; 4352];
-    let n = rows::next(fd, WIDTH, &mut row);
+    let n = rows::next(at.fd, WIDTH, &mut row);
     if n == 0 {
-        return rows::paused(seen);
+        return rows::ended(at);
     }
-    rows::judged(seen, holds(&row[..n]))
+    rows::judged(at, holds(&row[..n]))
 }
 
-// The whole list. The iterations only fall so that the loop is known to end.
-fn main() {
-    let fd = replay::open(b"systems");
-    let mut seen = rows::unseen();
-    let mut iterations = u64::MAX;
-    while iterations > 0 && seen.more {
-        seen = some(fd, seen);
-        iterations -= 1;
+// The whole list.
+fn all_of(name: &[u8]) {
+    let mut at = rows::begin(name);
+    while at.left > 0 {
+        at = some(at);
     }
-    replay::report(b"systems", seen.recorded, seen.differ);
-    libc::close(fd);
+    replay::report(name, at);
+}
+
+fn main() {
+    all_of(b"systems");
 }

@@ -1,10 +1,14 @@
 // Replays the reference's answers on refinement, and on guidance at the midpoint of a cut side.
-// data/README.md says how the lists were made. Prints a line for each list: how many answers, and how many differ.
+// data/README.md says how the lists were made. A program: it prints a line for each list, how many answers and how many differ, which the
+// gate compares with the file stdout.
 mod floors;
 
 use replay::rows;
-use replay::rows::Tally;
-ghost use Prim.Native.Nat.{_≤_};
+use replay::rows::Reading;
+ghost use mathlib.Core.Path.{_≡_};
+ghost use Prim.Native.Nat.{_<_, _≤_};
+ghost use Rattle.guidance.specs.Guidance.{midAngle};
+ghost use Rattle.replay.specs.Rows.{doubleAt, sameAs};
 
 // The words of a row of each list.
 fn width(list: u64) -> usize
@@ -17,7 +21,9 @@ fn width(list: u64) -> usize
 }
 
 // The angles of two ends; the angle at the midpoint.
-fn guidance_row(row: &[u8]) -> bool {
+fn guidance_row(row: &[u8]) -> bool
+    ensures { λ r. ⌜ r ≡ sameAs (midAngle (doubleAt (now (row .entry)) 0) (doubleAt (now (row .entry)) 1)) (doubleAt (now (row .entry)) 2) ⌝ }
+{
     let low = rows::double(row, 0);
     let high = rows::double(row, 1);
     rows::same(
@@ -35,26 +41,25 @@ fn holds(row: &[u8], list: u64) -> bool {
 }
 
 // The next row of a list.
-fn some(fd: i32, list: u64, seen: Tally) -> Tally {
+fn some(at: Reading, list: u64) -> Reading
+    requires { ⌜ 0 < at .left ⌝ }
+    ensures { λ r. ⌜ r .left < at .left ⌝ }
+{
     let mut row = [0u8; 4352];
-    let n = rows::next(fd, width(list), &mut row);
+    let n = rows::next(at.fd, width(list), &mut row);
     if n == 0 {
-        return rows::paused(seen);
+        return rows::ended(at);
     }
-    rows::judged(seen, holds(&row[..n], list))
+    rows::judged(at, holds(&row[..n], list))
 }
 
-// The whole list. The iterations only fall so that the loop is known to end.
+// The whole list.
 fn all_of(name: &[u8], list: u64) {
-    let fd = replay::open(name);
-    let mut seen = rows::unseen();
-    let mut iterations = u64::MAX;
-    while iterations > 0 && seen.more {
-        seen = some(fd, list, seen);
-        iterations -= 1;
+    let mut at = rows::begin(name);
+    while at.left > 0 {
+        at = some(at, list);
     }
-    replay::report(name, seen.recorded, seen.differ);
-    libc::close(fd);
+    replay::report(name, at);
 }
 
 fn main() {

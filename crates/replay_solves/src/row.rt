@@ -4,7 +4,9 @@ use pass::Asked;
 use pass_options::BoundaryMode;
 use pass_options::Options;
 use replay::rows;
+ghost use mathlib.Core.Path.{_≡_};
 ghost use Prim.Native.Nat.{_≤_};
+ghost use Rattle.replay_solves.specs.Row.{quarterAt, countAt, givenDoubles, hasNan, hasMinusZero};
 
 // Where the parts that are as long as counted begin.
 const PARTS: usize = 13;
@@ -15,19 +17,25 @@ const MARK: f64 = -7.5;
 const MARK_U32: u32 = 0xdead_beef;
 
 // A quarter of word k; the uppermost is 0.
-fn quarter(row: &[u8], k: usize, i: u64) -> u64 {
+fn quarter(row: &[u8], k: usize, i: u64) -> u64
+    ensures { λ r. ⌜ r ≡ quarterAt (now (row .entry)) k i ⌝ }
+{
     let w = replay::word(row, k);
-    match i {
-        0 => w / 0x1_0000_0000_0000,
-        1 => (w / 0x1_0000_0000) % 0x1_0000,
-        2 => (w / 0x1_0000) % 0x1_0000,
-        _ => w % 0x1_0000,
+    if i == 0 {
+        return w / 0x1_0000_0000_0000;
     }
+    if i == 1 {
+        return (w / 0x1_0000_0000) % 0x1_0000;
+    }
+    if i == 2 {
+        return (w / 0x1_0000) % 0x1_0000;
+    }
+    w % 0x1_0000
 }
 
 // The count that a quarter of word k gives, at most `most`.
 fn count(row: &[u8], k: usize, i: u64, most: usize) -> usize
-    ensures { λ r. ⌜ r ≤ most ⌝ }
+    ensures { λ r. ⌜ (r ≡ countAt (now (row .entry)) k i most) × (r ≤ most) ⌝ }
 {
     rows::at_most(quarter(row, k, i) as usize, most)
 }
@@ -238,4 +246,30 @@ pub fn holds(row: &[u8]) -> bool {
     rows::doubles(row, g, t - g, &mut angles);
     rows::corners(row, t, end - t, &mut tris);
     given(row, end, &points, &tris, &sizes, &angles)
+}
+
+// How many numbers of points, sizes and guidance angles are given.
+fn given_doubles(row: &[u8]) -> usize
+    ensures { λ r. ⌜ (r ≡ givenDoubles (now (row .entry))) × (r ≤ 72) ⌝ }
+{
+    count(row, 1, 0, 40) + count(row, 1, 2, 16) + count(row, 1, 3, 16)
+}
+
+// Whether a weight, an option, a coordinate, a size or a guidance angle is NaN.
+pub fn has_nan(row: &[u8]) -> bool
+    ensures { λ r. ⌜ r ≡ hasNan (now (row .entry)) ⌝ }
+{
+    if rows::has_nan(row, 4, 6) {
+        return true;
+    }
+    rows::has_nan(row, PARTS, given_doubles(row))
+}
+
+// Whether an angle of the recorded answer is -0.
+pub fn has_minus_zero(row: &[u8]) -> bool
+    ensures { λ r. ⌜ r ≡ hasMinusZero (now (row .entry)) ⌝ }
+{
+    let k = PARTS + given_doubles(row) + count(row, 1, 1, 40);
+    let n = count(row, 3, 3, 24) + count(row, 11, 3, 64);
+    rows::has_word(row, k, n, 0x8000_0000_0000_0000)
 }

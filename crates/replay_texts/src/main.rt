@@ -1,8 +1,8 @@
 // Replays texts of refine.in, good and damaged, with what they must print. data/README.md says how the list was made.
-// Prints how many there are, and how many differ.
+// A program: it prints how many there are and how many differ, which the gate compares with the file stdout.
 use replay::rows;
-use replay::rows::Tally;
-ghost use Prim.Native.Nat.{_≤_};
+use replay::rows::Reading;
+ghost use Prim.Native.Nat.{_<_, _≤_};
 ghost use lib.ListN.{length};
 
 // What the bytes behind the answer hold before and after.
@@ -68,29 +68,32 @@ fn entry(fd: i32, text: usize, must: usize) -> bool
 }
 
 // The next entry: a line with its two lengths, the text, what it must print. A list that ends within such a line has one that differs.
-fn some(fd: i32, seen: Tally) -> Tally {
+fn some(at: Reading) -> Reading
+    requires { ⌜ 0 < at .left ⌝ }
+    ensures { λ r. ⌜ r .left < at .left ⌝ }
+{
     let mut head = [0u8; 13];
-    let n = io::read_full(fd, &mut head);
+    let n = io::read_full(at.fd, &mut head);
     if n == 0 {
-        return rows::paused(seen);
+        return rows::ended(at);
     }
     if n != 13 {
-        return rows::paused(rows::judged(seen, false));
+        return rows::judged(at, false);
     }
     let text = length_in(&head[0..6], 20000);
     let must = length_in(&head[6..12], 29500);
-    rows::judged(seen, entry(fd, text, must))
+    rows::judged(at, entry(at.fd, text, must))
 }
 
-// The whole list. The iterations only fall so that the loop is known to end.
-fn main() {
-    let fd = replay::open(b"texts");
-    let mut seen = rows::unseen();
-    let mut iterations = u64::MAX;
-    while iterations > 0 && seen.more {
-        seen = some(fd, seen);
-        iterations -= 1;
+// The whole list.
+fn all_of(name: &[u8]) {
+    let mut at = rows::begin(name);
+    while at.left > 0 {
+        at = some(at);
     }
-    replay::report(b"texts", seen.recorded, seen.differ);
-    libc::close(fd);
+    replay::report(name, at);
+}
+
+fn main() {
+    all_of(b"texts");
 }

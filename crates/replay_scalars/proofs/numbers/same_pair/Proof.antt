@@ -1,0 +1,19 @@
+-- `replay_scalars::numbers::same_pair` meets its contract: what is called answers by its definition, and each test decides its arm.
+use borrow.Author.Needs.{needs}
+use Rattle.replay_scalars.proofs.numbers.same_pair.Statement.{statement}
+use Rattle.replay_scalars.proofs.numbers.same_pair.Tie as tie
+
+same-requires : tie.Need-same-requires
+same-requires c κs = search needs
+
+same-requires-2 : tie.Need-same-requires-2
+same-requires-2 c κs = search needs
+
+returns : tie.Need-returns
+returns c = simp (← c .before .before .same .ensures, c .before .if1 .taken, c .same2 .ensures)
+
+returns-2 : tie.Need-returns-2
+returns-2 c = simp (← c .before .same .ensures, c .if1 .left)
+
+pub same-pair-spec : {M : Type 1} → statement M
+same-pair-spec = tie.close (tie.spec same-requires same-requires-2 returns returns-2)
