@@ -1,5 +1,5 @@
 // Complex numbers by value, as in the Rust, and the two functions that turn them to angles:
-// `cross_angle`, the angle of a cross in [0, FRAC_PI_2), and `wrap_to_pi`, an angle in (-PI, PI].
+// `cross_angle`, the angle of a cross in [0, FRAC_PI_2), and `wrap_to_pi`, an angle in (-PI, PI]. Module guidance has the angle at a midpoint.
 pub mod guidance;
 
 ghost use mathlib.Core.Path.{_≡_};

@@ -7,7 +7,7 @@ use replay::rows;
 use replay::rows::Reading;
 ghost use mathlib.Core.Path.{_≡_};
 ghost use Prim.Native.Nat.{_<_, _≤_};
-ghost use Rattle.guidance.specs.Guidance.{midAngle};
+ghost use Rattle.complex.specs.Guidance.{midAngle};
 ghost use Rattle.replay.specs.Rows.{doubleAt, sameAs};
 
 // The words of a row of each list.

@@ -1,5 +1,4 @@
 -- `replay_linear::end_of` meets its contract: the test decides both arms.
-use borrow.Author.Needs.{needs}
 use Rattle.replay_linear.proofs.end_of.Statement.{statement}
 use Rattle.replay_linear.proofs.end_of.Tie as tie
 
