@@ -1,6 +1,6 @@
 -- Row 19 refuses a triangle with two corners at one point, so an accepted one has three different corners (`three-corners`); and the exchange of
 -- the second and third corner changes nothing in what triangle_geometry answers (`exchanged`): the orientation is negated, or both orientations are flat and both refused.
--- Positions are any: midpoints may overflow, and a NaN or an infinity changes nothing. No value is computed: a orientation is flat (NaN, or a zero) where two
+-- Positions are any: midpoints may overflow, and a NaN or an infinity changes nothing. No value is computed: an orientation is flat (NaN, or a zero) where two
 -- corners meet. The area of a NaN orientation is no finite number. A zero orientation has numbers for its differences, so that the sides from the first corner are numbers
 -- too, the longest one also, which drops a NaN; and its area is at most any such longest side's share.
 use mathlib.Core.Path.{_≡_, refl, sym, ap, _∙_, subst}

@@ -6,7 +6,7 @@ ghost use Rattle.geometry.specs.Edge.{transportAngle, transportOf, align
 use complex::Complex;
 use plane::Pair;
 
-// A triangle whose corners i, j, k at p, q, r orientation counter-clockwise.
+// A triangle whose corners i, j, k at p, q, r turn counter-clockwise.
 pub struct TriangleGeometry {
     pub i: usize,
     pub j: usize,
@@ -124,7 +124,7 @@ pub enum Transport {
     MeanSize(usize, usize),
 }
 
-// The angle by which the frame orientations from a to b where the edge's mean size is sigma.
+// The angle by which the frame turns from a to b where the edge's mean size is sigma.
 fn transport_angle(a: End, b: End, sigma: f64) -> f64
     ensures { λ r. ⌜ r ≡ transportAngle a b sigma ⌝ }
 {

@@ -1,4 +1,4 @@
--- How the work slices hold a floor and the two matrices, what the functions require of them, and the turns of the loop on lists. Definitions only.
+-- How the work slices hold a floor and the two matrices, what the functions require of them, and the iterations of the loop on lists. Definitions only.
 use Prim.Native.Nat.{ℕ, _+_, _*_, _≤_, _<_}
 use mathlib.Core.Path.{_≡_}
 use mathlib.Core.Bool.{cond}

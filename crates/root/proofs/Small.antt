@@ -1,4 +1,4 @@
--- The digits and the exponentOf of a subnormal, at which the loop of `root_small` ends, and those of a normal pattern: so `Value.antt` says of the root of every finite double above 0 between which squares it lies. Assumes nothing.
+-- The digits and the exponent of a subnormal, at which the loop of `root_small` ends, and those of a normal pattern: so `Value.antt` says of the root of every finite double above 0 between which squares it lies. Assumes nothing.
 use mathlib.Core.Path.{_≡_, refl, sym, ap, _∙_, subst}
 use Prim.Native.Nat.{ℕ, zero, suc, _+_, _-_, _*_, _/_, _%_, _^_, _≤_, _<_}
 use native.Mathlib.Nat.{mul-one, mul-assoc, mul-comm, mul-pos, le-trans, le-of-eq, lt-of-lt-of-le, mul-lt-mul-of-pos-right, mul-le-mul-right, zero-mul, pow-suc}
@@ -58,8 +58,8 @@ doubling-start b h = record { d = 53 - size b; is = refl; at = count (size b) (s
     count : (n : ℕ) → n ≤ 52 → 1076 ≡ n + 1023 + (53 - n)
     count n l = omega arith
 
-pub doubling-turn : (s p c x : ℕ) → 2 ^ 52 ≤ s → Doubling s p c x → c < 2 ^ 52 → Doubling s p (c * 2) (x - 1)
-doubling-turn s p c x g w l = go (w .d) (w .is) (w .at)
+pub doubling-step : (s p c x : ℕ) → 2 ^ 52 ≤ s → Doubling s p c x → c < 2 ^ 52 → Doubling s p (c * 2) (x - 1)
+doubling-step s p c x g w l = go (w .d) (w .is) (w .at)
   where
     go : (d : ℕ) → c * 2 ^ d ≡ s → x ≡ p + d → Doubling s p (c * 2) (x - 1)
     go zero e f = absurd (omega (arith, mul-one c))

@@ -1,4 +1,4 @@
--- A column byte by byte: what the loops of `scan_column` and `put_columns` keep, and the six six-bytes of a column. Assumes nothing.
+-- A column byte by byte: what the loops of `scan_column` and `put_columns` keep, and the six bytes of a column. Assumes nothing.
 use Prim.Native.Nat.{ℕ, zero, suc, _+_, _-_, _*_, _/_, _%_, _^_, _≤_, _<_}
 use native.Mathlib.Omega.{arith}
 use native.Mathlib.Nat.{pow-suc}
@@ -82,7 +82,7 @@ pub scan-again : (l : List ℕ) (i : ℕ) {s s′ : Scan} → s ≡ scan l i →
 unfolding scan
 scan-again l i e h = rw (add-one i) (rw e at h)
 
--- ---- the six six-bytes of a column
+-- ---- the six bytes of a column
 
 pub blanks : (w : ℕ) → lead false w 0 ≡ replicate w 32
 unfolding lead

@@ -1,4 +1,4 @@
--- `arctangent::place` meets its contract: the arms of `inQuadrant`; turning the sign's bit of a double negates it. Assumes nothing.
+-- `arctangent::in_quadrant` meets its contract: the arms of `inQuadrant`; turning the sign's bit of a double negates it. Assumes nothing.
 use mathlib.Core.Path.{sym, subst}
 use lib.Dec.{T}
 use Rattle.float.proofs.Facts.{sign-turned}

@@ -1,4 +1,4 @@
--- `mesh::half_sum` is safe: what it calls asks holds where it is called.
+-- `mesh::half_sum` meets its contract: the definition is its body.
 use borrow.Author.Needs.{needs}
 use lib.Ieee.{mul}
 use Rattle.mesh.specs.Area.{halfway}

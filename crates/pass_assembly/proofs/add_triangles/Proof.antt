@@ -1,4 +1,4 @@
--- `pass_assembly::add_triangles` meets its contract: the loop keeps what `Inv-loop` says, and what is left to do falls at each turn; the laws are in proofs/Rounds.
+-- `pass_assembly::add_triangles` meets its contract: the loop keeps what `Inv-loop` says, and what is left to do falls at each iteration; the laws are in proofs/Rounds.
 use native.Mathlib.Omega.{arith}
 use Rattle.pass_assembly.proofs.Rounds.{to-again, to-done}
 use Rattle.pass_assembly.specs.Work.{assembledTo}

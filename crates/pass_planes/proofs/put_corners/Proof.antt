@@ -1,4 +1,4 @@
--- `pass_planes::put_corners` meets its contract: the loop keeps what `Inv-loop` says, and what is left to do falls at each turn; the laws are those of crate linear_cells.
+-- `pass_planes::put_corners` meets its contract: the loop keeps what `Inv-loop` says, and what is left to do falls at each iteration; the laws are those of crate linear_cells.
 use Rattle.pass_planes.proofs.Points.{list-done}
 use Rattle.linear_cells.specs.Region.{put}
 use Rattle.linear_cells.proofs.Writes.{writeTo, write-none, write-again, write-done}

@@ -1,4 +1,4 @@
--- `pass_transports::transports` meets its contract: the loop keeps what `Inv-loop` says, and what is left to do falls at each turn; the laws are in proofs/Steps.
+-- `pass_transports::transports` meets its contract: the loop keeps what `Inv-loop` says, and what is left to do falls at each iteration; the laws are in proofs/Steps.
 use Rattle.pass_transports.proofs.Steps.{To, to-none, to-length, to-more, to-found, to-done, transported-length}
 use lib.ListN.{length}
 use mathlib.Core.Path.{refl}

@@ -1,4 +1,4 @@
--- `probe::all_finite` meets its contract: the loop keeps what `Inv-loop` says, and what is left to do falls at each turn; the laws are in proofs/Kept.
+-- `probe::all_finite` meets its contract: the loop keeps what `Inv-loop` says, and what is left to do falls at each iteration; the laws are in proofs/Kept.
 use mathlib.Core.Path.{sym, _∙_, _≡_}
 use Rattle.probe.proofs.Kept.{every-none, every-more, every-fail, every-done}
 use lib.ListN.{length, drop}

@@ -1,4 +1,4 @@
--- `probe::all_taken` meets its contract: the loop keeps what `Inv-loop` says, and what is left to do falls at each turn; the laws are in proofs/Kept.
+-- `probe::all_taken` meets its contract: the loop keeps what `Inv-loop` says, and what is left to do falls at each iteration; the laws are in proofs/Kept.
 use Rattle.probe.proofs.Kept.{every-none, every-more, every-fail, every-done}
 use lib.ListN.{length, drop}
 use Prim.Native.Nat.{_-_}

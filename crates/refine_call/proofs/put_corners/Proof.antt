@@ -1,4 +1,4 @@
--- `refine_call::put_corners` meets its contract: the loop keeps what `Inv-loop` says, and what is left to do falls at each turn; the law is one of crate refine_floor.
+-- `refine_call::put_corners` meets its contract: the loop keeps what `Inv-loop` says, and what is left to do falls at each iteration; the law is one of crate refine_floor.
 use borrow.Author.Needs.{needs}
 use Prim.Native.Nat.{_-_, _≤_}
 use mathlib.Core.Path.{_≡_, refl, _∙_}

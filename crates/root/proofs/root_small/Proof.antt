@@ -1,9 +1,9 @@
--- `root::root_small` meets its contract: the doublings that are to come lead to the definition's digits and exponentOf. Assumes nothing.
+-- `root::root_small` meets its contract: the doublings that are to come lead to the definition's digits and exponent. Assumes nothing.
 use mathlib.Core.Path.{_∙_}
 use Prim.Native.Nat.{_+_}
 use native.Mathlib.Omega.{arith}
 use lib.Ieee.{size}
-use Rattle.root.proofs.Small.{filled, filled-ge, Doubling, doubling-start, doubling-turn, doubled-root, doubled-fits}
+use Rattle.root.proofs.Small.{filled, filled-ge, Doubling, doubling-start, doubling-step, doubled-root, doubled-fits}
 use Rattle.root.proofs.root_small.Statement.{statement}
 use Rattle.root.proofs.root_small.Tie as tie
 
@@ -29,7 +29,7 @@ loop-again : tie.Need-loop-again Inv-loop μ-loop
 loop-again c =
     let at-start = c .before .before in
     let b = at-start .args .b in
-    doubling-turn (filled b) (size b + 1023) (c .before .loop .c) (c .before .loop .x) (filled-ge b (at-start .pre .0) (at-start .pre .1)) (c .before .loop .inv) (c .loop-test .taken)
+    doubling-step (filled b) (size b + 1023) (c .before .loop .c) (c .before .loop .x) (filled-ge b (at-start .pre .0) (at-start .pre .1)) (c .before .loop .inv) (c .loop-test .taken)
 
 root-at-requires : tie.Need-root-at-requires Inv-loop μ-loop
 root-at-requires c κs = doubled-fits (c .before .before .args .b) (c .before .loop .c) (c .before .loop .x) (c .before .before .pre .1) (c .before .loop .inv) (c .loop-test .left)

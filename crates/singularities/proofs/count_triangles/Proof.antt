@@ -1,4 +1,4 @@
--- `singularities::count_triangles` meets its contract: the loop keeps what `Inv-loop` says, and what is left to do falls at each turn; the laws are in proofs/Count.
+-- `singularities::count_triangles` meets its contract: the loop keeps what `Inv-loop` says, and what is left to do falls at each iteration; the laws are in proofs/Count.
 use native.Mathlib.Nat.{le-antisymm}
 use Rattle.singularities.specs.Count.{countOf}
 use mir.Facts.{toZ-ofZ}

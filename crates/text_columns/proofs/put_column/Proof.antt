@@ -1,4 +1,4 @@
--- `text_columns::put_column` meets its contract: the six six-bytes of a column. Assumes nothing.
+-- `text_columns::put_column` meets its contract: the six bytes of a column. Assumes nothing.
 use borrow.Author.Needs.{needs}
 use mathlib.Core.Path.{refl, _∙_}
 use Rattle.text_columns.proofs.Columns.{six-bytes}

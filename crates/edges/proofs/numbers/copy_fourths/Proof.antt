@@ -1,4 +1,4 @@
--- `edges::numbers::copy_fourths` meets its contract: the loop keeps what `Inv-loop` says, and what is left to do falls at each turn; the laws are in proofs/Split.
+-- `edges::numbers::copy_fourths` meets its contract: the loop keeps what `Inv-loop` says, and what is left to do falls at each iteration; the laws are in proofs/Split.
 use Prim.Native.Nat.{ℕ, _-_, _≤_}
 use native.Mathlib.Omega.{arith}
 use mathlib.Core.Path.{_≡_, refl, ap, _∙_}

@@ -1,4 +1,4 @@
--- `edges::numbers::count_all` meets its contract: the loop keeps what `Inv-loop` says, and what is left to do falls at each turn; the laws are in proofs/Numbering.
+-- `edges::numbers::count_all` meets its contract: the loop keeps what `Inv-loop` says, and what is left to do falls at each iteration; the laws are in proofs/Numbering.
 use borrow.Author.Needs.{needs}
 use Rattle.edges.proofs.Numbering.{counted-more, count-room}
 use Rattle.edges.specs.Numbering.{Counted}
