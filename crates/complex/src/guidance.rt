@@ -6,7 +6,7 @@ ghost use Rattle.complex.specs.Guidance.{fourfold, normOf, meanOr, midAn
 pub fn fourfold_direction(angle: f64) -> Complex
     ensures { λ r. ⌜ r ≡ fourfold angle ⌝ }
 {
-    Complex::from_angle(4.0 * angle)
+    Complex::from_angle(crate::FIELD_SYMMETRY * angle)
 }
 
 pub fn norm(z: Complex) -> f64

@@ -6,6 +6,12 @@ ghost use mathlib.Core.Path.{_≡_};
 ghost use Rattle.complex.specs.Complex.{cnew, fromAngle, cadd, csub, cmul, cscale, cconj, isZero, argumentOf};
 ghost use Rattle.complex.specs.Angle.{crossAngle, wrapToPi, IsCross, WrapRange};
 
+// A cross has four directions: its angle stands for the argument of the fourth power.
+pub const FIELD_SYMMETRY: f64 = 4.0;
+
+// The size of the largest angle that is taken.
+pub const LARGEST_ANGLE: f64 = 131072.0;
+
 pub struct Complex {
     pub re: f64,
     pub im: f64,
@@ -102,7 +108,7 @@ pub fn cross_angle(value: Complex) -> f64
     ensures { λ r. ⌜ r ≡ crossAngle value ⌝ }
     ensures range { λ r. ⌜ IsCross r ⌝ }
 {
-    let angle = float::rem_euclid(value.argument() / 4.0, float::FRAC_PI_2);
+    let angle = float::rem_euclid(value.argument() / FIELD_SYMMETRY, float::FRAC_PI_2);
     if 0.0 <= angle {
         if angle < float::FRAC_PI_2 {
             return angle;

@@ -47,11 +47,14 @@ fn slot(n: usize, a: u32, b: u32) -> usize
     low % n
 }
 
+// Above every point of a refined floor, so that the upper end's digits come first in a path.
+const PATH_BASE: usize = 0x2_0000;
+
 // The path of a side.
 fn path(a: u32, b: u32) -> usize
     ensures { λ r. ⌜ r ≡ pathOf a b ⌝ }
 {
-    mesh::index(a) * 0x2_0000 + mesh::index(b)
+    mesh::index(a) * PATH_BASE + mesh::index(b)
 }
 
 // Where the row of side k begins: its lower end, its upper end, two links.

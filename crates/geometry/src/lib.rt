@@ -149,7 +149,7 @@ pub fn transport_coefficient(a: End, b: End) -> Transport
     if sigma <= 0.0 {
         return Transport::MeanSize(a.vertex, b.vertex);
     }
-    let rho = -4.0 * transport_angle(a, b, sigma);
+    let rho = -complex::FIELD_SYMMETRY * transport_angle(a, b, sigma);
     Transport::Coefficient(Complex::from_angle(rho))
 }
 

@@ -11,11 +11,6 @@ use pass::Asked;
 use pass_options::BoundaryMode;
 use pass_options::Options;
 
-// Row 1's limits.
-const MOST_POINTS: usize = 16384;
-
-const MOST_TRIANGLES: usize = 32768;
-
 // The boundary modes as numbers.
 const NONE: f64 = 0.0;
 
@@ -130,13 +125,13 @@ pub struct Most {
 fn most_of(n: usize, triangles: usize, threshold: f64) -> Most
     ensures { λ r. ⌜ (r ≡ mostOf n triangles threshold) × ((r .points ≤ 114688) × (r .triangles ≤ 131072)) ⌝ }
 {
-    if n > MOST_POINTS {
+    if n > floor::MOST_POINTS {
         return Most {
             points: 0,
             triangles: 0,
         };
     }
-    if triangles > MOST_TRIANGLES {
+    if triangles > floor::MOST_TRIANGLES {
         return Most {
             points: 0,
             triangles: 0,

@@ -1,4 +1,4 @@
--- The numbers that the integrals' series and closed forms name, each by its bit pattern: n360 is 360. Definitions only.
+-- The numbers that the integrals' series and closed forms name, each by its bit pattern: n360 is 360, as proofs/Consts.antt shows. Definitions only.
 use lib.Ieee.{Float}
 use Rattle.float.specs.Double.{lit}
 

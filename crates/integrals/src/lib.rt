@@ -28,11 +28,14 @@ pub enum Factors {
     Closed(Closed),
 }
 
-// Whether the series serve: strictly below 0.1.
+// Below it both integrals are made by series, since the closed forms cancel there.
+const INTEGRAL_SERIES_THRESHOLD: f64 = 0.1;
+
+// Whether the series serve: strictly below the threshold.
 fn by_series(omega: f64) -> bool
     ensures { λ r. ⌜ r ≡ bySeries omega ⌝ }
 {
-    float::abs(omega) < 0.1
+    float::abs(omega) < INTEGRAL_SERIES_THRESHOLD
 }
 
 fn series_of(omega: f64) -> Series

@@ -48,14 +48,11 @@ fn bad_boundary(boundary: BoundaryMode) -> bool
     }
 }
 
-// Row 17's limit.
-const LARGEST_ANGLE: f64 = 131072.0;
-
 // Row 17, of one angle.
 fn too_large(x: f64) -> bool
     ensures { λ r. ⌜ r ≡ tooLarge x ⌝ }
 {
-    float::abs(x) > LARGEST_ANGLE
+    float::abs(x) > complex::LARGEST_ANGLE
 }
 
 fn not_finite_at(angles: &[f64], i: usize) -> bool

@@ -17,7 +17,7 @@ ghost use Rattle.pass_soft.specs.Work.{GuideRoom, SoftRoom, guidedIn, al
 fn target_at(angle: f64) -> Complex
     ensures { λ r. ⌜ r ≡ targetAt angle ⌝ }
 {
-    Complex::from_angle(4.0 * angle)
+    Complex::from_angle(complex::FIELD_SYMMETRY * angle)
 }
 
 fn guide_at(work: &mut [f64], theta: usize, target: usize, n: usize, i: usize)

@@ -206,15 +206,12 @@ fn all_finite(alpha: &[f64]) -> bool
     true
 }
 
-// The largest angle that the probe takes: any above it is the answer "angle too large".
-const LARGEST_ANGLE: f64 = 131072.0;
-
 // Whether an angle is finite and not too large.
 fn is_taken(angle: f64) -> bool
     ensures { λ r. ⌜ r ≡ taken angle ⌝ }
 {
-    if angle <= LARGEST_ANGLE {
-        return angle >= -LARGEST_ANGLE;
+    if angle <= complex::LARGEST_ANGLE {
+        return angle >= -complex::LARGEST_ANGLE;
     }
     false
 }

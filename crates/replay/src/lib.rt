@@ -12,20 +12,23 @@ ghost use Prim.Native.Nat.{_<_};
 ghost use lib.ListN.{getD};
 ghost use Rattle.replay.specs.Words.{digitOf, wordAt, sameDouble, nanPattern};
 
+// b'a' less the 10 that it stands for.
+const HEX_A: u8 = 87;
+
 fn digit(b: u8) -> u64
     ensures { λ r. ⌜ (r ≡ digitOf b) × (r < 16) ⌝ }
 {
-    if b < 48 {
+    if b < b'0' {
         return 0;
     }
-    if b < 58 {
-        return (b - 48) as u64;
+    if b < b':' {
+        return (b - b'0') as u64;
     }
-    if b < 97 {
+    if b < b'a' {
         return 0;
     }
-    if b < 103 {
-        return (b - 87) as u64;
+    if b < b'g' {
+        return (b - HEX_A) as u64;
     }
     0
 }

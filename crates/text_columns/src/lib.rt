@@ -26,33 +26,36 @@ pub enum Scan {
 
 // ---- reading
 
+// The byte of the digit 0. The digits stand between '/' and ':'.
+const DIGIT_0: u64 = 48;
+
 // A digit that a number above 9 may start with.
 fn is_lead(b: u8) -> bool
     ensures { λ r. ⌜ r ≡ isLead b ⌝ }
 {
-    48 < b && b < 58
+    b'0' < b && b < b':'
 }
 
 fn is_digit(b: u8) -> bool
     ensures { λ r. ⌜ r ≡ isDigit b ⌝ }
 {
-    47 < b && b < 58
+    b'/' < b && b < b':'
 }
 
 fn after_blank(b: u8) -> Scan
     ensures { λ r. ⌜ r ≡ afterBlank b ⌝ }
 {
-    if b == 32 {
+    if b == b' ' {
         return Scan::Blank;
     }
-    if b == 45 {
+    if b == b'-' {
         return Scan::Minus;
     }
-    if b == 48 {
+    if b == b'0' {
         return Scan::Zero;
     }
     if is_lead(b) {
-        return Scan::Whole(b as u64 - 48);
+        return Scan::Whole(b as u64 - DIGIT_0);
     }
     Scan::Bad
 }
@@ -61,7 +64,7 @@ fn after_minus(b: u8) -> Scan
     ensures { λ r. ⌜ r ≡ afterMinus b ⌝ }
 {
     if is_lead(b) {
-        return Scan::Negative(b as u64 - 48);
+        return Scan::Negative(b as u64 - DIGIT_0);
     }
     Scan::Bad
 }
@@ -71,7 +74,7 @@ fn after_whole(n: u64, b: u8) -> Scan
     ensures { λ r. ⌜ r ≡ step (Scan.Whole n) b ⌝ }
 {
     if is_digit(b) {
-        return Scan::Whole(10 * n + (b as u64 - 48));
+        return Scan::Whole(10 * n + (b as u64 - DIGIT_0));
     }
     Scan::Bad
 }
@@ -81,7 +84,7 @@ fn after_negative(n: u64, b: u8) -> Scan
     ensures { λ r. ⌜ r ≡ step (Scan.Negative n) b ⌝ }
 {
     if is_digit(b) {
-        return Scan::Negative(10 * n + (b as u64 - 48));
+        return Scan::Negative(10 * n + (b as u64 - DIGIT_0));
     }
     Scan::Bad
 }
@@ -176,9 +179,9 @@ fn blank_or_digit(n: u64) -> u8
     ensures { λ r. ⌜ r ≡ blankOrDigit n ⌝ }
 {
     if n == 0 {
-        return 32;
+        return b' ';
     }
-    (48 + n % 10) as u8
+    (DIGIT_0 + n % 10) as u8
 }
 
 fn put_six(out: &mut [u8], at: usize, a: u8, b: u8, c: u8, d: u8, e: u8, f: u8)
@@ -210,7 +213,7 @@ pub fn put_column(out: &mut [u8], at: usize, n: u64)
         blank_or_digit(c),
         blank_or_digit(b),
         blank_or_digit(a),
-        (48 + n % 10) as u8,
+        (DIGIT_0 + n % 10) as u8,
     );
 }
 
