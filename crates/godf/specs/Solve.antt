@@ -8,6 +8,7 @@ use lib.Dec.{eqb, ltb}
 use lib.ListN.{length, getD, take}
 use lib.Ieee.{Float, nan, eq, ne, lt}
 use Rattle.float.specs.Double.{lit}
+use Rattle.floor.specs.Checks.{MOST-POINTS, MOST-TRIANGLES}
 use Rattle.pass_options.specs.declared.Options.{Options}
 use Rattle.pass_options.specs.declared.BoundaryMode.{BoundaryMode}
 use Rattle.pass_options.specs.declared.BoundaryMode.the-variants.{None, Tangent, Weak}
@@ -62,7 +63,7 @@ pub record SolveTold (e : Ended) (number : ℕ) (coarse fine work : List Float) 
 
 -- row 1's limits, of n points and t triangles
 abbrev pub overLimits : ℕ → ℕ → Bool
-overLimits n t = ltb 16384 n || ltb 32768 t
+overLimits n t = ltb MOST-POINTS n || ltb MOST-TRIANGLES t
 
 -- n' and t'; 0 and 0 where row 1 refuses, so that no length would do
 unfoldable pub mostOf : ℕ → ℕ → Float → Most
