@@ -16,7 +16,7 @@ use Rattle.edges.specs.Numbering.{triFrom, trisFrom, NumberedTo, Below, times, 
 use Rattle.edges.proofs.Tree.{length-pairs}
 use Rattle.edges.proofs.Counts.{times-append, listed-snoc, each-counted}
 use Rattle.pass_boundary.specs.declared.Listing.{Listing}
-use Rattle.pass_boundary.specs.Work.{trisIn, tableOf, In, AllIn, Sided, Numbers}
+use Rattle.pass_boundary.specs.Work.{trisIn, tableOf, In, AllIn, EitherWay, Sided, Numbers}
 use Rattle.pass_boundary.proofs.Slices.{tris-same}
 
 -- the second triangle is the first, or it with its second and third corners exchanged
@@ -55,6 +55,10 @@ all-in (tri a b c) y l p q r (inr e) n =
     let m : NumbersOf (tri a c b) l p q r = subst (λ (t : Tri). NumbersOf t l p q r) e n in
     (in-of (key a b) l r (ap (λ (s : Side). indexIn s l) (key-flip a b) ∙ m .2), (in-of (key b c) l q (ap (λ (s : Side). indexIn s l) (key-flip b c) ∙ m .1), in-of (key c a) l p (ap (λ (s : Side). indexIn s l) (key-flip c a) ∙ m .0)))
 
+either-of : (x y : Tri) (l : List Side) (p q r : ℕ) → Alike x y → NumbersOf y l p q r → EitherWay x l p q r
+either-of (tri a b c) y l p q r (inl e) n = inl (subst (λ (t : Tri). NumbersOf t l p q r) e n)
+either-of (tri a b c) y l p q r (inr e) n = inr (subst (λ (t : Tri). NumbersOf t l p q r) e n)
+
 -- ---- the numbers are below their count (belongs in crate edges)
 
 low-number : (l : List Side) {m : ℕ} → length l ≡ m → (s : Side) (k : ℕ) → indexIn s l ≡ some k → k < m
@@ -92,6 +96,7 @@ module _ (l : Listing) (n v : ℕ) (u u′ : List ℕ) (given-in : l .corners + 
     held = made .held;
     corners-below = λ j h. omega (arith, same-before (l .corners + j) (omega arith), below j h);
     all-in = λ i h. subst (λ (t : Tri). AllIn t (tableOf l u′)) (sym (given-tri i h)) (all-in (triFrom (l .corners) u i) (triFrom v u i) (tableOf l u′) _ _ _ (alike i h) (made .numbers i h));
+    either-way = λ i h. subst (λ (t : Tri). EitherWay t (tableOf l u′) (getD u′ (l .numbers + 3 * i) 0) (getD u′ (l .numbers + 3 * i + 1) 0) (getD u′ (l .numbers + 3 * i + 2) 0)) (sym (given-tri i h)) (either-of (triFrom (l .corners) u i) (triFrom v u i) (tableOf l u′) _ _ _ (alike i h) (made .numbers i h));
   }
 
   pub numbered-numbers : Numbers l u′

@@ -11,7 +11,7 @@ use Rattle.mesh.specs.Mesh.{Side, Tri}
 use Rattle.edges.specs.Numbering.{triFrom, trisFrom, occurs}
 use Rattle.edges.proofs.Numbering.{sides-same, held-same}
 use Rattle.pass_boundary.specs.declared.Listing.{Listing}
-use Rattle.pass_boundary.specs.Work.{trisIn, tableOf, AllIn, ListRoom, Sided, Numbers, Counts}
+use Rattle.pass_boundary.specs.Work.{trisIn, tableOf, AllIn, EitherWay, ListRoom, Sided, Numbers, Counts}
 
 -- ---- a run of stores is a put
 
@@ -58,6 +58,12 @@ module _ {l : Listing} {n len : ℕ} (u u′ : List ℕ) (room : ListRoom l n le
     held = held-same (l .table) (l .buckets) u u′ (l .sides) cells e (s .held);
     corners-below = λ j h. omega (arith, same (l .corners + j) (omega (arith, room .corners-in)), s .corners-below j h);
     all-in = λ i h. subst (λ (x : List Side). AllIn (triFrom (l .corners) u′ i) x) (sym table-kept) (subst (λ (x : Tri). AllIn x (tableOf l u)) (sym (tri-kept i h)) (s .all-in i h));
+    either-way = λ i h.
+        let p = same (l .numbers + 3 * i) (omega (arith, room .numbers-in)) in
+        let q = same (l .numbers + 3 * i + 1) (omega (arith, room .numbers-in)) in
+        let r = same (l .numbers + 3 * i + 2) (omega (arith, room .numbers-in)) in
+        rw (p, q, r) (subst (λ (x : List Side). EitherWay (triFrom (l .corners) u′ i) x (getD u (l .numbers + 3 * i) 0) (getD u (l .numbers + 3 * i + 1) 0) (getD u (l .numbers + 3 * i + 2) 0)) (sym table-kept)
+        (subst (λ (x : Tri). EitherWay x (tableOf l u) (getD u (l .numbers + 3 * i) 0) (getD u (l .numbers + 3 * i + 1) 0) (getD u (l .numbers + 3 * i + 2) 0)) (sym (tri-kept i h)) (s .either-way i h)));
   }
 
   pub numbers-kept : Numbers l u → Numbers l u′

@@ -5,7 +5,7 @@ use native.Mathlib.Decide.{ℕ-discrete}
 use native.Mathlib.Numerals.{add-one}
 use mathlib.Core.Path.{_≡_, refl, sym, ap, ap₂, _∙_, subst}
 use mathlib.Core.Logic.{_⊎_, inl, inr, ⊎-elim}
-use mathlib.Core.Bool.{Bool, true, false, cond, _||_}
+use mathlib.Core.Bool.{Bool, true, false, not, cond, _||_}
 use mathlib.Core.List.{List, [], _∷_, _++_}
 use mathlib.Core.Option.{Option, none, some}
 use borrow.Author.Tests.{eq-eqb, ne-eqb}
@@ -24,15 +24,15 @@ use Rattle.linear_cells.proofs.Loops.{apart}
 use Rattle.linear_cells.proofs.Regions.{getD-region}
 use Rattle.linear_cells.proofs.Cells.{length-setC}
 use Rattle.linear_cells.proofs.Changes.{cell-at, cell-else, real-else, region-same}
-use Rattle.mesh.specs.Mesh.{Side, side, key, Tri, indexIn, isNone}
-use Rattle.mesh.proofs.Cuts.{index-only}
+use Rattle.mesh.specs.Mesh.{Side, side, key, Tri, tri, indexIn, isNone}
+use Rattle.mesh.proofs.Cuts.{key-flip, index-only, index-below}
 use Rattle.edges.specs.Table.{loOf, hiOf, Held, oneMore}
 use Rattle.edges.specs.Numbering.{triFrom, trisFrom, times, listed}
 use Rattle.edges.proofs.Tree.{length-pairs}
 use Rattle.pass_boundary.specs.declared.Listing.{Listing}
 use Rattle.pass_boundary.specs.declared.Planes.{Planes}
-use Rattle.pass_boundary.specs.Boundary.{around, walked, once, kept, tangent, Mark, mark, marks, isMarked, sumFrom, firstOr}
-use Rattle.pass_boundary.specs.Work.{xsIn, ysIn, trisIn, tableOf, ListRoom, PlaneRoom, In, Sided, Counts, Added, Marked}
+use Rattle.pass_boundary.specs.Boundary.{around, walked, once, isInner, kept, tangent, Mark, mark, marks, isMarked, sumFrom, firstOr}
+use Rattle.pass_boundary.specs.Work.{xsIn, ysIn, trisIn, tableOf, ListRoom, PlaneRoom, In, EitherWay, Sided, Counts, Added, Marked}
 use Rattle.pass_boundary.proofs.Marks.{walked-snoc, kept-append, kept-few, marks-append, sum-append, flag-append, first-append}
 use Rattle.pass_boundary.proofs.Slices.{tris-kept, table-kept, tri-kept, sided-kept, counts-kept}
 
@@ -43,20 +43,72 @@ number : (o : Option ℕ) → isNone o ≡ false → (k : ℕ) × (o ≡ some k)
 number none h = let n : _≡_ {A = ℕ} 1 0 = ap (λ (b : Bool). cond b 1 0) h in absurd (omega arith)
 number (some k) h = (k, refl)
 
+low-in : (l : Listing) (u : List ℕ) (s : Side) (k : ℕ) → indexIn s (tableOf l u) ≡ some k → k < l .sides
+low-in l u s k e = omega (arith, index-below s (tableOf l u) k e, length-pairs (loOf (l .table) (l .buckets) u) (hiOf (l .table) (l .buckets) u) (l .sides))
+
+-- the count at a side's number says whether it lies on the boundary
+count-once : (l : Listing) (u : List ℕ) (a b k : ℕ) → Held (l .table) (l .buckets) u (l .sides) → Counts l u → indexIn (key a b) (tableOf l u) ≡ some k
+    → eqb (getD u (l .counts + k) 0) 1 ≡ once (trisIn l u) (side a b)
+unfolding once
+count-once l u a b k held counts e =
+    let low : k < l .sides = low-in l u (key a b) k e in
+    let here : getD (tableOf l u) k (side 0 0) ≡ key a b =
+    index-only (getD (tableOf l u) k (side 0 0)) (key a b) (tableOf l u) k (held .numbered k (omega (arith, length-pairs (loOf (l .table) (l .buckets) u) (hiOf (l .table) (l .buckets) u) (l .sides)))) e in
+    ap (λ (c : ℕ). eqb c 1) (counts k low ∙ ap (λ (s : Side). times s (listed (trisIn l u))) here)
+
 module _ (l : Listing) (u : List ℕ) (a b : ℕ) {at : ℕ} (held : Held (l .table) (l .buckets) u (l .sides)) (found : In (key a b) (tableOf l u)) (at-is : at ≡ oneMore (indexIn (key a b) (tableOf l u))) where
   pub found-first : 0 < at
   found-first = let k = number (indexIn (key a b) (tableOf l u)) found in omega (arith, at-is ∙ ap oneMore (k .1))
 
   pub found-once : Counts l u → at ≤ l .sides → eqb (getD u (l .counts + at - 1) 0) 1 ≡ once (trisIn l u) (side a b)
-  unfolding once
   found-once counts few =
       let k = number (indexIn (key a b) (tableOf l u)) found in
       let z : at ≡ suc (k .0) = at-is ∙ ap oneMore (k .1) in
       let e : l .counts + at - 1 ≡ l .counts + k .0 = omega arith in
-      let low : k .0 < l .sides = omega arith in
-      let here : getD (tableOf l u) (k .0) (side 0 0) ≡ key a b =
-      index-only (getD (tableOf l u) (k .0) (side 0 0)) (key a b) (tableOf l u) (k .0) (held .numbered (k .0) (omega (arith, length-pairs (loOf (l .table) (l .buckets) u) (hiOf (l .table) (l .buckets) u) (l .sides)))) (k .1) in
-      rw e (ap (λ (c : ℕ). eqb c 1) (counts (k .0) low ∙ ap (λ (s : Side). times s (listed (trisIn l u))) here))
+      rw e (count-once l u a b (k .0) held counts (k .1))
+
+-- ---- a triangle's counts
+
+both-ways : (ts : List Tri) (a b : ℕ) → once ts (side b a) ≡ once ts (side a b)
+unfolding once
+both-ways ts a b = ap (λ (s : Side). eqb (times s (listed ts)) 1) (key-flip b a)
+
+turned : (x y z : Bool) → not (z || (y || x)) ≡ not (x || (y || z))
+turned true true true = refl
+turned true true false = refl
+turned true false true = refl
+turned true false false = refl
+turned false true true = refl
+turned false true false = refl
+turned false false true = refl
+turned false false false = refl
+
+pub inner-by : (l : Listing) (u : List ℕ) (t : Tri) (p q r : ℕ) → Held (l .table) (l .buckets) u (l .sides) → Counts l u → EitherWay t (tableOf l u) p q r
+    → isInner (trisIn l u) t ≡ not (eqb (getD u (l .counts + p) 0) 1 || (eqb (getD u (l .counts + q) 0) 1 || eqb (getD u (l .counts + r) 0) 1))
+unfolding isInner
+inner-by l u (tri a b c) p q r held counts (inl n) =
+    rw (count-once l u a b p held counts (n .0), count-once l u b c q held counts (n .1), count-once l u c a r held counts (n .2))
+inner-by l u (tri a b c) p q r held counts (inr n) =
+    rw (count-once l u a c p held counts (n .0), count-once l u c b q held counts (n .1), count-once l u b a r held counts (n .2), both-ways (trisIn l u) c a, both-ways (trisIn l u) b c, both-ways (trisIn l u) a b)
+    (turned (once (trisIn l u) (side c a)) (once (trisIn l u) (side b c)) (once (trisIn l u) (side a b)))
+
+-- the numbers are below the count of sides
+pub either-below : (l : Listing) (u : List ℕ) (t : Tri) (p q r : ℕ) → EitherWay t (tableOf l u) p q r → (p < l .sides) × ((q < l .sides) × (r < l .sides))
+either-below l u (tri a b c) p q r (inl n) = (low-in l u (key a b) p (n .0), (low-in l u (key b c) q (n .1), low-in l u (key c a) r (n .2)))
+either-below l u (tri a b c) p q r (inr n) = (low-in l u (key a c) p (n .0), (low-in l u (key c b) q (n .1), low-in l u (key b a) r (n .2)))
+
+-- the same of triangle i, and where its counts stand
+pub inner-at : {l : Listing} {n : ℕ} {u : List ℕ} → Sided l n u → Counts l u → (i : ℕ) → i < l .triangles
+    → isInner (trisIn l u) (triFrom (l .corners) u i)
+    ≡ not (eqb (getD u (l .counts + getD u (l .numbers + 3 * i) 0) 0) 1 || (eqb (getD u (l .counts + getD u (l .numbers + 3 * i + 1) 0) 0) 1 || eqb (getD u (l .counts + getD u (l .numbers + 3 * i + 2) 0) 0) 1))
+inner-at {l} {n} {u} s c i h =
+    inner-by l u (triFrom (l .corners) u i) (getD u (l .numbers + 3 * i) 0) (getD u (l .numbers + 3 * i + 1) 0) (getD u (l .numbers + 3 * i + 2) 0) (s .held) c (s .either-way i h)
+
+pub counts-there : {l : Listing} {n len : ℕ} {u : List ℕ} → ListRoom l n len → Sided l n u → (i : ℕ) → i < l .triangles
+    → (l .counts + getD u (l .numbers + 3 * i) 0 < len) × ((l .counts + getD u (l .numbers + 3 * i + 1) 0 < len) × (l .counts + getD u (l .numbers + 3 * i + 2) 0 < len))
+counts-there {l} {n} {len} {u} room s i h =
+    let b = either-below l u (triFrom (l .corners) u i) (getD u (l .numbers + 3 * i) 0) (getD u (l .numbers + 3 * i + 1) 0) (getD u (l .numbers + 3 * i + 2) 0) (s .either-way i h) in
+    (omega (arith, b .0, room .counts-in, room .flags-in), (omega (arith, b .1 .0, room .counts-in, room .flags-in), omega (arith, b .1 .1, room .counts-in, room .flags-in)))
 
 -- ---- a side's direction
 
@@ -199,6 +251,20 @@ module _ {l : Listing} {p : Planes} {len lenw : ℕ} {ms : List Mark} {u u′ : 
 pub marked-no : {l : Listing} {p : Planes} {u : List ℕ} {w : List Float} {a b : ℕ} → once (trisIn l u) (side a b) ≡ false → Marked l p (side a b ∷ []) u w u w 0
 unfolding kept marks
 marked-no {l} {p} {u} {w} h = record { added = rw h (added-none (l .flags) p u w); sides = rw h }
+
+-- a triangle with no side on the boundary
+pub marked-inner : {l : Listing} {p : Planes} {u : List ℕ} {w : List Float} (t : Tri) → isInner (trisIn l u) t ≡ true → Marked l p (around t) u w u w 0
+unfolding isInner kept marks
+marked-inner {l} {p} {u} {w} (tri a b c) h = go (once (trisIn l u) (side a b)) (once (trisIn l u) (side b c)) (once (trisIn l u) (side c a)) refl refl refl h
+  where
+    none : _≡_ {A = Bool} false true → ⊥
+    none f = let z : _≡_ {A = ℕ} 0 1 = ap (λ (x : Bool). cond x 1 0) f in omega arith
+
+    go : (x y z : Bool) → once (trisIn l u) (side a b) ≡ x → once (trisIn l u) (side b c) ≡ y → once (trisIn l u) (side c a) ≡ z → not (x || (y || z)) ≡ true → Marked l p (around (tri a b c)) u w u w 0
+    go true y z ex ey ez e = absurd (none e)
+    go false true z ex ey ez e = absurd (none e)
+    go false false true ex ey ez e = absurd (none e)
+    go false false false ex ey ez e = record { added = rw (ex, ey, ez) (added-none (l .flags) p u w); sides = rw (ex, ey, ez) }
 
 pub marked-yes : {l : Listing} {p : Planes} {u u₁ u₂ : List ℕ} {w w₁ w₂ : List Float} {a b i j : ℕ} {z : Complex} → once (trisIn l u) (side a b) ≡ true → i ≡ a → j ≡ b
     → z ≡ tangent (xsIn p w) (ysIn p w) (side i j) → Added (l .flags) p (mark i z ∷ []) u w u₁ w₁ → Added (l .flags) p (mark j z ∷ []) u₁ w₁ u₂ w₂ → Marked l p (side a b ∷ []) u w u₂ w₂ 1

@@ -1,7 +1,7 @@
 -- The sides that lie in exactly one triangle, and the targets of the points on them: the Rust's boundary_targets, lines 854 to 914, over lists.
 -- Point v has the coordinates X v and Y v. The triangles are those given, not those put counter-clockwise. Definitions only.
 use Prim.Native.Nat.{ℕ}
-use mathlib.Core.Bool.{Bool, false, cond, _&&_, _||_}
+use mathlib.Core.Bool.{Bool, false, not, cond, _&&_, _||_}
 use mathlib.Core.List.{List, [], _∷_, _++_}
 use lib.Dec.{eqb}
 use lib.Ieee.{Float, lt}
@@ -27,6 +27,10 @@ walked (t ∷ ts) = around t ++ walked ts
 -- line 884: exactly one triangle has the side, by the count of listed sides, either way round, of lines 859 to 869
 unfoldable pub once : List Tri → Side → Bool
 once ts (side u v) = eqb (times (key u v) (listed ts)) 1
+
+-- no side of a triangle does
+unfoldable pub isInner : List Tri → Tri → Bool
+isInner ts (tri a b c) = not (once ts (side a b) || (once ts (side b c) || once ts (side c a)))
 
 -- those that pass a test
 unfoldable pub kept : (Side → Bool) → List Side → List Side

@@ -12,7 +12,7 @@ use Rattle.complex.specs.Complex.{czero, cone, cnan}
 use Rattle.linear_cells.specs.Region.{tab, region, put}
 use Rattle.linear_cells.specs.Cell.{getC, setC, regionC, putC}
 use Rattle.mesh.specs.Mesh.{Side, side, key, Tri, tri, isNone, indexIn}
-use Rattle.edges.specs.Table.{sidesIn, Held}
+use Rattle.edges.specs.Table.{sidesIn, Held, NumbersOf}
 use Rattle.edges.specs.Numbering.{triFrom, trisFrom, occurs, Below, times, listed}
 use Rattle.pass_boundary.specs.declared.Listing.{Listing}
 use Rattle.pass_boundary.specs.declared.Planes.{Planes}
@@ -71,11 +71,17 @@ In s l = isNone (indexIn s l) ≡ false
 abbrev pub AllIn : Tri → List Side → Type 0
 AllIn (tri a b c) l = In (key a b) l × (In (key b c) l × In (key c a) l)
 
--- the corners are points, and the sides of the triangles as given are in the table
+-- p, q and r are the numbers of a triangle's sides, in the order of its corners one way round or the other
+abbrev pub EitherWay : Tri → List Side → ℕ → ℕ → ℕ → Type 0
+EitherWay (tri a b c) l p q r = NumbersOf (tri a b c) l p q r ⊎ NumbersOf (tri a c b) l p q r
+
+-- the corners are points, and the sides of the triangles as given are in the table, by the numbers that are kept for each triangle
 pub record Sided (l : Listing) (n : ℕ) (u : List ℕ) : Type 0 where
   pub held : Held (l .table) (l .buckets) u (l .sides)
   pub corners-below : Below n (l .corners) u (3 * l .triangles)
   pub all-in : (i : ℕ) → i < l .triangles → AllIn (triFrom (l .corners) u i) (tableOf l u)
+  pub either-way : (i : ℕ) → i < l .triangles
+      → EitherWay (triFrom (l .corners) u i) (tableOf l u) (getD u (l .numbers + 3 * i) 0) (getD u (l .numbers + 3 * i + 1) 0) (getD u (l .numbers + 3 * i + 2) 0)
 
 -- the numbers say how often each side of the table is listed
 pub record Numbers (l : Listing) (u : List ℕ) : Type 0 where

@@ -13,7 +13,7 @@ ghost use lib.ListN.{length, getD};
 ghost use Rattle.mesh.specs.Mesh.{side, key};
 ghost use Rattle.edges.specs.Table.{Held};
 ghost use Rattle.edges.specs.Numbering.{triFrom};
-ghost use Rattle.pass_boundary.specs.Boundary.{around, walked, once, tangent, mark, normalised};
+ghost use Rattle.pass_boundary.specs.Boundary.{around, walked, once, isInner, tangent, mark, normalised};
 ghost use Rattle.pass_boundary.specs.Work.{xsIn, ysIn, firstIn, trisIn, tableOf, ListRoom, PlaneRoom, In, Sided, Numbers, Counts, Added, Marked, settledAt, counted, settleC, settledIn, cleared, Bounded};
 
 // Where the u32 work holds the triangles as given, the table of their sides (crate edges), and for each triangle the numbers of its sides; and
@@ -104,12 +104,30 @@ fn mark_side(w: &mut [f64], u: &mut [u32], l: Listing, p: Planes, a: u32, b: u32
     0
 }
 
+// Whether no side of triangle i lies on the boundary, by the three numbers that are kept for it, in whatever order: so that its sides need not be sought.
+fn is_inner(u: &[u32], l: Listing, n: usize, i: usize) -> bool
+    requires { ⌜ ListRoom l n (length (now u)) × (Sided l n (now u) × (Counts l (now u) × (i < l .triangles))) ⌝ }
+    ensures { λ r. ⌜ r ≡ isInner (trisIn l (now (u .entry))) (triFrom (l .corners) (now (u .entry)) i) ⌝ }
+{
+    let c = mesh::corners(u, l.numbers + 3 * i);
+    if u[l.counts + mesh::index(c.a)] == 1 {
+        return false;
+    }
+    if u[l.counts + mesh::index(c.b)] == 1 {
+        return false;
+    }
+    u[l.counts + mesh::index(c.c)] != 1
+}
+
 // The three sides of triangle i. How many lie on the boundary.
 fn mark_triangle(w: &mut [f64], u: &mut [u32], l: Listing, p: Planes, i: usize) -> usize
     requires { ⌜ ListRoom l (p .points) (length (now u)) × PlaneRoom p (length (now w)) ⌝ }
     requires { ⌜ Sided l (p .points) (now u) × (Counts l (now u) × (i < l .triangles)) ⌝ }
     ensures { λ r. ⌜ Marked l p (around (triFrom (l .corners) (now (u .entry)) i)) (now (u .entry)) (now (w .entry)) (now (u .exit)) (now (w .exit)) r ⌝ }
 {
+    if is_inner(u, l, p.points, i) {
+        return 0;
+    }
     let c = mesh::corners(u, l.corners + 3 * i);
     let ab = mark_side(w, u, l, p, c.a, c.b);
     let bc = mark_side(w, u, l, p, c.b, c.c);
