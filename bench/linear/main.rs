@@ -39,6 +39,8 @@ extern "C" {
         edges: usize,
         to: *const u32,
         ends: usize,
+        numbers: *mut u32,
+        words: usize,
         tolerance: f64,
         most: usize,
     ) -> bool;
@@ -92,18 +94,19 @@ fn main() {
         }
         let rhs: Vec<[f64; 2]> = (0..n).map(|_| [random.next() - 0.5, random.next() - 0.5]).collect();
         let system = reference::system(&diagonal, &from, &to, &off, &rhs);
-        let mut start = vec![0.0; 10 * n + 2 * m];
+        let mut start = vec![0.0; 10 * n + 6 * m];
         start[..n].copy_from_slice(&diagonal);
         for e in 0..m {
             start[n + e] = off[e][0];
             start[n + m + e] = off[e][1];
         }
         for i in 0..n {
-            start[n + 2 * m + 2 * n + i] = rhs[i][0];
-            start[n + 2 * m + 3 * n + i] = rhs[i][1];
+            start[n + 6 * m + 2 * n + i] = rhs[i][0];
+            start[n + 6 * m + 3 * n + i] = rhs[i][1];
         }
         let mut work = start.clone();
-        let ours = |work: &mut Vec<f64>, tolerance: f64, most: usize| unsafe {
+        let mut numbers = vec![0u32; n + 1 + 6 * m + n / 2];
+        let mut ours = |work: &mut Vec<f64>, tolerance: f64, most: usize| unsafe {
             layers_conjugate_gradient(
                 work.as_mut_ptr(),
                 work.len(),
@@ -112,6 +115,8 @@ fn main() {
                 m,
                 to.as_ptr(),
                 m,
+                numbers.as_mut_ptr(),
+                numbers.len(),
                 tolerance,
                 most,
             )
@@ -119,7 +124,7 @@ fn main() {
         let (x, count) = reference::answer(&system, 1e-10, 6000).expect("the reference converges");
         assert!(ours(&mut work, 1e-10, 6000));
         let same = (0..n).all(|i| {
-            x[i][0].to_bits() == work[n + 2 * m + i].to_bits() && x[i][1].to_bits() == work[n + 2 * m + n + i].to_bits()
+            x[i][0].to_bits() == work[n + 6 * m + i].to_bits() && x[i][1].to_bits() == work[n + 6 * m + n + i].to_bits()
         });
         // ten turns and none, least of the rounds: the difference is the turns alone, and short enough to run undisturbed at times
         let turns = 10;

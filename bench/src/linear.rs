@@ -16,6 +16,8 @@ extern "C" {
         edges: usize,
         to: *const u32,
         ends: usize,
+        numbers: *mut u32,
+        words: usize,
         tolerance: f64,
         most: usize,
     ) -> bool;
@@ -28,25 +30,27 @@ struct Lent {
     work: Vec<f64>,
     from: Vec<u32>,
     to: Vec<u32>,
+    numbers: Vec<u32>,
     n: usize,
 }
 
 impl Lent {
     fn new(s: &System) -> Self {
         let (n, m) = (s.diagonal.len(), s.ends.len());
-        let mut work = vec![0.0; 10 * n + 2 * m];
+        let mut work = vec![0.0; 10 * n + 6 * m];
         work[..n].copy_from_slice(&s.diagonal);
         for (e, z) in s.off.iter().enumerate() {
             (work[n + e], work[n + m + e]) = (z[0], z[1]);
         }
         for (i, z) in s.rhs.iter().enumerate() {
-            (work[3 * n + 2 * m + i], work[4 * n + 2 * m + i]) = (z[0], z[1]);
+            (work[3 * n + 6 * m + i], work[4 * n + 6 * m + i]) = (z[0], z[1]);
         }
         let ends = |k: fn(&(usize, usize)) -> usize| s.ends.iter().map(|e| k(e) as u32).collect();
         Self {
             work,
             from: ends(|e| e.0),
             to: ends(|e| e.1),
+            numbers: vec![0; n + 1 + 6 * m + n / 2],
             n,
         }
     }
@@ -63,6 +67,8 @@ impl Lent {
                 m,
                 self.to.as_ptr(),
                 m,
+                self.numbers.as_mut_ptr(),
+                self.numbers.len(),
                 tolerance,
                 most,
             )
@@ -74,7 +80,7 @@ impl Lent {
     }
 
     fn x(&self, i: usize) -> [f64; 2] {
-        let at = self.n + 2 * self.from.len() + i;
+        let at = self.n + 6 * self.from.len() + i;
         [self.work[at], self.work[at + self.n]]
     }
 }

@@ -18,14 +18,18 @@ use Rattle.linear_hermitian.specs.Work.{matrix}
 use Rattle.linear_hermitian.proofs.Product.{length-applied, length-scaled}
 use Rattle.linear_conjugate_gradient.specs.declared.Vectors.{Vectors}
 use Rattle.linear_vectors.specs.declared.residual.Sums.{Sums}
+use Rattle.linear_packing.specs.declared.Packing.{Packing}
+use Rattle.linear_packing.specs.Packed.{Packed}
+use Rattle.linear_pairs.specs.Work.{Multiplies}
+use Rattle.linear_cells.proofs.Cells.{regionC-same}
 use Rattle.linear_vectors.specs.Vectors.{recipsOf}
 use Rattle.linear_conjugate_gradient.specs.declared.Progress.{Progress}
 use Rattle.linear_conjugate_gradient.specs.declared.Progress.the-variants.{Going, Converged, Broken}
 use Rattle.linear_conjugate_gradient.specs.declared.Reason.the-variants.{Denominator, LostDefiniteness}
 use Rattle.linear_conjugate_gradient.specs.Solve.{State, Iteration, begun, residualDot, preconditioned, multiplied, denominator, reduced, advanced, directed, judged, stepped, iterationOf}
-use Rattle.linear_conjugate_gradient.specs.Work.{read, lay, VectorRoom, SolverRoom, Begun, Multiplied, Updated, Ended}
+use Rattle.linear_conjugate_gradient.specs.Work.{read, lay, VectorRoom, SolverRoom, Engine, Begun, Multiplied, Updated, Ended}
 use Rattle.linear_vectors.proofs.Inverses.{length-recipsOf}
-use Rattle.linear_conjugate_gradient.proofs.Lays.{Sized, read-sized, lay-read, get-r, get-p, get-q, get-inverse, get-all, put-x, put-p, put-q, put-inverse, lay-then}
+use Rattle.linear_conjugate_gradient.proofs.Lays.{Sized, read-sized, lay-read, get-r, get-p, get-q, get-inverse, get-all, put-x, put-p, put-q, put-inverse, lay-then, get-below, get-matrix}
 use Rattle.linear_conjugate_gradient.proofs.Passes.{reduced-sized, advanced-sized, directed-sized}
 
 -- ---- begin
@@ -182,3 +186,30 @@ module _ (w : List Float) (h : Hermitian) (l : Vectors) (from to : List ℕ) (li
         work = lay-then w n l (ok .vector-room) s z _ y (p .work) (e .work ∙ rw k);
         result = e .result ∙ rw k;
       })
+
+-- ---- the engine
+
+-- the product with its sum in one pass
+pub multiply-engine : (w : List Float) (h : Hermitian) (l : Vectors) (from to : List ℕ) → SolverRoom (length w) h l → {w₁ : List Float} {r : Float}
+    → Multiplies w w₁ (matrix w h from to) (regionC w (l .direction) (h .size)) (l .applied) r → Multiplied w w₁ h l from to r
+unfolding multiplied denominator read
+multiply-engine w h l from to ok {w₁} {r} e =
+    let n : ℕ = h .size in
+    let m : Matrix = matrix w h from to in
+    let s : State = read w n l in
+    let z : Sized n s = read-sized w n l in
+    let t : State = multiplied m s in
+    let y : Sized n t = multiplied-sized n m s z in
+    record { work = e .work ∙ ap (λ u. putC u (l .applied) (t .q)) (lay-read w n l) ∙ put-q w n l (ok .vector-room) s z (t .q) (y .q-n); result = e .dot }
+
+-- the vectors' change leaves the copy
+pub engine-still : (w : List Float) (h : Hermitian) (l : Vectors) (from to u : List ℕ) (t : Packing) → SolverRoom (length w) h l → Engine w h l from to u t
+    → (s : State) → Sized (h .size) s → {w₁ : List Float} → w₁ ≡ lay w (h .size) l s → Engine w₁ h l from to u t
+engine-still w h l from to u t ok g s z {w₁} e =
+    let n : ℕ = h .size in
+    let m : matrix w₁ h from to ≡ matrix w h from to = ap (λ v. matrix v h from to) e ∙ get-matrix w h l ok s z from to in
+    let o : regionC w₁ (t .entries) (t .slots) ≡ regionC w (t .entries) (t .slots) =
+    ap (λ v. regionC v (t .entries) (t .slots)) e
+    ∙ regionC-same (lay w n l s) w (t .entries) (t .slots) (get-below w n l (ok .vector-room) s z (t .entries) (2 * t .slots) (g .room .entries-below)) in
+    let k : Packed (matrix w h from to) w u t = g .packed in
+    record { room = g .room; packed = rw m (record { all = k .all; starts = k .starts; nears = k .nears; marks = k .marks; entries = o ∙ k .entries }) }

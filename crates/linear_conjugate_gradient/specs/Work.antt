@@ -1,7 +1,8 @@
 -- How a work slice holds the vectors, and what the functions require of it.
 use mathlib.Core.Path.{_≡_}
 use mathlib.Core.List.{List, [], _∷_}
-use Prim.Native.Nat.{ℕ, _+_, _*_, _≤_}
+use Prim.Native.Nat.{ℕ, _+_, _*_, _/_, _≤_}
+use lib.ListN.{length}
 use lib.Ieee.{Float, nan}
 use Rattle.linear_cells.specs.Region.{region}
 use Rattle.linear_cells.specs.Cell.{flat, regionC, putC}
@@ -9,6 +10,8 @@ use Rattle.linear_cells.specs.Rows.{Row, row, laid, Ranged}
 use Rattle.linear_hermitian.specs.declared.Hermitian.{Hermitian}
 use Rattle.linear_hermitian.specs.Hermitian.{Matrix, dotOf, applied}
 use Rattle.linear_hermitian.specs.Work.{matrix}
+use Rattle.linear_packing.specs.declared.Packing.{Packing}
+use Rattle.linear_packing.specs.Packed.{Packed}
 use Rattle.linear_vectors.specs.declared.residual.Sums.{Sums}
 use Rattle.linear_conjugate_gradient.specs.declared.Vectors.{Vectors}
 use Rattle.linear_conjugate_gradient.specs.declared.Progress.{Progress}
@@ -46,6 +49,18 @@ pub record SolverRoom (len : ℕ) (h : Hermitian) (l : Vectors) : Type 0 where
   pub diagonal-below : h .diagonal + h .size ≤ l .x
   pub off-below : h .off + 2 * h .edges ≤ l .x
   pub vector-room : VectorRoom len (h .size) l
+
+-- a packed copy of the matrix, also below the vectors
+pub record EngineRoom (words : ℕ) (h : Hermitian) (l : Vectors) (t : Packing) : Type 0 where
+  pub one-size : t .size ≡ h .size
+  pub entries-below : t .entries + 2 * t .slots ≤ l .x
+  pub starts-in : t .starts + (t .size + 1) ≤ words
+  pub near-in : t .near + t .slots ≤ words
+  pub marks-in : t .marks + t .size / 2 ≤ words
+
+pub record Engine (w : List Float) (h : Hermitian) (l : Vectors) (from to u : List ℕ) (t : Packing) : Type 0 where
+  pub room : EngineRoom (length u) h l t
+  pub packed : Packed (matrix w h from to) w u t
 
 -- ---- what the functions leave and return
 

@@ -2,6 +2,7 @@
 // the Rust's steps.
 use linear_cells::load_real;
 use linear_hermitian::Hermitian;
+use linear_packing::Packing;
 use linear_vectors::residual::Sums;
 ghost use mathlib.Core.Path.{_≡_};
 ghost use Prim.Native.Nat.{_+_, _*_, _<_, _≤_};
@@ -12,7 +13,7 @@ ghost use Rattle.root.specs.Root.{rootOf};
 ghost use Rattle.linear_cells.specs.Region.{region};
 ghost use Rattle.linear_hermitian.specs.Work.{matrix, Graph, ApplyRoom};
 ghost use Rattle.linear_conjugate_gradient.specs.Solve.{firstNotPositive, reduced, advanced, directed, judged, iterationOf, answerOf, run, solved};
-ghost use Rattle.linear_conjugate_gradient.specs.Work.{read, lay, VectorRoom, SolverRoom, Begun, Multiplied, Updated, Ended, Solved, InMass};
+ghost use Rattle.linear_conjugate_gradient.specs.Work.{read, lay, VectorRoom, SolverRoom, Engine, Begun, Multiplied, Updated, Ended, Solved, InMass};
 
 // Why the solver gave up: number 24's reasons 3 to 9, in their order.
 pub enum Reason {
@@ -77,13 +78,21 @@ fn begin(work: &mut [f64], h: Hermitian, l: Vectors) -> f64
 }
 
 // applied = the matrix times the direction, and the direction's product with it.
-fn multiply(work: &mut [f64], h: Hermitian, l: Vectors, from: &[u32], to: &[u32]) -> f64
+fn multiply(
+    work: &mut [f64],
+    h: Hermitian,
+    l: Vectors,
+    from: &[u32],
+    to: &[u32],
+    u: &[u32],
+    t: Packing,
+) -> f64
     requires { ⌜ SolverRoom (length (now work)) h l ⌝ }
     requires { ⌜ Graph h (now from) (now to) ⌝ }
+    requires { ⌜ Engine (now work) h l (now from) (now to) (now u) t ⌝ }
     ensures { λ r. ⌜ Multiplied (now (work .entry)) (now (work .exit)) h l (now (from .entry)) (now (to .entry)) r ⌝ }
 {
-    linear_hermitian::apply(work, l.applied, l.direction, h, from, to);
-    linear_hermitian::dot_re(work, l.direction, l.applied, h.size)
+    linear_pairs::multiply(work, l.applied, l.direction, h, from, to, u, t)
 }
 
 // residual = residual - applied * alpha, with both sums. Their terms are left where the matrix times the direction stood.
@@ -150,15 +159,18 @@ fn iterate_once(
     l: Vectors,
     from: &[u32],
     to: &[u32],
+    u: &[u32],
+    t: Packing,
     limit: f64,
     dot: f64,
 ) -> Progress
     requires { ⌜ SolverRoom (length (now work)) h l ⌝ }
     requires { ⌜ Graph h (now from) (now to) ⌝ }
+    requires { ⌜ Engine (now work) h l (now from) (now to) (now u) t ⌝ }
     ensures { λ r. ⌜ Ended (now (work .entry)) (now (work .exit)) (h .size) l
         (iterationOf (matrix (now (work .entry)) h (now (from .entry)) (now (to .entry))) limit dot (read (now (work .entry)) (h .size) l)) r ⌝ }
 {
-    let denominator = multiply(work, h, l, from, to);
+    let denominator = multiply(work, h, l, from, to, u, t);
     if float::not_positive(denominator) {
         return Progress::Broken(Reason::Denominator);
     }
@@ -182,20 +194,23 @@ fn iterate(
     l: Vectors,
     from: &[u32],
     to: &[u32],
+    u: &[u32],
+    t: Packing,
     limit: f64,
     first: f64,
     most: usize,
 ) -> Answer
     requires { ⌜ SolverRoom (length (now work)) h l ⌝ }
     requires { ⌜ Graph h (now from) (now to) ⌝ }
+    requires { ⌜ Engine (now work) h l (now from) (now to) (now u) t ⌝ }
     ensures { λ r. ⌜ Solved (now (work .entry)) (now (work .exit)) (h .size) l
         (run (matrix (now (work .entry)) h (now (from .entry)) (now (to .entry))) limit most 0 first (read (now (work .entry)) (h .size) l)) r ⌝ }
 {
     let mut dot = first;
     for i in 0..most {
-        let t = iterate_once(work, h, l, from, to, limit, dot);
-        let Progress::Going(next) = t else {
-            return answer_of(t, i + 1);
+        let p = iterate_once(work, h, l, from, to, u, t, limit, dot);
+        let Progress::Going(next) = p else {
+            return answer_of(p, i + 1);
         };
         dot = next;
     }
@@ -209,11 +224,14 @@ pub fn conjugate_gradient(
     l: Vectors,
     from: &[u32],
     to: &[u32],
+    u: &[u32],
+    t: Packing,
     tolerance: f64,
     most: usize,
 ) -> Answer
     requires { ⌜ SolverRoom (length (now work)) h l ⌝ }
     requires { ⌜ Graph h (now from) (now to) ⌝ }
+    requires { ⌜ Engine (now work) h l (now from) (now to) (now u) t ⌝ }
     ensures { λ r. ⌜ Solved (now (work .entry)) (now (work .exit)) (h .size) l
         (solved (matrix (now (work .entry)) h (now (from .entry)) (now (to .entry))) tolerance most (read (now (work .entry)) (h .size) l)) r ⌝ }
 {
@@ -229,7 +247,7 @@ pub fn conjugate_gradient(
     if float::not_positive(first) {
         return Answer::GaveUp(Reason::FirstResidual);
     }
-    iterate(work, h, l, from, to, tolerance * norm, first, most)
+    iterate(work, h, l, from, to, u, t, tolerance * norm, first, most)
 }
 
 // x divided by its norm in the mass matrix. The region at y is left with the matrix times x.

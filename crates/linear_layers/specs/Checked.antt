@@ -2,15 +2,21 @@
 use mathlib.Core.Path.{_≡_}
 use mathlib.Core.Bool.{Bool, true, false, not, _&&_}
 use mathlib.Core.List.{List}
-use Prim.Native.Nat.{ℕ, zero, suc, _+_, _*_}
+use Prim.Native.Nat.{ℕ, zero, suc, _+_, _*_, _/_, _^_}
 use lib.Dec.{ltb, leb, eqb}
 use lib.ListN.{length, getD}
 use lib.Ieee.{Float}
+use Rattle.linear_cells.specs.Region.{put}
 use Rattle.linear_cells.specs.Cell.{regionC, putC}
 use Rattle.linear_hermitian.specs.declared.Hermitian.{Hermitian}
 use Rattle.linear_hermitian.specs.Hermitian.{applied}
 use Rattle.linear_hermitian.specs.Work.{matrix}
+use Rattle.linear_packing.specs.declared.Packing.{Packing}
+use Rattle.linear_packing.specs.declared.Source.{Source}
+use Rattle.linear_packing.specs.Slots.{entriesOf}
+use Rattle.linear_packing.specs.Pack.{packedIn}
 use Rattle.linear_conjugate_gradient.specs.declared.Vectors.{Vectors}
+use Rattle.linear_conjugate_gradient.specs.declared.Answer.{Answer}
 use Rattle.linear_conjugate_gradient.specs.Solve.{Outcome, solved, massOf, normalizedAnswer, normalizedVector}
 use Rattle.linear_conjugate_gradient.specs.Work.{read, lay}
 use Rattle.linear_layers.specs.declared.Checked.{Checked}
@@ -30,41 +36,79 @@ edgeAt n from to k = edgeGood n (getD from k 0) (getD to k 0)
 
 -- the work slice has room for n rows, and the edges are such edges
 unfoldable pub good : ℕ → ℕ → List ℕ → List ℕ → Bool
-good len n from to = leb (10 * n + 2 * length from) len && (eqb (length to) (length from) && allTo (edgeAt n from to) (length from))
+good len n from to = leb (10 * n + 6 * length from) len && (eqb (length to) (length from) && allTo (edgeAt n from to) (length from))
 
--- the diagonal, the entries off it, and the vectors, one after another from 0
+-- the numbers of the packed copy have room for n rows and m edges, and each is a u32
+unfoldable pub roomy : ℕ → ℕ → ℕ → Bool
+roomy len n m = ltb n (2 ^ 32) && (ltb m (2 ^ 31) && leb (n + 1 + 6 * m + n / 2) len)
+
+-- the diagonal, the entries off it, those of the packed copy, and the vectors, one after another from 0
 unfoldable pub matrixFor : ℕ → ℕ → Hermitian
 matrixFor n m = record { size = n; edges = m; diagonal = 0; off = n }
 
 unfoldable pub vectorsFor : ℕ → ℕ → Vectors
 vectorsFor n m = record {
-  x = n + 2 * m;
-  residual = n + 2 * m + 2 * n;
-  direction = n + 2 * m + 2 * n + 2 * n;
-  applied = n + 2 * m + 2 * n + 2 * n + 2 * n;
-  inverse = n + 2 * m + 2 * n + 2 * n + 2 * n + 2 * n;
+  x = n + 6 * m;
+  residual = n + 6 * m + 2 * n;
+  direction = n + 6 * m + 2 * n + 2 * n;
+  applied = n + 6 * m + 2 * n + 2 * n + 2 * n;
+  inverse = n + 6 * m + 2 * n + 2 * n + 2 * n + 2 * n;
 }
+
+-- the packed copy, and what it is made of
+abbrev pub packingFor : ℕ → ℕ → Packing
+packingFor n m = record { size = n; slots = 2 * m; entries = n + 2 * m; starts = 0; near = n + 1; marks = n + 1 + 6 * m }
+
+abbrev pub sourceFor : ℕ → ℕ → Source
+sourceFor n m = record { edges = m; from = n + 1 + 4 * m; to = n + 1 + 5 * m; halves = n + 1 + 2 * m }
+
+-- the ends are laid out, and the copy's numbers made of them
+abbrev pub endsFor : List ℕ → ℕ → List ℕ → List ℕ → List ℕ
+endsFor u n from to = put (put u (sourceFor n (length from) .from) from) (sourceFor n (length from) .to) to
+
+unfoldable pub numbersFor : List ℕ → ℕ → List ℕ → List ℕ → List ℕ
+numbersFor u n from to = packedIn (packingFor n (length from)) (sourceFor n (length from)) (endsFor u n from to)
+
+-- its entries
+unfoldable pub entriesFor : List Float → ℕ → List ℕ → List ℕ → List Float
+entriesFor w n from to = putC w (n + 2 * length from) (entriesOf (matrix w (matrixFor n (length from)) from to) n)
 
 unfoldable pub outcome : List Float → ℕ → List ℕ → List ℕ → Float → ℕ → Outcome
 outcome w n from to tolerance most =
     solved (matrix w (matrixFor n (length from)) from to) tolerance most (read w n (vectorsFor n (length from)))
 
+-- a solve, where every test is passed
+pub record Runs (w w′ : List Float) (n : ℕ) (from to u u′ : List ℕ) (tolerance : Float) (most : ℕ) (r : Answer) : Type 0 where
+  pub work : w′ ≡ lay (entriesFor w n from to) n (vectorsFor n (length from)) (outcome w n from to tolerance most .state)
+  pub numbers : u′ ≡ numbersFor u n from to
+  pub result : r ≡ outcome w n from to tolerance most .answer
+
+-- they are
+unfoldable pub tested : ℕ → ℕ → List ℕ → List ℕ → ℕ → Bool
+tested len n from to words = good len n from to && roomy words n (length from)
+
 unfoldable pub solvedWork : Bool → List Float → ℕ → List ℕ → List ℕ → Float → ℕ → List Float
-solvedWork true w n from to tolerance most = lay w n (vectorsFor n (length from)) (outcome w n from to tolerance most .state)
+solvedWork true w n from to tolerance most = lay (entriesFor w n from to) n (vectorsFor n (length from)) (outcome w n from to tolerance most .state)
 solvedWork false w n from to tolerance most = w
+
+unfoldable pub solvedNumbers : Bool → List ℕ → ℕ → List ℕ → List ℕ → List ℕ
+solvedNumbers true u n from to = numbersFor u n from to
+solvedNumbers false u n from to = u
 
 unfoldable pub solvedAnswer : Bool → List Float → ℕ → List ℕ → List ℕ → Float → ℕ → Checked
 solvedAnswer true w n from to tolerance most = Solved (outcome w n from to tolerance most .answer)
 solvedAnswer false w n from to tolerance most = Refused
 
-pub record SolveChecked (w w′ : List Float) (n : ℕ) (from to : List ℕ) (tolerance : Float) (most : ℕ) (r : Checked) : Type 0 where
-  pub work : w′ ≡ solvedWork (good (length w) n from to) w n from to tolerance most
-  pub result : r ≡ solvedAnswer (good (length w) n from to) w n from to tolerance most
+pub record SolveChecked (w w′ : List Float) (n : ℕ) (from to u u′ : List ℕ) (tolerance : Float) (most : ℕ) (r : Checked) : Type 0 where
+  pub work : w′ ≡ solvedWork (tested (length w) n from to (length u)) w n from to tolerance most
+  pub numbers : u′ ≡ solvedNumbers (tested (length w) n from to (length u)) u n from to
+  pub result : r ≡ solvedAnswer (tested (length w) n from to (length u)) w n from to tolerance most
 
 -- the same, where only the test's answer goes back
-pub record SolveTold (w w′ : List Float) (n : ℕ) (from to : List ℕ) (tolerance : Float) (most : ℕ) (r : Bool) : Type 0 where
-  pub work : w′ ≡ solvedWork (good (length w) n from to) w n from to tolerance most
-  pub result : r ≡ good (length w) n from to
+pub record SolveTold (w w′ : List Float) (n : ℕ) (from to u u′ : List ℕ) (tolerance : Float) (most : ℕ) (r : Bool) : Type 0 where
+  pub work : w′ ≡ solvedWork (tested (length w) n from to (length u)) w n from to tolerance most
+  pub numbers : u′ ≡ solvedNumbers (tested (length w) n from to (length u)) u n from to
+  pub result : r ≡ tested (length w) n from to (length u)
 
 -- normalize_in_mass of the vector at x, with the direction's region for the product
 unfoldable pub normalWork : Bool → List Float → ℕ → List ℕ → List ℕ → List Float

@@ -6,10 +6,16 @@ use linear_conjugate_gradient::Vectors;
 use linear_conjugate_gradient::conjugate_gradient;
 use linear_conjugate_gradient::normalize_in_mass;
 use linear_hermitian::Hermitian;
+use linear_packing::Packing;
+use linear_packing::Source;
 ghost use mathlib.Core.Path.{_≡_};
-ghost use Prim.Native.Nat.{_+_, _*_, _^_, _<_};
+ghost use mathlib.Core.Bool.{true};
+ghost use Prim.Native.Nat.{_+_, _*_, _^_, _≤_, _<_};
 ghost use lib.ListN.{length};
-ghost use Rattle.linear_layers.specs.Checked.{allTo, edgeGood, edgeAt, good, matrixFor, vectorsFor, SolveChecked, SolveTold, NormalChecked};
+ghost use Rattle.linear_cells.specs.Region.{put};
+ghost use Rattle.linear_hermitian.specs.Work.{Graph};
+ghost use Rattle.linear_layers.specs.Checked.{allTo, edgeGood, edgeAt, good, roomy, matrixFor, vectorsFor, packingFor, sourceFor, numbersFor};
+ghost use Rattle.linear_layers.specs.Checked.{Runs, SolveChecked, SolveTold, NormalChecked};
 
 pub enum Checked {
     // The slices have not the form that is asked for, and nothing was written.
@@ -54,7 +60,10 @@ fn is_good(work: &[f64], n: usize, from: &[u32], to: &[u32]) -> bool
     if work.len() < n {
         return false;
     }
-    if work.len() < 10 * n + 2 * from.len() {
+    if work.len() < from.len() {
+        return false;
+    }
+    if work.len() < 10 * n + 6 * from.len() {
         return false;
     }
     if to.len() != from.len() {
@@ -75,10 +84,10 @@ fn matrix_for(n: usize, m: usize) -> Hermitian
 }
 
 fn vectors_for(n: usize, m: usize) -> Vectors
-    requires { ⌜ 10 * n + 2 * m < 2 ^ 64 ⌝ }
+    requires { ⌜ 10 * n + 6 * m < 2 ^ 64 ⌝ }
     ensures { λ r. ⌜ r ≡ vectorsFor n m ⌝ }
 {
-    let x = n + 2 * m;
+    let x = n + 6 * m;
     let residual = x + 2 * n;
     let direction = residual + 2 * n;
     let applied = direction + 2 * n;
@@ -91,23 +100,110 @@ fn vectors_for(n: usize, m: usize) -> Vectors
     }
 }
 
-// The slice holds the diagonal, the entries off it, the iterate's region, the right-hand side, and room for three vectors.
+// Whether the numbers of the packed copy have room, and each is a u32.
+fn has_room(numbers: &[u32], n: usize, m: usize) -> bool
+    ensures { λ r. ⌜ r ≡ roomy (length (now (numbers .entry))) n m ⌝ }
+{
+    if n >= 0x1_0000_0000 {
+        return false;
+    }
+    if m >= 0x8000_0000 {
+        return false;
+    }
+    n + 1 + 6 * m + n / 2 <= numbers.len()
+}
+
+fn packing_for(n: usize, m: usize) -> Packing
+    requires { ⌜ (n < 2 ^ 32) × (m < 2 ^ 32) ⌝ }
+    ensures { λ r. ⌜ r ≡ packingFor n m ⌝ }
+{
+    Packing {
+        size: n,
+        slots: 2 * m,
+        entries: n + 2 * m,
+        starts: 0,
+        near: n + 1,
+        marks: n + 1 + 6 * m,
+    }
+}
+
+fn source_for(n: usize, m: usize) -> Source
+    requires { ⌜ (n < 2 ^ 32) × (m < 2 ^ 32) ⌝ }
+    ensures { λ r. ⌜ r ≡ sourceFor n m ⌝ }
+{
+    Source {
+        edges: m,
+        from: n + 1 + 4 * m,
+        to: n + 1 + 5 * m,
+        halves: n + 1 + 2 * m,
+    }
+}
+
+fn put_ends(ends: &[u32], numbers: &mut [u32], at: usize)
+    requires { ⌜ at + length (now ends) ≤ length (now numbers) ⌝ }
+    ensures { λ _. ⌜ now (numbers .exit) ≡ put (now (numbers .entry)) at (now (ends .entry)) ⌝ }
+{
+    for i in 0..ends.len() {
+        numbers[at + i] = ends[i];
+    }
+}
+
+// The numbers of the packed copy, of these edges.
+fn number_edges(numbers: &mut [u32], n: usize, from: &[u32], to: &[u32])
+    requires { ⌜ roomy (length (now numbers)) n (length (now from)) ≡ true ⌝ }
+    requires { ⌜ Graph (matrixFor n (length (now from))) (now from) (now to) ⌝ }
+    ensures { λ _. ⌜ now (numbers .exit) ≡ numbersFor (now (numbers .entry)) n (now (from .entry)) (now (to .entry)) ⌝ }
+{
+    let t = packing_for(n, from.len());
+    let s = source_for(n, from.len());
+    put_ends(from, numbers, s.from);
+    put_ends(to, numbers, s.to);
+    linear_packing::pack(numbers, t, s);
+}
+
+// The solve, once all is tested.
+fn run(
+    work: &mut [f64],
+    n: usize,
+    from: &[u32],
+    to: &[u32],
+    numbers: &mut [u32],
+    tolerance: f64,
+    most: usize,
+) -> Answer
+    requires { ⌜ good (length (now work)) n (now from) (now to) ≡ true ⌝ }
+    requires { ⌜ roomy (length (now numbers)) n (length (now from)) ≡ true ⌝ }
+    ensures { λ r. ⌜ Runs (now (work .entry)) (now (work .exit)) n (now (from .entry)) (now (to .entry)) (now (numbers .entry)) (now (numbers .exit)) tolerance most r ⌝ }
+{
+    number_edges(numbers, n, from, to);
+    let h = matrix_for(n, from.len());
+    let l = vectors_for(n, from.len());
+    let t = packing_for(n, from.len());
+    let s = source_for(n, from.len());
+    linear_packing::entries(work, numbers, h, t, s);
+    conjugate_gradient(work, h, l, from, to, numbers, t, tolerance, most)
+}
+
+// The slice holds the diagonal, the entries off it, room for those of the packed copy, the iterate's region, the right-hand side, and room for three vectors.
+// `numbers` is room for the numbers of the copy: a word for each row and one more, six for each edge, and one for each two rows.
 pub fn solve(
     work: &mut [f64],
     n: usize,
     from: &[u32],
     to: &[u32],
+    numbers: &mut [u32],
     tolerance: f64,
     most: usize,
 ) -> Checked
-    ensures { λ r. ⌜ SolveChecked (now (work .entry)) (now (work .exit)) n (now (from .entry)) (now (to .entry)) tolerance most r ⌝ }
+    ensures { λ r. ⌜ SolveChecked (now (work .entry)) (now (work .exit)) n (now (from .entry)) (now (to .entry)) (now (numbers .entry)) (now (numbers .exit)) tolerance most r ⌝ }
 {
     if !is_good(work, n, from, to) {
         return Checked::Refused;
     }
-    let h = matrix_for(n, from.len());
-    let l = vectors_for(n, from.len());
-    Checked::Solved(conjugate_gradient(work, h, l, from, to, tolerance, most))
+    if !has_room(numbers, n, from.len()) {
+        return Checked::Refused;
+    }
+    Checked::Solved(run(work, n, from, to, numbers, tolerance, most))
 }
 
 // The same for C and Rust: whether the slices have the form that is asked for.
@@ -117,17 +213,19 @@ pub extern "C" fn layers_conjugate_gradient(
     n: usize,
     from: &[u32],
     to: &[u32],
+    numbers: &mut [u32],
     tolerance: f64,
     most: usize,
 ) -> bool
-    ensures { λ r. ⌜ SolveTold (now (work .entry)) (now (work .exit)) n (now (from .entry)) (now (to .entry)) tolerance most r ⌝ }
+    ensures { λ r. ⌜ SolveTold (now (work .entry)) (now (work .exit)) n (now (from .entry)) (now (to .entry)) (now (numbers .entry)) (now (numbers .exit)) tolerance most r ⌝ }
 {
     if !is_good(work, n, from, to) {
         return false;
     }
-    let h = matrix_for(n, from.len());
-    let l = vectors_for(n, from.len());
-    conjugate_gradient(work, h, l, from, to, tolerance, most);
+    if !has_room(numbers, n, from.len()) {
+        return false;
+    }
+    run(work, n, from, to, numbers, tolerance, most);
     true
 }
 

@@ -102,11 +102,11 @@ module _ (l : Layout) (m : ℕ) (w : List Float) (u : List ℕ) (o : Options) (a
   pub shift-fits : ShiftRoom (length w₁) (energyAt l m) (massAt l m)
   shift-fits = subst (λ (k : ℕ). ShiftRoom k (energyAt l m) (massAt l m)) (sym work-length) (shift-room l m ok (s .edged .few))
 
-  pub rest-refused : (r : Stage) (x : Fault) → r ≡ tracesStage t → r ≡ Refused x → Finds l (l .counts) (fieldIn l o a w u) w u w₁ u r
+  pub rest-refused : (r : Stage) (x : Fault) → r ≡ tracesStage t → r ≡ Refused x → Finds l (l .table) (fieldIn l o a w u) w u w₁ u r
   unfolding fieldIn fieldOver
   rest-refused r x e d =
-      subst (λ (z : Stage). Finds l (l .counts) (fieldIn l o a w u) w u w₁ u z) (sym d)
-      (refusal-found l (l .counts) (fieldIn l o a w u) x w w₁ u u
+      subst (λ (z : Stage). Finds l (l .table) (fieldIn l o a w u) w u w₁ u z) (sym d)
+      (refusal-found l (l .table) (fieldIn l o a w u) x w w₁ u u
       (ap (λ (z : Traces). afterTraces z (branchOf (builtOf o (floorIn l w u)) (floorIn l w u) o (guidanceAt l a w) (a .iterations))) (sym same-traces) ∙ traces-refused t _ x (sym e ∙ d))
       work-length refl work-below (λ j h. refl))
 
@@ -144,5 +144,5 @@ module _ (l : Layout) (m : ℕ) (w : List Float) (u : List ℕ) (o : Options) (a
     pub ordered-then : Ordered l (length w₂) (length u)
     ordered-then = subst (λ (k : ℕ). Ordered l k (length u)) (sym shifted-length) ok
 
-    pub rest-found : {w₃ : List Float} {u₃ : List ℕ} {q : Stage} → Finds l (l .counts) (soughtIn l m o search w₂ u) w₂ u w₃ u₃ q → Finds l (l .counts) (fieldIn l o a w u) w u w₃ u₃ q
-    rest-found f = finds-from l (l .counts) _ _ w w₂ u u same-field shifted-length refl (λ j h. same-below j (omega arith)) (λ j h. refl) f
+    pub rest-found : {w₃ : List Float} {u₃ : List ℕ} {q : Stage} → Finds l (l .table) (soughtIn l m o search w₂ u) w₂ u w₃ u₃ q → Finds l (l .table) (fieldIn l o a w u) w u w₃ u₃ q
+    rest-found f = finds-from l (l .table) _ _ w w₂ u u same-field shifted-length refl (λ j h. same-below j (omega arith)) (λ j h. refl) f

@@ -43,7 +43,7 @@ module _ (l : Layout) (w : List Float) (u : List ℕ) (o : Options) (a : Asked) 
       (ap (λ (z : Setup). afterSetup z (fieldOver (floorIn l w u) o (guidanceAt l a w) (a .iterations))) (sym (s .answer) ∙ e))
       (s .all-reals) (s .all-words) (λ j h. s .reals-below j (omega arith)) (s .words-below)
 
-  pub pass-found : (m : ℕ) → r ≡ setup.Edges m → {w₂ : List Float} {u₂ : List ℕ} {q : Stage} → Finds l (l .counts) (fieldIn l o a w₁ u₁) w₁ u₁ w₂ u₂ q → Finds l (l .wound) (passIn l o a w u) w u w₂ u₂ q
+  pub pass-found : (m : ℕ) → r ≡ setup.Edges m → {w₂ : List Float} {u₂ : List ℕ} {q : Stage} → Finds l (l .table) (fieldIn l o a w₁ u₁) w₁ u₁ w₂ u₂ q → Finds l (l .wound) (passIn l o a w u) w u w₂ u₂ q
   pass-found m e f = finds-from l (l .wound) (fieldIn l o a w₁ u₁) (passIn l o a w u) w w₁ u u₁ same-field (s .all-reals) (s .all-words) (λ j h. s .reals-below j (omega arith)) (s .words-below)
       (record { answer = f .answer; found = f .found; all-reals = f .all-reals; all-words = f .all-words; reals-below = f .reals-below; words-below = λ j h. f .words-below j (omega arith) })
     where

@@ -70,7 +70,7 @@ fn shift_energy(w: &mut [f64], l: Layout, edges: usize, t: Traces)
 fn field_over(w: &mut [f64], u: &mut [u32], l: Layout, edges: usize, o: Options, a: Asked) -> Stage
     requires { ⌜ Ordered l (length (now w)) (length (now u)) ⌝ }
     requires { ⌜ Stands l edges (floorIn l (now w) (now u)) (now w) (now u) ⌝ }
-    ensures { λ r. ⌜ Finds l (l .counts) (fieldIn l o a (now (w .entry)) (now (u .entry))) (now (w .entry)) (now (u .entry)) (now (w .exit)) (now (u .exit)) r ⌝ }
+    ensures { λ r. ⌜ Finds l (l .table) (fieldIn l o a (now (w .entry)) (now (u .entry))) (now (w .entry)) (now (u .entry)) (now (w .exit)) (now (u .exit)) r ⌝ }
 {
     let mode = Mode {
         accurate: o.accurate,

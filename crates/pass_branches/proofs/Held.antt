@@ -44,7 +44,7 @@ use Rattle.pass_layout.specs.Matrices.{massAt, energyAt}
 use Rattle.pass_layout.specs.Work.{floorIn, guidanceIn, fromIn, toIn, listingAt, Edged}
 use Rattle.pass_branches.specs.declared.Search.{Search}
 use Rattle.pass_branches.specs.Branches.{Built, guidedTerm, softTerms, acts, flagsIn, targetsIn, byMode, unbounded, branchOf}
-use Rattle.pass_branches.specs.Work.{builtIn, soughtIn, Finds, Leaves, termsAt, outerAt, flagsAt, Bounds, LeavesAt}
+use Rattle.pass_branches.specs.Work.{builtIn, soughtIn, Finds, Leaves, termsAt, outerAt, flagsAt, Bounds, LeavesPacked}
 
 -- ---- the terms
 
@@ -84,14 +84,14 @@ idle None b n flags flags′ targets targets′ start ts k e = refl
 idle Tangent b n flags flags′ targets targets′ start ts k e = let z : _≡_ {A = ℕ} 0 1 = cc in absurd (omega arith)
 idle (Weak weight) b n flags flags′ targets targets′ start ts k e = rw e
 
-pub idle-finds : (l : Layout) (m : ℕ) (o : Options) (s : Search) (w : List Float) (u : List ℕ) {b : Bool} → b ≡ acts (o .boundary) → b ≡ false → {w₁ : List Float} {r : Stage}
-    → LeavesAt l m o s w w₁ u r → Finds l (l .counts) (soughtIn l m o s w u) w u w₁ u r
-idle-finds l m o s w u eb e {w₁} {r} a =
+pub idle-finds : (l : Layout) (m : ℕ) (o : Options) (s : Search) (w : List Float) (u : List ℕ) {b : Bool} → b ≡ acts (o .boundary) → b ≡ false → {w₁ : List Float} {u₁ : List ℕ} {r : Stage}
+    → LeavesPacked l m o s w w₁ u u₁ r → Finds l (l .table) (soughtIn l m o s w u) w u w₁ u₁ r
+idle-finds l m o s w u eb e {w₁} {u₁} {r} a =
     let q : acts (o .boundary) ≡ false = sym eb ∙ e in
     let p : modeIn l m o s w u (flagsAt l u) (regionC w (l .targets) (l .points)) ≡ soughtIn l m o s w u =
     idle (o .boundary) _ _ _ (flags l m o s w u) _ (targets l m o s w u) _ _ _ q ∙ sym (sought-is l m o s w u ∙ rw q) in
-    let c : Leaves w w₁ (l .angles) (l .points) (soughtIn l m o s w u) r = rw p at a in
-    record { answer = c .answer; found = c .found; all-reals = c .all-reals; all-words = refl; reals-below = c .reals-below; words-below = λ j k. refl }
+    let c : Leaves w w₁ (l .angles) (l .points) (soughtIn l m o s w u) r = rw p at (a .leaves) in
+    record { answer = c .answer; found = c .found; all-reals = c .all-reals; all-words = a .all-words; reals-below = c .reals-below; words-below = a .words-below }
 
 -- no field is asked of tangents then
 pub idle-bounds : (o : Options) {b : Bool} → b ≡ acts (o .boundary) → b ≡ false → o .boundary ≡ Tangent → ⊥
@@ -167,6 +167,9 @@ module _ (l : Layout) (m : ℕ) (w : List Float) (u : List ℕ) (ok : Ordered l 
     words-stay : (j : ℕ) → j < l .counts → getD u₁ j 0 ≡ getD u j 0
     words-stay j k = region-one 0 u u₁ j (words-same j 1 (omega arith))
 
+    words-before : (j : ℕ) → j < l .table → getD u₁ j 0 ≡ getD u j 0
+    words-before j k = words-stay j (omega (arith, ok .table-in, ok .from-in, ok .to-in))
+
     mass-same : matrix w₁ (massAt l m) (fromIn l m u₁) (toIn l m u₁) ≡ matrix w (massAt l m) (fromIn l m u) (toIn l m u)
     unfolding matrix
     mass-same =
@@ -196,25 +199,25 @@ module _ (l : Layout) (m : ℕ) (w : List Float) (u : List ℕ) (ok : Ordered l 
 
     module _ (o : Options) (s : Search) (a : acts (o .boundary) ≡ true) where
       -- row 23
-      pub held-refused : sides ≡ 0 → {r : Stage} → r ≡ Refused (row 23 0) → Finds l (l .counts) (soughtIn l m o s w u) w u w₁ u₁ r
+      pub held-refused : sides ≡ 0 → {r : Stage} → r ≡ Refused (row 23 0) → Finds l (l .table) (soughtIn l m o s w u) w u w₁ u₁ r
       held-refused z er =
           let q : soughtIn l m o s w u ≡ faulty (row 23 0) = sought-is l m o s w u ∙ rw (a, eq-eqb _ _ (sym (b .sides) ∙ z)) in
-          rw q (record { answer = er; found = λ alpha h. absurd (never alpha h); all-reals = all-reals-same; all-words = all-words-same; reals-below = reals-stay; words-below = words-stay })
+          rw q (record { answer = er; found = λ alpha h. absurd (never alpha h); all-reals = all-reals-same; all-words = all-words-same; reals-below = reals-stay; words-below = words-before })
         where
           never : (alpha : List Float) → faulty (row 23 0) ≡ field alpha → ⊥
           never alpha h = let y : _≡_ {A = ℕ} 0 1 = cc in omega arith
 
-      pub held-finds : (sides ≡ 0 → ⊥) → {w₂ : List Float} {r : Stage} → LeavesAt l m o s w₁ w₂ u₁ r → Finds l (l .counts) (soughtIn l m o s w u) w u w₂ u₁ r
-      held-finds z {w₂} {r} c =
+      pub held-finds : (sides ≡ 0 → ⊥) → {w₂ : List Float} {u₂ : List ℕ} {r : Stage} → LeavesPacked l m o s w₁ w₂ u₁ u₂ r → Finds l (l .table) (soughtIn l m o s w u) w u w₂ u₂ r
+      held-finds z {w₂} {u₂} {r} c =
           let q : soughtIn l m o s w u ≡ modeIn l m o s w u F T = sought-is l m o s w u ∙ rw (a, ne-eqb _ _ (λ h. z (b .sides ∙ h))) in
           let p : modeIn l m o s w₁ u₁ (flagsAt l u₁) (regionC w₁ (l .targets) (l .points)) ≡ soughtIn l m o s w u =
           rw (mass-same, energy-same, flags-are, targets-are, reals-same (l .x) (l .points) (omega arith), reals-same (l .y) (l .points) (omega arith), reals-same (l .guidance) (l .points) (omega arith)) (sym q) in
-          let d : Leaves w₁ w₂ (l .angles) (l .points) (soughtIn l m o s w u) r = rw p at c in
+          let d : Leaves w₁ w₂ (l .angles) (l .points) (soughtIn l m o s w u) r = rw p at (c .leaves) in
           record {
             answer = d .answer;
             found = d .found;
             all-reals = d .all-reals ∙ all-reals-same;
-            all-words = all-words-same;
+            all-words = c .all-words ∙ all-words-same;
             reals-below = λ j k. d .reals-below j k ∙ reals-stay j k;
-            words-below = words-stay;
+            words-below = λ j k. c .words-below j k ∙ words-before j k;
           }

@@ -1,6 +1,6 @@
 -- The branches at a layout: what they require there follows from the order of its regions, and the parts of the u32 work are its flags and the ends of
 -- its edges. Assumes nothing.
-use mathlib.Core.Path.{_≡_, ap, _∙_}
+use mathlib.Core.Path.{_≡_, refl, ap, _∙_}
 use mathlib.Core.List.{List}
 use Prim.Native.Nat.{ℕ, _+_, _-_, _*_, _≤_}
 use native.Mathlib.Omega.{arith}
@@ -12,6 +12,8 @@ use Rattle.linear_cells.proofs.Loops.{apart}
 use Rattle.linear_cells.proofs.Regions.{length-region}
 use Rattle.linear_cells.proofs.Changes.{part-region}
 use Rattle.linear_hermitian.specs.declared.Hermitian.{Hermitian}
+use Rattle.linear_packing.specs.declared.Packing.{Packing}
+use Rattle.linear_packing.specs.declared.Source.{Source}
 use Rattle.linear_conjugate_gradient.specs.declared.Vectors.{Vectors}
 use Rattle.pass_constraints.specs.Constraints.{boundaryData}
 use Rattle.pass_inverse_iteration.specs.Work.{Graphs}
@@ -22,10 +24,10 @@ use Rattle.pass_options.specs.declared.Options.{Options}
 use Rattle.pass_options.specs.declared.BoundaryMode.the-variants.{Tangent}
 use Rattle.pass_layout.specs.declared.Layout.{Layout}
 use Rattle.pass_layout.specs.Layout.{Ordered}
-use Rattle.pass_layout.specs.Matrices.{massAt, energyAt, vectorsAt}
-use Rattle.pass_layout.specs.Work.{fromIn, toIn, Edged}
+use Rattle.pass_layout.specs.Matrices.{massAt, energyAt, vectorsAt, packingAt, sourceAt}
+use Rattle.pass_layout.specs.Work.{fromIn, toIn}
 use Rattle.pass_branches.specs.declared.Search.{Search}
-use Rattle.pass_branches.specs.Work.{BranchRoom, termsAt, outerAt, flagsAt, Bounds, LeavesBy, LeavesAt}
+use Rattle.pass_branches.specs.Work.{BranchRoom, CopyRoom, CopyBehind, Copies, Packs, termsAt, outerAt, flagsAt, Bounds, LeavesBy, LeavesAt}
 
 -- a part of the u32 work, as the code takes it
 abbrev part : List ℕ → ℕ → ℕ → List ℕ
@@ -41,29 +43,39 @@ module _ (l : Layout) (m : ℕ) (o : Options) (s : Search) {reals words : ℕ} (
   target-room : TargetRoom reals (energyAt l m) (vectorsAt l) (l .targets)
   target-room = omega (arith, apart)
 
-module _ (l : Layout) (m : ℕ) (o : Options) (s : Search) (w : List Float) (u : List ℕ) (ok : Ordered l (length w) (length u)) (e : Edged l m u) where
+  copy-room : CopyRoom (energyAt l m) (vectorsAt l) (l .angles) (packingAt l m) (sourceAt l m)
+  copy-room = omega arith
+
+  copy-behind : CopyBehind (massAt l m) (l .points) (outerAt l s) (packingAt l m)
+  copy-behind = omega arith
+
+module _ (l : Layout) (m : ℕ) (o : Options) (s : Search) (w : List Float) (u : List ℕ) (ok : Ordered l (length w) (length u)) (e : Packs l m u) where
   flag-is : part u (l .flags) (l .points) ≡ flagsAt l u
-  flag-is = part-is u (l .flags) (l .points) (ok .flags-in)
+  flag-is = part-is u (l .flags) (l .points) (omega (arith, ok .flags-in, ok .marks-in))
 
   from-is : part u (l .from) m ≡ fromIn l m u
-  from-is = part-is u (l .from) m (omega (arith, ok .from-in, ok .to-in, ok .counts-in, ok .flags-in, e .few))
+  from-is = part-is u (l .from) m (omega (arith, ok .from-in, ok .to-in, ok .counts-in, ok .flags-in, ok .marks-in, e .few))
 
   to-is : part u (l .to) m ≡ toIn l m u
-  to-is = part-is u (l .to) m (omega (arith, ok .to-in, ok .counts-in, ok .flags-in, e .few))
+  to-is = part-is u (l .to) m (omega (arith, ok .to-in, ok .counts-in, ok .flags-in, ok .marks-in, e .few))
 
   graphs : Graphs (massAt l m) (energyAt l m) (fromIn l m u) (toIn l m u)
   graphs =
       let g = e .graph in
       record { mass-graph = g; energy-graph = record { all-a = g .all-a; all-b = g .all-b; a-below = g .a-below; b-below = g .b-below; different = g .different } }
 
+  copies : Copies u (fromIn l m u) (toIn l m u) (packingAt l m) (sourceAt l m)
+  copies = record { ready = e .ready; lower = refl; upper = refl }
+
   module _ {h mass : Hermitian} (eh : h ≡ energyAt l m) (em : mass ≡ massAt l m) {t : Terms} (et : t ≡ termsAt l o s) where
-    pub by-requires : {v : Vectors} → v ≡ vectorsAt l → (o .boundary ≡ Tangent → Bounds l w u)
+    pub by-requires : {v : Vectors} → v ≡ vectorsAt l → {c : Packing} → c ≡ packingAt l m → {g : Source} → g ≡ sourceAt l m → (o .boundary ≡ Tangent → Bounds l w u)
         → (BranchRoom (length w) h mass v (l .angles) t (outerAt l s) × TargetRoom (length w) h v (l .targets))
         × ((Graphs mass h (part u (l .from) m) (part u (l .to) m) × (length (part u (l .flags) (l .points)) ≡ h .size))
-        × (o .boundary ≡ Tangent → boundaryData (part u (l .flags) (l .points)) (regionC w (l .targets) (h .size)) ≡ regionC w (l .targets) (h .size)))
-    by-requires ev b =
-        rw (eh, em, et, ev, from-is, to-is, flag-is)
-        ((branch-room l m o s ok (e .few), target-room l m o s ok (e .few)), ((graphs, length-region 0 u (l .flags) (l .points)), b))
+        × ((o .boundary ≡ Tangent → boundaryData (part u (l .flags) (l .points)) (regionC w (l .targets) (h .size)) ≡ regionC w (l .targets) (h .size))
+        × ((CopyRoom h v (l .angles) c g × CopyBehind mass (h .size) (outerAt l s) c) × Copies u (part u (l .from) m) (part u (l .to) m) c g)))
+    by-requires ev ec eg b =
+        rw (eh, em, et, ev, ec, eg, from-is, to-is, flag-is)
+        ((branch-room l m o s ok (e .few), target-room l m o s ok (e .few)), ((graphs, length-region 0 u (l .flags) (l .points)), (b, ((copy-room l m o s ok (e .few), copy-behind l m o s ok (e .few)), copies))))
 
     pub at-leaves : {w₁ : List Float} {r : Stage}
         → LeavesBy (o .boundary) w w₁ h mass (l .targets) (l .angles) (part u (l .flags) (l .points)) (part u (l .from) m) (part u (l .to) m) t (outerAt l s) r → LeavesAt l m o s w w₁ u r

@@ -1,5 +1,5 @@
 -- What the second part of a pass reads from the work slices, requires of them and leaves there. Definitions only.
-use Prim.Native.Nat.{ℕ, _+_, _≤_, _<_}
+use Prim.Native.Nat.{ℕ, _+_, _*_, _≤_, _<_}
 use mathlib.Core.Path.{_≡_}
 use mathlib.Core.Bool.{Bool, not, _&&_}
 use mathlib.Core.List.{List}
@@ -10,7 +10,11 @@ use Rattle.linear_cells.specs.Region.{region}
 use Rattle.linear_cells.specs.Cell.{regionC}
 use Rattle.geometry.specs.Edge.{alignmentWeight}
 use Rattle.linear_hermitian.specs.declared.Hermitian.{Hermitian}
-use Rattle.linear_hermitian.specs.Work.{matrix}
+use Rattle.linear_hermitian.specs.Work.{matrix, Graph}
+use Rattle.linear_packing.specs.declared.Packing.{Packing}
+use Rattle.linear_packing.specs.declared.Source.{Source}
+use Rattle.linear_packing.specs.Pack.{Ready}
+use Rattle.linear_packing.specs.Pack as pack
 use Rattle.linear_conjugate_gradient.specs.declared.Vectors.{Vectors}
 use Rattle.pass_inverse_iteration.specs.declared.Outer.{Outer}
 use Rattle.pass_inverse_iteration.specs.Inverse.{inverseOf}
@@ -26,7 +30,7 @@ use Rattle.pass_options.specs.declared.BoundaryMode.{BoundaryMode}
 use Rattle.pass_options.specs.Options.{guidanceOf}
 use Rattle.pass_options.specs.Pass.{Passed, field, stageOf}
 use Rattle.pass_layout.specs.declared.Layout.{Layout}
-use Rattle.pass_layout.specs.Matrices.{massAt, energyAt}
+use Rattle.pass_layout.specs.Matrices.{massAt, energyAt, packingAt, sourceAt}
 use Rattle.pass_layout.specs.Work.{floorIn, guidanceIn, fromIn, toIn}
 use Rattle.pass_branches.specs.declared.Search.{Search}
 use Rattle.pass_branches.specs.Branches.{Built, afterVector, linear, free, weak, tangent, byMode, branchOf}
@@ -65,6 +69,28 @@ pub record BranchRoom (len : ℕ) (h mass : Hermitian) (l : Vectors) (at : ℕ) 
   pub plane-room : PlanesBelow (h .size) l o
   pub angles-below : at + h .size ≤ h .diagonal
   pub angles-below-off : at + h .size ≤ h .off
+
+-- where the packed copy of the matrix at h stands: its entries lie behind that matrix and the angles, and below the vectors
+pub record CopyRoom (h : Hermitian) (l : Vectors) (at : ℕ) (c : Packing) (e : Source) : Type 0 where
+  pub one-size : c .size ≡ h .size
+  pub one-graph : h .edges ≡ e .edges
+  pub angles-before : at + h .size ≤ c .entries
+  pub diagonal-before : h .diagonal + h .size ≤ c .entries
+  pub off-before : h .off + 2 * h .edges ≤ c .entries
+  pub entries-below : c .entries + 2 * c .slots ≤ l .x
+
+-- and behind the mass matrix and the coordinates
+pub record CopyBehind (mass : Hermitian) (n : ℕ) (o : Outer) (c : Packing) : Type 0 where
+  pub mass-before : mass .diagonal + mass .size ≤ c .entries
+  pub mass-off-before : mass .off + 2 * mass .edges ≤ c .entries
+  pub x-before : o .x + n ≤ c .entries
+  pub y-before : o .y + n ≤ c .entries
+
+-- its numbers stand in u, and are those of the edges with these ends
+pub record Copies (u from to : List ℕ) (c : Packing) (e : Source) : Type 0 where
+  pub ready : Ready u c e
+  pub lower : from ≡ pack.fromIn e u
+  pub upper : to ≡ pack.toIn e u
 
 -- the soft terms that are asked for
 abbrev pub termsAt : Layout → Options → Search → Terms
@@ -123,3 +149,15 @@ LeavesAt l m o s w w′ u r =
 -- off the boundary the targets are 0
 abbrev pub Bounds : Layout → List Float → List ℕ → Type 0
 Bounds l w u = boundaryData (flagsAt l u) (regionC w (l .targets) (l .points)) ≡ regionC w (l .targets) (l .points)
+
+-- there are m edges, and the numbers of their packed copy
+pub record Packs (l : Layout) (m : ℕ) (u : List ℕ) : Type 0 where
+  pub few : m ≤ 3 * l .triangles
+  pub graph : Graph (massAt l m) (fromIn l m u) (toIn l m u)
+  pub ready : Ready u (packingAt l m) (sourceAt l m)
+
+-- the field, with all before the table of sides as it was
+pub record LeavesPacked (l : Layout) (m : ℕ) (o : Options) (s : Search) (w w′ : List Float) (u u′ : List ℕ) (r : Stage) : Type 0 where
+  pub leaves : LeavesAt l m o s w w′ u r
+  pub all-words : length u′ ≡ length u
+  pub words-below : (j : ℕ) → j < l .table → getD u′ j 0 ≡ getD u j 0

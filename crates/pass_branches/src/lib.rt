@@ -1,8 +1,11 @@
 // The second part of a pass: from the two matrices to the field, by the branch that the options choose. It refuses by rows 23 and 24.
 // specs/Branches.antt says what each branch finds, and specs/Work.antt where it stands. `flag` has a flag for each point, 1 where it lies on the boundary,
-// and `from` and `to` the ends of the edges.
+// and `from` and `to` the ends of the edges. The linear solver multiplies by a packed copy of its matrix: its numbers, which depend on the edges alone, are made
+// once, and its entries once for each system.
 use linear_conjugate_gradient::Vectors;
 use linear_hermitian::Hermitian;
+use linear_packing::Packing;
+use linear_packing::Source;
 use pass_boundary::Listing;
 use pass_boundary::Planes;
 use pass_inverse_iteration::Outer;
@@ -18,15 +21,18 @@ ghost use lib.ListN.{length};
 ghost use Rattle.linear_cells.specs.Cell.{regionC};
 ghost use Rattle.linear_hermitian.specs.Work.{Graph};
 ghost use Rattle.linear_conjugate_gradient.specs.Work.{SolverRoom};
+ghost use Rattle.linear_adjacency.specs.Adjacency.{Ends};
+ghost use Rattle.linear_packing.specs.Pack.{PackRoom, packedIn};
 ghost use Rattle.pass_inverse_iteration.specs.Work.{PencilRoom, PlanesBelow, Graphs};
 ghost use Rattle.pass_constraints.specs.Constraints.{boundaryData};
 ghost use Rattle.pass_systems.specs.Work.{TargetRoom};
 ghost use Rattle.pass_options.specs.declared.BoundaryMode.the-variants.{Tangent};
 ghost use Rattle.pass_layout.specs.Layout.{Ordered};
-ghost use Rattle.pass_layout.specs.Work.{Edged};
+ghost use Rattle.pass_layout.specs.Matrices.{packingAt, sourceAt, Countable};
+ghost use Rattle.pass_layout.specs.Work.{fromIn, toIn, Edged};
 ghost use Rattle.pass_branches.specs.Branches.{acts};
-ghost use Rattle.pass_branches.specs.Work.{soughtIn, Finds, BranchRoom, termsAt, noneActs};
-ghost use Rattle.pass_branches.specs.Work.{LeavesLinear, LeavesSoft, LeavesVector, LeavesFree, LeavesWeak, LeavesTangent, LeavesBy, LeavesAt, Bounds};
+ghost use Rattle.pass_branches.specs.Work.{soughtIn, Finds, BranchRoom, CopyRoom, CopyBehind, Copies, Packs, termsAt, noneActs};
+ghost use Rattle.pass_branches.specs.Work.{LeavesLinear, LeavesSoft, LeavesVector, LeavesFree, LeavesWeak, LeavesTangent, LeavesBy, LeavesAt, LeavesPacked, Bounds};
 
 // What else the field depends on: whether guidance is given, and its weight; the trace of the energy matrix before its shift; how many outer iterations
 // there may be.
@@ -46,13 +52,18 @@ fn solve_system(
     iterations: usize,
     from: &[u32],
     to: &[u32],
+    u: &[u32],
+    copy: Packing,
+    source: Source,
 ) -> Stage
     requires { ⌜ SolverRoom (length (now w)) h l × (angles + h .size ≤ l .x) ⌝ }
     requires { ⌜ Graph h (now from) (now to) ⌝ }
+    requires { ⌜ CopyRoom h l angles copy source × Copies (now u) (now from) (now to) copy source ⌝ }
     ensures { λ r. ⌜ LeavesLinear (now (w .entry)) (now (w .exit)) h l angles iterations (now (from .entry)) (now (to .entry)) r ⌝ }
 {
     let most = pass_solution::linear_most(h.size, iterations);
-    let s = pass_solution::solve(w, h, l, from, to, most);
+    linear_packing::entries(w, u, h, copy, source);
+    let s = pass_solution::solve(w, h, l, from, to, u, copy, most);
     let Stage::Done = s else {
         return s;
     };
@@ -70,13 +81,17 @@ fn soft_field(
     o: Outer,
     from: &[u32],
     to: &[u32],
+    u: &[u32],
+    copy: Packing,
+    source: Source,
 ) -> Stage
     requires { ⌜ BranchRoom (length (now w)) h mass l angles t o ⌝ }
     requires { ⌜ Graphs mass h (now from) (now to) ⌝ }
+    requires { ⌜ CopyRoom h l angles copy source × Copies (now u) (now from) (now to) copy source ⌝ }
     ensures { λ r. ⌜ LeavesSoft (now (w .entry)) (now (w .exit)) h mass angles (now (from .entry)) (now (to .entry)) t o r ⌝ }
 {
     pass_systems::soft_system(w, h, mass, l, from, to, t);
-    solve_system(w, h, l, angles, o.iterations, from, to)
+    solve_system(w, h, l, angles, o.iterations, from, to, u, copy, source)
 }
 
 // The boundary held by a penalty.
@@ -93,13 +108,17 @@ fn weak_field(
     flag: &[u32],
     from: &[u32],
     to: &[u32],
+    u: &[u32],
+    copy: Packing,
+    source: Source,
 ) -> Stage
     requires { ⌜ BranchRoom (length (now w)) h mass l angles t o × TargetRoom (length (now w)) h l targets ⌝ }
     requires { ⌜ Graphs mass h (now from) (now to) × (length (now flag) ≡ h .size) ⌝ }
+    requires { ⌜ CopyRoom h l angles copy source × Copies (now u) (now from) (now to) copy source ⌝ }
     ensures { λ r. ⌜ LeavesWeak (now (w .entry)) (now (w .exit)) h mass targets angles weight (now (flag .entry)) (now (from .entry)) (now (to .entry)) t o r ⌝ }
 {
     pass_systems::weak_system(w, h, mass, l, targets, weight, flag, from, to, t);
-    solve_system(w, h, l, angles, o.iterations, from, to)
+    solve_system(w, h, l, angles, o.iterations, from, to, u, copy, source)
 }
 
 // The boundary held exactly.
@@ -115,14 +134,18 @@ fn tangent_field(
     flag: &[u32],
     from: &[u32],
     to: &[u32],
+    u: &[u32],
+    copy: Packing,
+    source: Source,
 ) -> Stage
     requires { ⌜ BranchRoom (length (now w)) h mass l angles t o × TargetRoom (length (now w)) h l targets ⌝ }
     requires { ⌜ Graphs mass h (now from) (now to) × (length (now flag) ≡ h .size) ⌝ }
     requires { ⌜ boundaryData (now flag) (regionC (now w) targets (h .size)) ≡ regionC (now w) targets (h .size) ⌝ }
+    requires { ⌜ CopyRoom h l angles copy source × Copies (now u) (now from) (now to) copy source ⌝ }
     ensures { λ r. ⌜ LeavesTangent (now (w .entry)) (now (w .exit)) h mass targets angles (now (flag .entry)) (now (from .entry)) (now (to .entry)) t o r ⌝ }
 {
     pass_systems::tangent_system(w, h, mass, l, targets, flag, from, to, t);
-    solve_system(w, h, l, angles, o.iterations, from, to)
+    solve_system(w, h, l, angles, o.iterations, from, to, u, copy, source)
 }
 
 // The eigenvector of the smallest eigenvalue.
@@ -135,12 +158,17 @@ fn vector_field(
     o: Outer,
     from: &[u32],
     to: &[u32],
+    u: &[u32],
+    copy: Packing,
+    source: Source,
 ) -> Stage
     requires { ⌜ (PencilRoom (length (now w)) mass h l × PlanesBelow (h .size) l o) × (angles + h .size ≤ l .x) ⌝ }
     requires { ⌜ Graphs mass h (now from) (now to) ⌝ }
+    requires { ⌜ (CopyRoom h l angles copy source × CopyBehind mass (h .size) o copy) × Copies (now u) (now from) (now to) copy source ⌝ }
     ensures { λ r. ⌜ LeavesVector (now (w .entry)) (now (w .exit)) h mass angles (now (from .entry)) (now (to .entry)) o r ⌝ }
 {
-    let s = pass_inverse_iteration::inverse_iteration(w, mass, h, l, from, to, o);
+    linear_packing::entries(w, u, h, copy, source);
+    let s = pass_inverse_iteration::inverse_iteration(w, mass, h, l, from, to, u, copy, o);
     let Stage::Done = s else {
         return s;
     };
@@ -171,15 +199,19 @@ fn free_field(
     o: Outer,
     from: &[u32],
     to: &[u32],
+    u: &[u32],
+    copy: Packing,
+    source: Source,
 ) -> Stage
     requires { ⌜ BranchRoom (length (now w)) h mass l angles t o ⌝ }
     requires { ⌜ Graphs mass h (now from) (now to) ⌝ }
+    requires { ⌜ (CopyRoom h l angles copy source × CopyBehind mass (h .size) o copy) × Copies (now u) (now from) (now to) copy source ⌝ }
     ensures { λ r. ⌜ LeavesFree (now (w .entry)) (now (w .exit)) h mass angles (now (from .entry)) (now (to .entry)) t o r ⌝ }
 {
     if none_acts(t) {
-        return vector_field(w, h, mass, l, angles, o, from, to);
+        return vector_field(w, h, mass, l, angles, o, from, to, u, copy, source);
     }
-    soft_field(w, h, mass, l, angles, t, o, from, to)
+    soft_field(w, h, mass, l, angles, t, o, from, to, u, copy, source)
 }
 
 // The branch of a boundary mode.
@@ -196,22 +228,57 @@ fn field_by(
     flag: &[u32],
     from: &[u32],
     to: &[u32],
+    u: &[u32],
+    copy: Packing,
+    source: Source,
 ) -> Stage
     requires { ⌜ BranchRoom (length (now w)) h mass l angles t o × TargetRoom (length (now w)) h l targets ⌝ }
     requires { ⌜ Graphs mass h (now from) (now to) × (length (now flag) ≡ h .size) ⌝ }
     requires { ⌜ (mode ≡ Tangent → boundaryData (now flag) (regionC (now w) targets (h .size)) ≡ regionC (now w) targets (h .size)) ⌝ }
+    requires { ⌜ (CopyRoom h l angles copy source × CopyBehind mass (h .size) o copy) × Copies (now u) (now from) (now to) copy source ⌝ }
     ensures { λ r. ⌜ LeavesBy mode (now (w .entry)) (now (w .exit)) h mass targets angles (now (flag .entry)) (now (from .entry)) (now (to .entry)) t o r ⌝ }
 {
     match mode {
-        BoundaryMode::None => free_field(w, h, mass, l, angles, t, o, from, to),
+        BoundaryMode::None => free_field(w, h, mass, l, angles, t, o, from, to, u, copy, source),
         BoundaryMode::Tangent => {
-            tangent_field(w, h, mass, l, targets, angles, t, o, flag, from, to)
+            tangent_field(
+                w,
+                h,
+                mass,
+                l,
+                targets,
+                angles,
+                t,
+                o,
+                flag,
+                from,
+                to,
+                u,
+                copy,
+                source,
+            )
         }
         BoundaryMode::Weak(weight) => {
             if weight > 0.0 {
-                return weak_field(w, h, mass, l, targets, angles, weight, t, o, flag, from, to);
+                return weak_field(
+                    w,
+                    h,
+                    mass,
+                    l,
+                    targets,
+                    angles,
+                    weight,
+                    t,
+                    o,
+                    flag,
+                    from,
+                    to,
+                    u,
+                    copy,
+                    source,
+                );
             }
-            free_field(w, h, mass, l, angles, t, o, from, to)
+            free_field(w, h, mass, l, angles, t, o, from, to, u, copy, source)
         }
     }
 }
@@ -239,10 +306,10 @@ fn terms_of(l: Layout, o: Options, s: Search) -> Terms
     }
 }
 
-// The field of what stands at l, with the flags and the targets there.
+// The field of what stands at l, with the flags and the targets there, and with the numbers of the packed copy.
 fn field_at(w: &mut [f64], u: &[u32], l: Layout, edges: usize, o: Options, s: Search) -> Stage
     requires { ⌜ Ordered l (length (now w)) (length (now u)) ⌝ }
-    requires { ⌜ Edged l edges (now u) × (o .boundary ≡ Tangent → Bounds l (now w) (now u)) ⌝ }
+    requires { ⌜ Packs l edges (now u) × (o .boundary ≡ Tangent → Bounds l (now w) (now u)) ⌝ }
     ensures { λ r. ⌜ LeavesAt l edges o s (now (w .entry)) (now (w .exit)) (now (u .entry)) r ⌝ }
 {
     let flags = l.flags;
@@ -265,6 +332,8 @@ fn field_at(w: &mut [f64], u: &[u32], l: Layout, edges: usize, o: Options, s: Se
     let mass = pass_layout::mass_at(l, edges);
     let vectors = pass_layout::vectors_at(l);
     let mode = o.boundary;
+    let copy = pass_layout::packing_at(l, edges);
+    let source = pass_layout::source_at(l, edges);
     field_by(
         mode,
         w,
@@ -278,14 +347,45 @@ fn field_at(w: &mut [f64], u: &[u32], l: Layout, edges: usize, o: Options, s: Se
         flag,
         from,
         to,
+        u,
+        copy,
+        source,
     )
+}
+
+// Makes the numbers of the packed copy, over the table of sides, which is read no more.
+fn pack_edges(u: &mut [u32], l: Layout, edges: usize)
+    requires { ⌜ Countable l edges × PackRoom (length (now u)) (packingAt l edges) (sourceAt l edges) ⌝ }
+    requires { ⌜ Ends (l .points) (fromIn l edges (now u)) (toIn l edges (now u)) ⌝ }
+    ensures { λ _. ⌜ now (u .exit) ≡ packedIn (packingAt l edges) (sourceAt l edges) (now (u .entry)) ⌝ }
+{
+    let copy = pass_layout::packing_at(l, edges);
+    let source = pass_layout::source_at(l, edges);
+    linear_packing::pack(u, copy, source);
+}
+
+// The same without them.
+fn packed_field(
+    w: &mut [f64],
+    u: &mut [u32],
+    l: Layout,
+    edges: usize,
+    o: Options,
+    s: Search,
+) -> Stage
+    requires { ⌜ Ordered l (length (now w)) (length (now u)) ⌝ }
+    requires { ⌜ Edged l edges (now u) × (o .boundary ≡ Tangent → Bounds l (now w) (now u)) ⌝ }
+    ensures { λ r. ⌜ LeavesPacked l edges o s (now (w .entry)) (now (w .exit)) (now (u .entry)) (now (u .exit)) r ⌝ }
+{
+    pack_edges(u, l, edges);
+    field_at(w, u, l, edges, o, s)
 }
 
 // A boundary mode acts: row 23, or the field with its flags and targets.
 fn held_field(w: &mut [f64], u: &mut [u32], l: Layout, edges: usize, o: Options, s: Search) -> Stage
     requires { ⌜ Ordered l (length (now w)) (length (now u)) ⌝ }
     requires { ⌜ Edged l edges (now u) × (acts (o .boundary) ≡ true) ⌝ }
-    ensures { λ r. ⌜ Finds l (l .counts) (soughtIn l edges o s (now (w .entry)) (now (u .entry))) (now (w .entry)) (now (u .entry)) (now (w .exit)) (now (u .exit)) r ⌝ }
+    ensures { λ r. ⌜ Finds l (l .table) (soughtIn l edges o s (now (w .entry)) (now (u .entry))) (now (w .entry)) (now (u .entry)) (now (w .exit)) (now (u .exit)) r ⌝ }
 {
     let listing = Listing {
         triangles: l.triangles,
@@ -308,7 +408,7 @@ fn held_field(w: &mut [f64], u: &mut [u32], l: Layout, edges: usize, o: Options,
     if sides == 0 {
         return pass_refusal::refused(23, 0);
     }
-    field_at(w, u, l, edges, o, s)
+    packed_field(w, u, l, edges, o, s)
 }
 
 // The angles of the field over the floor with so many edges, whose matrices stand at l.
@@ -322,11 +422,11 @@ pub fn find_field(
 ) -> Stage
     requires { ⌜ Ordered l (length (now w)) (length (now u)) ⌝ }
     requires { ⌜ Edged l edges (now u) ⌝ }
-    ensures { λ r. ⌜ Finds l (l .counts) (soughtIn l edges o s (now (w .entry)) (now (u .entry))) (now (w .entry)) (now (u .entry)) (now (w .exit)) (now (u .exit)) r ⌝ }
+    ensures { λ r. ⌜ Finds l (l .table) (soughtIn l edges o s (now (w .entry)) (now (u .entry))) (now (w .entry)) (now (u .entry)) (now (w .exit)) (now (u .exit)) r ⌝ }
 {
     let mode = o.boundary;
     if acts_on(mode) {
         return held_field(w, u, l, edges, o, s);
     }
-    field_at(w, u, l, edges, o, s)
+    packed_field(w, u, l, edges, o, s)
 }

@@ -16,7 +16,9 @@ use Rattle.linear_hermitian.specs.Work.{matrix}
 use Rattle.linear_hermitian.proofs.Product.{length-applied}
 use Rattle.linear_conjugate_gradient.specs.declared.Vectors.{Vectors}
 use Rattle.linear_conjugate_gradient.specs.Solve.{State}
-use Rattle.linear_conjugate_gradient.specs.Work.{read, lay, VectorRoom, SolverRoom}
+use Rattle.linear_packing.specs.declared.Packing.{Packing}
+use Rattle.linear_conjugate_gradient.specs.Work.{read, lay, VectorRoom, SolverRoom, Engine}
+use Rattle.linear_conjugate_gradient.proofs.Iterations.{engine-still}
 use Rattle.linear_conjugate_gradient.proofs.Lays.{Sized, read-sized, lay-read, get-x, get-r, put-x, put-r}
 use Rattle.pass_refusal.specs.declared.Stage.{Stage}
 use Rattle.pass_refusal.specs.declared.Stage.the-variants.{Done, Refused}
@@ -60,8 +62,7 @@ module _ (w : List Float) (mass energy : Hermitian) (l : Vectors) (from to : Lis
 
   -- ---- next
 
-  module _ {w₁ w₂ : List Float} {s : Stage} (e₁ : w₁ ≡ putC w (l .residual) (applied (p .mass) (regionC w (l .x) (mass .size))))
-      (b : Solves w₁ w₂ energy l from to (o .most) s) where
+  module _ {w₁ : List Float} (e₁ : w₁ ≡ putC w (l .residual) (applied (p .mass) (regionC w (l .x) (mass .size)))) where
     abbrev rhs : List Complex
     rhs = applied (p .mass) x
 
@@ -85,21 +86,25 @@ module _ (w : List Float) (mass energy : Hermitian) (l : Vectors) (from to : Lis
     rhs-is : regionC w₁ (l .residual) n ≡ rhs
     rhs-is = ap (λ v. regionC v (l .residual) n) ready-is ∙ get-r w n l room ready ready-sized
 
-    pub solved-next : Answers w w₂ n l (solutionOf (p .energy) (p .most) rhs) s
-    solved-next =
-        answers-after w n l room framed-ready b
-        (rw (framed-matrix w energy l (ok .energy-room) n refl framed-ready from to, rhs-is))
+    pub next-engine : (u : List ℕ) (t : Packing) → Engine w energy l from to u t → Engine w₁ energy l from to u t
+    next-engine u t g = engine-still w energy l from to u t (ok .energy-room) g ready ready-sized ready-is
 
-    pub next-refused : (s ≡ Done → ⊥) → TakesNext w w₂ mass energy l from to o s
-    unfolding nextOf
-    next-refused h = ends-first w n l (normalizedOf (p .mass)) solved-next h
+    module _ {w₂ : List Float} {s : Stage} (b : Solves w₁ w₂ energy l from to (o .most) s) where
+      pub solved-next : Answers w w₂ n l (solutionOf (p .energy) (p .most) rhs) s
+      solved-next =
+          answers-after w n l room framed-ready b
+          (rw (framed-matrix w energy l (ok .energy-room) n refl framed-ready from to, rhs-is))
 
-    pub next-normalized : s ≡ Done → {w₃ : List Float} {t : Stage} → Normalizes w₂ w₃ mass l from to t → TakesNext w w₃ mass energy l from to o t
-    unfolding nextOf
-    next-normalized d {w₃} c =
-        let f : Framed w w₂ n l = solved-next .frame in
-        let m : matrix w₂ mass from to ≡ p .mass = framed-matrix w mass l (ok .mass-room) n (ok .one-size) f from to in
-        ends-second w n l room (normalizedOf (p .mass)) solved-next d (rw m at (resized w₂ w₃ mass l from to n (ok .one-size) c))
+      pub next-refused : (s ≡ Done → ⊥) → TakesNext w w₂ mass energy l from to o s
+      unfolding nextOf
+      next-refused h = ends-first w n l (normalizedOf (p .mass)) solved-next h
+
+      pub next-normalized : s ≡ Done → {w₃ : List Float} {t : Stage} → Normalizes w₂ w₃ mass l from to t → TakesNext w w₃ mass energy l from to o t
+      unfolding nextOf
+      next-normalized d {w₃} c =
+          let f : Framed w w₂ n l = solved-next .frame in
+          let m : matrix w₂ mass from to ≡ p .mass = framed-matrix w mass l (ok .mass-room) n (ok .one-size) f from to in
+          ends-second w n l room (normalizedOf (p .mass)) solved-next d (rw m at (resized w₂ w₃ mass l from to n (ok .one-size) c))
 
   -- ---- an iteration
 

@@ -1,10 +1,12 @@
 // Inverse iteration for the smallest eigenpair of the shifted pencil, in regions of one lent slice: the Rust's steps. The iterate stands at the solver's x.
+// The packed copy of the energy matrix, for the solver, stands at `t`.
 use linear_conjugate_gradient::Vectors;
 use linear_hermitian::Hermitian;
+use linear_packing::Packing;
 use pass_refusal::Stage;
 ghost use mathlib.Core.Path.{_≡_};
 ghost use lib.ListN.{length};
-ghost use Rattle.linear_conjugate_gradient.specs.Work.{SolverRoom, VectorRoom};
+ghost use Rattle.linear_conjugate_gradient.specs.Work.{SolverRoom, VectorRoom, Engine};
 ghost use Rattle.linear_hermitian.specs.Work.{Graph};
 ghost use Rattle.pass_inverse_iteration.specs.Inverse.{averageOf};
 ghost use Rattle.pass_inverse_iteration.specs.Work.{PencilRoom, PlanesBelow, Graphs};
@@ -103,14 +105,17 @@ fn next(
     l: Vectors,
     from: &[u32],
     to: &[u32],
+    u: &[u32],
+    t: Packing,
     o: Limits,
 ) -> Stage
     requires { ⌜ PencilRoom (length (now work)) mass energy l ⌝ }
     requires { ⌜ Graphs mass energy (now from) (now to) ⌝ }
+    requires { ⌜ Engine (now work) energy l (now from) (now to) (now u) t ⌝ }
     ensures { λ r. ⌜ TakesNext (now (work .entry)) (now (work .exit)) mass energy l (now (from .entry)) (now (to .entry)) o r ⌝ }
 {
     linear_hermitian::apply(work, l.residual, l.x, mass, from, to);
-    let s = pass_solution::solve(work, energy, l, from, to, o.most);
+    let s = pass_solution::solve(work, energy, l, from, to, u, t, o.most);
     let Stage::Done = s else {
         return s;
     };
@@ -124,13 +129,16 @@ fn iterate_once(
     l: Vectors,
     from: &[u32],
     to: &[u32],
+    u: &[u32],
+    t: Packing,
     o: Limits,
 ) -> Progress
     requires { ⌜ PencilRoom (length (now work)) mass energy l ⌝ }
     requires { ⌜ Graphs mass energy (now from) (now to) ⌝ }
+    requires { ⌜ Engine (now work) energy l (now from) (now to) (now u) t ⌝ }
     ensures { λ r. ⌜ IteratesOnce (now (work .entry)) (now (work .exit)) mass energy l (now (from .entry)) (now (to .entry)) o r ⌝ }
 {
-    let s = next(work, mass, energy, l, from, to, o);
+    let s = next(work, mass, energy, l, from, to, u, t, o);
     let Stage::Done = s else {
         return Progress::Ended(s);
     };
@@ -144,16 +152,19 @@ fn iterate(
     l: Vectors,
     from: &[u32],
     to: &[u32],
+    u: &[u32],
+    t: Packing,
     o: Limits,
     iterations: usize,
 ) -> Stage
     requires { ⌜ PencilRoom (length (now work)) mass energy l ⌝ }
     requires { ⌜ Graphs mass energy (now from) (now to) ⌝ }
+    requires { ⌜ Engine (now work) energy l (now from) (now to) (now u) t ⌝ }
     ensures { λ r. ⌜ Iterates (now (work .entry)) (now (work .exit)) mass energy l (now (from .entry)) (now (to .entry)) o iterations r ⌝ }
 {
     for i in 0..iterations {
-        let t = iterate_once(work, mass, energy, l, from, to, o);
-        if let Progress::Ended(s) = t {
+        let p = iterate_once(work, mass, energy, l, from, to, u, t, o);
+        if let Progress::Ended(s) = p {
             return s;
         }
     }
@@ -184,10 +195,13 @@ pub fn inverse_iteration(
     l: Vectors,
     from: &[u32],
     to: &[u32],
+    u: &[u32],
+    t: Packing,
     o: Outer,
 ) -> Stage
     requires { ⌜ PencilRoom (length (now work)) mass energy l × PlanesBelow (energy .size) l o ⌝ }
     requires { ⌜ Graphs mass energy (now from) (now to) ⌝ }
+    requires { ⌜ Engine (now work) energy l (now from) (now to) (now u) t ⌝ }
     ensures { λ r. ⌜ Inverts (now (work .entry)) (now (work .exit)) mass energy l (now (from .entry)) (now (to .entry)) o r ⌝ }
 {
     let s = begin(work, mass, l, from, to, o);
@@ -198,5 +212,5 @@ pub fn inverse_iteration(
         average: average(o.trace, energy.size),
         most: pass_solution::inner_most(energy.size),
     };
-    iterate(work, mass, energy, l, from, to, limits, o.iterations)
+    iterate(work, mass, energy, l, from, to, u, t, limits, o.iterations)
 }

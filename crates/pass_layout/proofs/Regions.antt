@@ -1,17 +1,19 @@
 -- The regions of a pass that fits come one after the other, and its floor is what the cells before its areas and before its counter-clockwise corners
 -- hold: it stays while nothing there is written. Assumes nothing.
-use Prim.Native.Nat.{ℕ, _+_, _≤_, _<_}
+use Prim.Native.Nat.{ℕ, _+_, _*_, _≤_, _<_}
 use native.Mathlib.Omega.{arith}
-use mathlib.Core.Path.{_≡_}
+use mathlib.Core.Path.{_≡_, refl}
 use mathlib.Core.List.{List}
 use lib.ListN.{getD}
 use lib.Ieee.{Float, nan}
 use Rattle.linear_cells.specs.Region.{region}
 use Rattle.linear_cells.proofs.Loops.{tab-ext}
+use Rattle.linear_packing.specs.Pack.{PackRoom}
 use Rattle.edges.proofs.Numbering.{tris-same}
 use Rattle.pass_layout.specs.declared.Base.{Base}
 use Rattle.pass_layout.specs.declared.Layout.{Layout}
 use Rattle.pass_layout.specs.Layout.{layoutOf, Fits, Ordered}
+use Rattle.pass_layout.specs.Matrices.{packingAt, sourceAt, Countable}
 use Rattle.pass_layout.specs.Work.{floorIn}
 
 pub fits-ordered : (at : Base) {reals words : ℕ} → Fits at reals words → Ordered (layoutOf at) reals words
@@ -31,6 +33,7 @@ fits-ordered at f = record {
   mass-off-in = omega arith;
   energy-in = omega arith;
   energy-off-in = omega arith;
+  packed-in = omega arith;
   targets-in = omega arith;
   iterate-in = omega arith;
   residual-in = omega arith;
@@ -42,11 +45,14 @@ fits-ordered at f = record {
   numbers-in = omega arith;
   table-in = omega arith;
   some-buckets = omega arith;
+  point-buckets = omega arith;
   few-buckets = omega (arith, f .small .points-small, f .small .triangles-small);
   from-in = omega arith;
   to-in = omega arith;
   counts-in = omega arith;
-  flags-in = omega (arith, f .words-fit);
+  flags-in = omega arith;
+  marks-in = omega (arith, f .words-fit);
+  low-marks = omega (arith, f .small .words-small, f .small .points-small, f .small .triangles-small);
 }
 
 module _ (l : Layout) {reals words : ℕ} (o : Ordered l reals words) (w w′ : List Float) (u u′ : List ℕ)
@@ -64,3 +70,26 @@ module _ (l : Layout) {reals words : ℕ} (o : Ordered l reals words) (w w′ : 
         plane (l .sizes) (omega (arith, o .sizes-in, o .guidance-in)),
         tris-same (l .given) (l .triangles) u u′ (λ j h. same-words j (omega (arith, o .given-in))),
       )
+
+-- the packed copy of a matrix with m edges has room
+module _ (l : Layout) (m : ℕ) {reals words : ℕ} (o : Ordered l reals words) (few : m ≤ 3 * l .triangles) where
+  pub countable : Countable l m
+  countable = record {
+    table-low = omega (arith, o .low-marks, o .table-in, o .from-in, o .to-in, o .counts-in, o .flags-in);
+    few-points = o .few-points;
+    few-edges = omega (arith, o .few-triangles);
+  }
+
+  pub pack-room : PackRoom words (packingAt l m) (sourceAt l m)
+  pack-room = record {
+    few = omega (arith, o .few-points);
+    narrow = omega (arith, o .few-triangles);
+    all = refl;
+    behind = refl;
+    near-in = omega arith;
+    halves-in = omega (arith, o .table-in, o .point-buckets);
+    from-in = omega (arith, o .from-in);
+    to-in = omega (arith, o .to-in, o .counts-in, o .flags-in);
+    marks-in = o .marks-in;
+    small = o .low-marks;
+  }

@@ -1,15 +1,15 @@
 -- Where the regions of a pass stand, and that they come one after the other within the room that document 01 lends. Definitions only.
 -- b and c are where the pass begins in the f64 and in the u32 work, n its points and t its triangles. A floor of t triangles has at most 3 t edges.
-use Prim.Native.Nat.{ℕ, _+_, _*_, _^_, _≤_, _<_}
+use Prim.Native.Nat.{ℕ, _+_, _*_, _/_, _^_, _≤_, _<_}
 use Rattle.pass_layout.specs.declared.Base.{Base}
 use Rattle.pass_layout.specs.declared.Layout.{Layout}
 
 -- how much of each slice a pass takes
 abbrev pub realsOf : ℕ → ℕ → ℕ
-realsOf n t = 21 * n + 19 * t
+realsOf n t = 21 * n + 31 * t
 
 abbrev pub wordsOf : ℕ → ℕ → ℕ
-wordsOf n t = 30 * t + 2 * n + 1
+wordsOf n t = 30 * t + 2 * n + 1 + n / 2
 
 -- a bucket for each point, and one more, so that there is one
 abbrev pub bucketsOf : ℕ → ℕ
@@ -36,12 +36,13 @@ layoutOf at =
       «mass_off» = b + 9 * n + 7 * t;
       energy = b + 9 * n + 13 * t;
       «energy_off» = b + 10 * n + 13 * t;
-      targets = b + 10 * n + 19 * t;
-      iterate = b + 12 * n + 19 * t;
-      residual = b + 14 * n + 19 * t;
-      direction = b + 16 * n + 19 * t;
-      applied = b + 18 * n + 19 * t;
-      inverse = b + 20 * n + 19 * t;
+      packed = b + 10 * n + 19 * t;
+      targets = b + 10 * n + 31 * t;
+      iterate = b + 12 * n + 31 * t;
+      residual = b + 14 * n + 31 * t;
+      direction = b + 16 * n + 31 * t;
+      applied = b + 18 * n + 31 * t;
+      inverse = b + 20 * n + 31 * t;
       given = c;
       wound = c + 3 * t;
       numbers = c + 6 * t;
@@ -51,6 +52,7 @@ layoutOf at =
       to = c + 21 * t + bucketsOf n + 3 * t;
       counts = c + 21 * t + bucketsOf n + 6 * t;
       flags = c + 21 * t + bucketsOf n + 9 * t;
+      marks = c + 21 * t + bucketsOf n + 9 * t + n;
     }
 
 -- counts that no sum above overflows at
@@ -82,7 +84,8 @@ pub record Ordered (l : Layout) (reals words : ℕ) : Type 0 where
   pub mass-in : l .mass + l .points ≤ l .«mass_off»
   pub mass-off-in : l .«mass_off» + 6 * l .triangles ≤ l .energy
   pub energy-in : l .energy + l .points ≤ l .«energy_off»
-  pub energy-off-in : l .«energy_off» + 6 * l .triangles ≤ l .targets
+  pub energy-off-in : l .«energy_off» + 6 * l .triangles ≤ l .packed
+  pub packed-in : l .packed + 12 * l .triangles ≤ l .targets
   pub targets-in : l .targets + 2 * l .points ≤ l .iterate
   pub iterate-in : l .iterate + 2 * l .points ≤ l .residual
   pub residual-in : l .residual + 2 * l .points ≤ l .direction
@@ -95,8 +98,11 @@ pub record Ordered (l : Layout) (reals words : ℕ) : Type 0 where
   pub numbers-in : l .numbers + 3 * l .triangles ≤ l .table
   pub table-in : l .table + l .buckets + 12 * l .triangles ≤ l .from
   pub some-buckets : 0 < l .buckets
+  pub point-buckets : l .points + 1 ≤ l .buckets
   pub few-buckets : l .buckets ≤ 2 ^ 32
   pub from-in : l .from + 3 * l .triangles ≤ l .to
   pub to-in : l .to + 3 * l .triangles ≤ l .counts
   pub counts-in : l .counts + 3 * l .triangles ≤ l .flags
-  pub flags-in : l .flags + l .points ≤ words
+  pub flags-in : l .flags + l .points ≤ l .marks
+  pub marks-in : l .marks + l .points / 2 ≤ words
+  pub low-marks : l .marks < 2 ^ 60

@@ -2,9 +2,12 @@
 // the triangles can have, three each, so that nothing depends on how many there are. specs/Layout.antt says where each is, and how much room all take.
 use linear_conjugate_gradient::Vectors;
 use linear_hermitian::Hermitian;
+use linear_packing::Packing;
+use linear_packing::Source;
 ghost use mathlib.Core.Path.{_≡_};
+ghost use Prim.Native.Nat.{_+_, _*_};
 ghost use Rattle.pass_layout.specs.Layout.{Small, layoutOf};
-ghost use Rattle.pass_layout.specs.Matrices.{massAt, energyAt, vectorsAt};
+ghost use Rattle.pass_layout.specs.Matrices.{massAt, energyAt, vectorsAt, packingAt, sourceAt, Countable};
 
 // Where a pass begins in the f64 and in the u32 work, and how many points and triangles its floor has.
 pub struct Base {
@@ -32,6 +35,8 @@ pub struct Layout {
     pub mass_off: usize,
     pub energy: usize,
     pub energy_off: usize,
+    // The entries of the packed copy of a matrix, which the linear solver multiplies by.
+    pub packed: usize,
     // The targets on the boundary, and the vectors of the linear solver.
     pub targets: usize,
     pub iterate: usize,
@@ -51,6 +56,8 @@ pub struct Layout {
     // In how many triangles each side lies, and which points lie on the boundary.
     pub counts: usize,
     pub flags: usize,
+    // The marks of the packed copy. All else of it stands where the table of sides did.
+    pub marks: usize,
 }
 
 pub fn layout_at(at: Base) -> Layout
@@ -78,12 +85,13 @@ pub fn layout_at(at: Base) -> Layout
         mass_off: b + 9 * n + 7 * t,
         energy: b + 9 * n + 13 * t,
         energy_off: b + 10 * n + 13 * t,
-        targets: b + 10 * n + 19 * t,
-        iterate: b + 12 * n + 19 * t,
-        residual: b + 14 * n + 19 * t,
-        direction: b + 16 * n + 19 * t,
-        applied: b + 18 * n + 19 * t,
-        inverse: b + 20 * n + 19 * t,
+        packed: b + 10 * n + 19 * t,
+        targets: b + 10 * n + 31 * t,
+        iterate: b + 12 * n + 31 * t,
+        residual: b + 14 * n + 31 * t,
+        direction: b + 16 * n + 31 * t,
+        applied: b + 18 * n + 31 * t,
+        inverse: b + 20 * n + 31 * t,
         given: c,
         wound: c + 3 * t,
         numbers: c + 6 * t,
@@ -93,6 +101,7 @@ pub fn layout_at(at: Base) -> Layout
         to: behind + 3 * t,
         counts: behind + 6 * t,
         flags: behind + 9 * t,
+        marks: behind + 9 * t + n,
     }
 }
 
@@ -130,5 +139,33 @@ pub fn vectors_at(l: Layout) -> Vectors
         direction: l.direction,
         applied: l.applied,
         inverse: l.inverse,
+    }
+}
+
+// Where the packed copy of a matrix stands, with so many edges.
+pub fn packing_at(l: Layout, edges: usize) -> Packing
+    requires { ⌜ Countable l edges ⌝ }
+    ensures { λ r. ⌜ r ≡ packingAt l edges ⌝ }
+{
+    Packing {
+        size: l.points,
+        slots: 2 * edges,
+        entries: l.packed,
+        starts: l.table,
+        near: l.table + (l.points + 1),
+        marks: l.marks,
+    }
+}
+
+// What it is made of.
+pub fn source_at(l: Layout, edges: usize) -> Source
+    requires { ⌜ Countable l edges ⌝ }
+    ensures { λ r. ⌜ r ≡ sourceAt l edges ⌝ }
+{
+    Source {
+        edges,
+        from: l.from,
+        to: l.to,
+        halves: l.table + (l.points + 1) + 2 * edges,
     }
 }

@@ -11,7 +11,9 @@ use Rattle.linear_cells.specs.Cell.{regionC}
 use Rattle.linear_hermitian.specs.declared.Hermitian.{Hermitian}
 use Rattle.linear_hermitian.specs.Work.{matrix}
 use Rattle.linear_conjugate_gradient.specs.declared.Vectors.{Vectors}
-use Rattle.linear_conjugate_gradient.specs.Work.{read, VectorRoom, SolverRoom}
+use Rattle.linear_packing.specs.declared.Packing.{Packing}
+use Rattle.linear_conjugate_gradient.specs.Work.{read, VectorRoom, SolverRoom, Engine}
+use Rattle.linear_conjugate_gradient.proofs.Iterations.{engine-still}
 use Rattle.linear_conjugate_gradient.proofs.Lays.{read-sized, lay-read, lay-then, length-lay, get-below, get-matrix}
 use Rattle.pass_refusal.specs.declared.Stage.{Stage}
 use Rattle.pass_refusal.specs.declared.Stage.the-variants.{Done, Refused}
@@ -42,6 +44,13 @@ pub framed-matrix : (w : List Float) (h : Hermitian) (l : Vectors) → SolverRoo
 framed-matrix w h l ok n en {w₁} e from to =
     let f : Framed w w₁ (h .size) l = rw en e in
     ap (λ v. matrix v h from to) f ∙ get-matrix w h l ok (read w₁ (h .size) l) (read-sized w₁ (h .size) l) from to
+
+-- and its packed copy
+pub framed-engine : (w : List Float) (h : Hermitian) (l : Vectors) (from to u : List ℕ) (t : Packing) → SolverRoom (length w) h l → Engine w h l from to u t → (n : ℕ) → h .size ≡ n
+    → {w₁ : List Float} → Framed w w₁ n l → Engine w₁ h l from to u t
+framed-engine w h l from to u t ok g n en {w₁} e =
+    let f : Framed w w₁ (h .size) l = rw en e in
+    engine-still w h l from to u t ok g (read w₁ (h .size) l) (read-sized w₁ (h .size) l) f
 
 -- ---- answers
 

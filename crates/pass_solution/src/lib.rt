@@ -5,12 +5,13 @@ use linear_conjugate_gradient::Reason;
 use linear_conjugate_gradient::Vectors;
 use linear_conjugate_gradient::conjugate_gradient;
 use linear_hermitian::Hermitian;
+use linear_packing::Packing;
 use pass_refusal::Stage;
 ghost use mathlib.Core.Path.{_≡_};
 ghost use lib.ListN.{length};
 ghost use Rattle.linear_hermitian.specs.Work.{Graph};
 ghost use Rattle.linear_conjugate_gradient.specs.Answer.{reason, place};
-ghost use Rattle.linear_conjugate_gradient.specs.Work.{SolverRoom};
+ghost use Rattle.linear_conjugate_gradient.specs.Work.{SolverRoom, Engine};
 ghost use Rattle.pass_refusal.specs.Refusal.{gaveUp};
 ghost use Rattle.pass_refusal.specs.declared.Stage.the-variants.{Refused};
 ghost use Rattle.pass_solution.specs.Solution.{innerMost, linearMost};
@@ -56,20 +57,23 @@ fn gave_up(r: Reason) -> Stage
     }
 }
 
-// Solves the system of the matrix and the right-hand side in the residual's region, by at most `most` iterations.
+// Solves the system of the matrix and the right-hand side in the residual's region, by at most `most` iterations. The matrix's packed copy stands at t.
 pub fn solve(
     work: &mut [f64],
     h: Hermitian,
     l: Vectors,
     from: &[u32],
     to: &[u32],
+    u: &[u32],
+    t: Packing,
     most: usize,
 ) -> Stage
     requires { ⌜ SolverRoom (length (now work)) h l ⌝ }
     requires { ⌜ Graph h (now from) (now to) ⌝ }
+    requires { ⌜ Engine (now work) h l (now from) (now to) (now u) t ⌝ }
     ensures { λ r. ⌜ Solves (now (work .entry)) (now (work .exit)) h l (now (from .entry)) (now (to .entry)) most r ⌝ }
 {
-    let a = conjugate_gradient(work, h, l, from, to, INNER_TOLERANCE, most);
+    let a = conjugate_gradient(work, h, l, from, to, u, t, INNER_TOLERANCE, most);
     match a {
         Answer::Iterate(_) => Stage::Done,
         Answer::GaveUp(reason) => gave_up(reason),

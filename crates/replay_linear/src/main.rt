@@ -122,7 +122,7 @@ fn same(work: &[f64], from: usize, row: &[u8], k: usize, n: usize) -> bool
 
 // The diagonal, the entries off it, and a vector at `base`.
 fn load_all(work: &mut [f64], row: &[u8], n: usize, m: usize, base: usize)
-    requires { ⌜ (length (now work) ≡ 240) × ((n ≤ 16) × ((m ≤ 40) × (base ≤ 128))) ⌝ }
+    requires { ⌜ (length (now work) ≡ 400) × ((n ≤ 16) × ((m ≤ 40) × (base ≤ 288))) ⌝ }
 {
     load(work, 0, row, 8, n);
     load(work, n, row, 64, m);
@@ -132,7 +132,7 @@ fn load_all(work: &mut [f64], row: &[u8], n: usize, m: usize, base: usize)
 }
 
 fn judged(work: &[f64], row: &[u8], n: usize, x: usize, c: Checked) -> bool
-    requires { ⌜ (length (now work) ≡ 240) × ((n ≤ 16) × (x ≤ 96)) ⌝ }
+    requires { ⌜ (length (now work) ≡ 400) × ((n ≤ 16) × (x ≤ 256)) ⌝ }
 {
     let t = told_checked(c);
     if t.reason != replay::word(row, 5) {
@@ -166,6 +166,7 @@ fn solve(
     n: usize,
     from: &[u32],
     to: &[u32],
+    numbers: &mut [u32],
     m: usize,
     tolerance: f64,
     most: usize,
@@ -176,30 +177,40 @@ fn solve(
     if to.len() < m {
         return Checked::Refused;
     }
-    linear_layers::solve(work, n, &from[..m], &to[..m], tolerance, most)
+    linear_layers::solve(work, n, &from[..m], &to[..m], numbers, tolerance, most)
 }
 
 fn normalized(work: &mut [f64], from: &[u32], to: &[u32], row: &[u8], n: usize, m: usize) -> bool
-    requires { ⌜ (length (now work) ≡ 240) × ((n ≤ 16) × (m ≤ 40)) ⌝ }
+    requires { ⌜ (length (now work) ≡ 400) × ((n ≤ 16) × (m ≤ 40)) ⌝ }
 {
-    let x = n + 2 * m;
+    let x = n + 6 * m;
     load_all(work, row, n, m, x);
     let c = normalize(work, n, from, to, m);
     judged(work, row, n, x, c)
 }
 
 fn solved(work: &mut [f64], from: &[u32], to: &[u32], row: &[u8], n: usize, m: usize) -> bool
-    requires { ⌜ (length (now work) ≡ 240) × ((n ≤ 16) × (m ≤ 40)) ⌝ }
+    requires { ⌜ (length (now work) ≡ 400) × ((n ≤ 16) × (m ≤ 40)) ⌝ }
 {
-    let x = n + 2 * m;
+    let x = n + 6 * m;
     load_all(work, row, n, m, x + 2 * n);
     let most = rows::count(row, 4, 6000);
-    let c = solve(work, n, from, to, m, rows::double(row, 3), most);
+    let mut numbers = [0u32; 265];
+    let c = solve(
+        work,
+        n,
+        from,
+        to,
+        &mut numbers,
+        m,
+        rows::double(row, 3),
+        most,
+    );
     judged(work, row, n, x, c)
 }
 
 fn replayed(work: &mut [f64], from: &mut [u32], to: &mut [u32], row: &[u8]) -> bool
-    requires { ⌜ length (now work) ≡ 240 ⌝ }
+    requires { ⌜ length (now work) ≡ 400 ⌝ }
 {
     let n = rows::count(row, 0, 16);
     let m = rows::count(row, 1, 40);
@@ -213,7 +224,7 @@ fn replayed(work: &mut [f64], from: &mut [u32], to: &mut [u32], row: &[u8]) -> b
 
 // Whether the system of a row has the recorded answer and iterate.
 fn holds(row: &[u8]) -> bool {
-    let mut work = [0.0f64; 240];
+    let mut work = [0.0f64; 400];
     let mut from = [0u32; 40];
     let mut to = [0u32; 40];
     replayed(&mut work, &mut from, &mut to, row)

@@ -1,3 +1,6 @@
+use Rattle.linear_conjugate_gradient.proofs.Iterations.{engine-still, begun-sized}
+use Rattle.linear_conjugate_gradient.proofs.Lays.{read-sized}
+use Rattle.linear_cells.proofs.Regions.{length-region}
 -- `linear_conjugate_gradient::conjugate_gradient` meets its contract: each return opens the definition and rewrites it by the tests and the calls on its way; the laws are in proofs/Lays, proofs/Runs.
 use Rattle.linear_conjugate_gradient.proofs.Lays.{same-room}
 use Rattle.linear_conjugate_gradient.proofs.Runs.{solve-norm, solve-diagonal, solve-first, solve-run}
@@ -36,16 +39,16 @@ same-length-3 : tie.Need-same-length-3
 same-length-3 c = search needs
 
 returns-3 : tie.Need-returns-3
-returns-3 c = solve-first _ _ _ _ _ _ _ (c .before .before .before .before .before .before .before .before .before .before .before .before .euclidean-norm .ensures) (c .before .before .before .before .before .before .before .before .before .before .before .not-positive .ensures) (c .before .before .before .before .before .before .before .before .before .before .if1 .left) (c .before .before .before .before .before .before .before .before .first-not-positive .ensures) (c .before .before .before .before .before .before .before .before .before .before .before .before .before .before .before .before .before .pre .0) (c .before .before .before .before .before .before .if2 .left) (c .before .before .before .before .begin .ensures) (c .before .not-positive2 .ensures) (c .if3 .taken)
+returns-3 c = solve-first _ _ _ _ _ _ _ (c .before .before .before .before .before .before .before .before .before .before .before .before .euclidean-norm .ensures) (c .before .before .before .before .before .before .before .before .before .before .before .not-positive .ensures) (c .before .before .before .before .before .before .before .before .before .before .if1 .left) (c .before .before .before .before .before .before .before .before .first-not-positive .ensures) (c .before .before .before .before .before .before .before .before .before .before .before .before .before .before .before .before .before .before .pre .0) (c .before .before .before .before .before .before .if2 .left) (c .before .before .before .before .begin .ensures) (c .before .not-positive2 .ensures) (c .if3 .taken)
 
 iterate-requires : tie.Need-iterate-requires
-iterate-requires c κs = (same-room (search needs) _ _ (c .before .before .before .before .before .before .before .before .before .before .before .before .before .before .before .before .before .before .pre .0), search needs)
+iterate-requires c κs = (same-room (search needs) _ _ (c .before .before .before .before .before .before .before .before .before .before .before .before .before .before .before .before .before .before .before .pre .0), (c .before .before .before .before .before .before .before .before .before .before .before .before .before .before .before .before .before .before .before .pre .1 .0, engine-still _ _ _ _ _ _ _ (c .before .before .before .before .before .before .before .before .before .before .before .before .before .before .before .before .before .before .before .pre .0) (c .before .before .before .before .before .before .before .before .before .before .before .before .before .before .before .before .before .before .before .pre .1 .1) _ (begun-sized _ _ _ (length-region _ _ _ _) (read-sized _ _ _)) (c .before .before .before .before .before .begin .ensures .work)))
 
 same-length-4 : tie.Need-same-length-4
 same-length-4 c = search needs
 
 returns-4 : tie.Need-returns-4
-returns-4 c = solve-run _ _ _ _ _ _ _ (c .before .before .before .before .before .before .before .before .before .before .before .before .before .before .before .before .euclidean-norm .ensures) (c .before .before .before .before .before .before .before .before .before .before .before .before .before .before .before .not-positive .ensures) (c .before .before .before .before .before .before .before .before .before .before .before .before .before .before .if1 .left) (c .before .before .before .before .before .before .before .before .before .before .before .before .first-not-positive .ensures) (c .before .before .before .before .before .before .before .before .before .before .before .before .before .before .before .before .before .before .before .before .before .pre .0) (c .before .before .before .before .before .before .before .before .before .before .if2 .left) (c .before .before .before .before .before .before .before .before .begin .ensures) (c .before .before .before .before .before .not-positive2 .ensures) (c .before .before .before .before .if3 .left) (c .before .before .iterate .ensures)
+returns-4 c = solve-run _ _ _ _ _ _ _ (c .before .before .before .before .before .before .before .before .before .before .before .before .before .before .before .before .euclidean-norm .ensures) (c .before .before .before .before .before .before .before .before .before .before .before .before .before .before .before .not-positive .ensures) (c .before .before .before .before .before .before .before .before .before .before .before .before .before .before .if1 .left) (c .before .before .before .before .before .before .before .before .before .before .before .before .first-not-positive .ensures) (c .before .before .before .before .before .before .before .before .before .before .before .before .before .before .before .before .before .before .before .before .before .before .pre .0) (c .before .before .before .before .before .before .before .before .before .before .if2 .left) (c .before .before .before .before .before .before .before .before .begin .ensures) (c .before .before .before .before .before .not-positive2 .ensures) (c .before .before .before .before .if3 .left) (c .before .before .iterate .ensures)
 
 pub conjugate-gradient-spec : {M : Type 1} → statement M
 conjugate-gradient-spec =

@@ -1,3 +1,5 @@
+use Rattle.linear_conjugate_gradient.proofs.Iterations.{engine-still}
+use Rattle.linear_conjugate_gradient.proofs.Lays.{read-sized, same-room}
 -- `linear_conjugate_gradient::iterate` meets its contract: the loop keeps what `Inv-loop` says, and what is left to do falls at each iteration; the laws are in proofs/Runs.
 use native.Mathlib.Omega.{arith}
 use mathlib.Core.Logic.{⊎-elim}
@@ -11,19 +13,19 @@ use Rattle.linear_conjugate_gradient.proofs.iterate.Statement.{statemen
 use Rattle.linear_conjugate_gradient.proofs.iterate.Tie as tie
 
 abbrev Inv-loop : tie.InvT-loop
-Inv-loop work₀ h l from to limit first most dot₀ i₀ work dot i = (i ≤ most) × (length work ≡ length work₀) × RunAt work₀ h l from to limit first most work i dot
+Inv-loop work₀ h l from to u t limit first most dot₀ i₀ work dot i = (i ≤ most) × (length work ≡ length work₀) × RunAt work₀ h l from to limit first most work i dot
 
 abbrev μ-loop : tie.MeasureT-loop
-μ-loop work₀ h l from to limit first most dot₀ i₀ work dot i = most - i
+μ-loop work₀ h l from to u t limit first most dot₀ i₀ work dot i = most - i
 
 loop-holds : tie.Need-loop-holds Inv-loop μ-loop
 loop-holds c = (search needs, search needs, run-none _ _ _ _ _ _ _ _)
 
 iterate-once-requires : tie.Need-iterate-once-requires Inv-loop μ-loop
-iterate-once-requires c κs = search needs
+iterate-once-requires c κs = (same-room (c .before .before .loop .inv .1) _ _ (c .before .before .before .before .before .before .before .pre .0), (c .before .before .before .before .before .before .before .pre .1 .0, engine-still _ _ _ _ _ _ _ (c .before .before .before .before .before .before .before .pre .0) (c .before .before .before .before .before .before .before .pre .1 .1) _ (read-sized _ _ _) (c .before .before .loop .inv .2 .frame)))
 
-enum-known-t : tie.Need-enum-known-t Inv-loop μ-loop
-enum-known-t c = search needs
+enum-known-p : tie.Need-enum-known-p Inv-loop μ-loop
+enum-known-p c = search needs
 
 add-answer-of : tie.Need-add-answer-of Inv-loop μ-loop
 add-answer-of c = search needs
@@ -35,7 +37,7 @@ same-length : tie.Need-same-length Inv-loop μ-loop
 same-length c = search needs
 
 returns : tie.Need-returns Inv-loop μ-loop
-returns c = run-ended _ _ _ _ _ _ _ _ (c .before .before .before .before .before .before .before .before .before .before .before .pre .0) _ (c .before .before .before .before .before .before .loop-test .taken) (c .before .before .before .before .before .before .before .loop .inv .2) (c .before .before .before .before .iterate-once .ensures)
+returns c = run-ended _ _ _ _ _ _ _ _ (c .before .before .before .before .before .before .before .before .before .before .before .before .pre .0) _ (c .before .before .before .before .before .before .loop-test .taken) (c .before .before .before .before .before .before .before .loop .inv .2) (c .before .before .before .before .iterate-once .ensures)
     (λ next e.
     ⊎-elim
     (λ k. let z : _≡_ {A = ℕ} 0 1 = rw e at k in omega arith)
@@ -50,7 +52,7 @@ loop-less : tie.Need-loop-less Inv-loop μ-loop
 loop-less c = search needs
 
 loop-again : tie.Need-loop-again Inv-loop μ-loop
-loop-again c = (search needs, search needs, run-again _ _ _ _ _ _ _ _ (c .before .before .before .before .before .before .before .before .before .before .before .before .pre .0) _ (c .before .before .before .before .before .before .before .loop-test .taken) (c .before .before .before .before .before .before .before .before .loop .inv .2) (c .before .before .before .before .before .iterate-once .ensures) (c .before .t .given .1))
+loop-again c = (search needs, search needs, run-again _ _ _ _ _ _ _ _ (c .before .before .before .before .before .before .before .before .before .before .before .before .before .pre .0) _ (c .before .before .before .before .before .before .before .loop-test .taken) (c .before .before .before .before .before .before .before .before .loop .inv .2) (c .before .before .before .before .before .iterate-once .ensures) (c .before .p .given .1))
 
 same-length-2 : tie.Need-same-length-2 Inv-loop μ-loop
 same-length-2 c = search needs
@@ -66,7 +68,7 @@ iterate-spec =
     μ-loop
     loop-holds
     iterate-once-requires
-    enum-known-t
+    enum-known-p
     add-answer-of
     answer-of-requires
     same-length

@@ -1,22 +1,19 @@
--- `linear_conjugate_gradient::multiply` meets its contract: each return opens the definition and rewrites it by the tests and the calls on its way; the laws are in proofs/Iterations.
-use Rattle.linear_conjugate_gradient.proofs.Iterations.{multiply-all}
+-- `linear_conjugate_gradient::multiply` meets its contract: the engine's product is the definition's; the laws are in proofs/Iterations.
+use Rattle.linear_conjugate_gradient.proofs.Iterations.{multiply-engine}
 use Rattle.linear_cells.proofs.Loops.{apart}
 use native.Mathlib.Omega.{arith}
 use borrow.Author.Needs.{needs}
 use Rattle.linear_conjugate_gradient.proofs.multiply.Statement.{statement}
 use Rattle.linear_conjugate_gradient.proofs.multiply.Tie as tie
 
-apply-requires : tie.Need-apply-requires
-apply-requires c κs = (omega (arith, apart), search needs)
-
-dot-re-requires : tie.Need-dot-re-requires
-dot-re-requires c κs = search needs
+multiply-requires : tie.Need-multiply-requires
+multiply-requires c κs = (omega (arith, apart), (c .before .before .before .before .before .pre .1 .0, c .before .before .before .before .before .pre .1 .1 .packed))
 
 same-length : tie.Need-same-length
 same-length c = search needs
 
 returns : tie.Need-returns
-returns c = search multiply-all
+returns c = multiply-engine _ _ _ _ _ (c .before .before .before .before .before .before .before .before .pre .0) (c .before .before .multiply .ensures)
 
 pub multiply-spec : {M : Type 1} → statement M
-multiply-spec = tie.close (tie.spec apply-requires dot-re-requires same-length returns)
+multiply-spec = tie.close (tie.spec multiply-requires same-length returns)

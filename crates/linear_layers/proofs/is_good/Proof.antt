@@ -8,28 +8,40 @@ use Rattle.linear_layers.proofs.is_good.Tie as tie
 returns : tie.Need-returns
 returns c = good-short _ _ _ _ (omega (arith, c .if1 .taken))
 
-mul-if2 : tie.Need-mul-if2
-mul-if2 c = search needs
-
-mul-if2-2 : tie.Need-mul-if2-2
-mul-if2-2 c = search needs
-
-add-if2 : tie.Need-add-if2
-add-if2 c = search needs
-
 returns-2 : tie.Need-returns-2
-returns-2 c = good-short _ _ _ _ (c .if2 .taken)
+returns-2 c = good-short _ _ _ _ (omega (arith, c .if2 .taken))
+
+mul-if3 : tie.Need-mul-if3
+mul-if3 c = search needs
+
+mul-if3-2 : tie.Need-mul-if3-2
+mul-if3-2 c = search needs
+
+add-if3 : tie.Need-add-if3
+add-if3 c = search needs
 
 returns-3 : tie.Need-returns-3
-returns-3 c = good-unpaired _ _ _ _ (c .if3 .taken)
+returns-3 c = good-short _ _ _ _ (c .if3 .taken)
+
+returns-4 : tie.Need-returns-4
+returns-4 c = good-unpaired _ _ _ _ (c .if4 .taken)
 
 edges-good-requires : tie.Need-edges-good-requires
 edges-good-requires c κs = search needs
 
-returns-4 : tie.Need-returns-4
-returns-4 c = good-edges _ _ _ _ (c .before .before .if2 .left) (c .before .if3 .left) (c .edges-good .ensures)
+returns-5 : tie.Need-returns-5
+returns-5 c = good-edges _ _ _ _ (c .before .before .if3 .left) (c .before .if4 .left) (c .edges-good .ensures)
 
 pub is-good-spec : {M : Type 1} → statement M
 is-good-spec =
     tie.close
-    (tie.spec returns mul-if2 mul-if2-2 add-if2 returns-2 returns-3 edges-good-requires returns-4)
+    (tie.spec
+    returns
+    returns-2
+    mul-if3
+    mul-if3-2
+    add-if3
+    returns-3
+    returns-4
+    edges-good-requires
+    returns-5)

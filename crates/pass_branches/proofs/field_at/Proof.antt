@@ -1,4 +1,5 @@
 -- `pass_branches::field_at` meets its contract: the parts of the u32 work and the matrices are those of the layout; the laws are in proofs/Placed.
+use Rattle.pass_layout.proofs.Regions.{countable}
 use Rattle.pass_branches.proofs.Placed.{by-requires, at-leaves}
 use borrow.Author.Needs.{needs}
 use Rattle.pass_branches.proofs.field_at.Statement.{statement}
@@ -61,14 +62,20 @@ mass-at-requires c κs = search needs
 vectors-at-requires : tie.Need-vectors-at-requires
 vectors-at-requires c κs = search needs
 
+packing-at-requires : tie.Need-packing-at-requires
+packing-at-requires c κs = countable _ _ (c .before .before .before .before .before .before .before .before .before .before .pre .0) (c .before .before .before .before .before .before .before .before .before .before .pre .1 .0 .few)
+
+source-at-requires : tie.Need-source-at-requires
+source-at-requires c κs = countable _ _ (c .before .before .before .before .before .before .before .before .before .before .before .pre .0) (c .before .before .before .before .before .before .before .before .before .before .before .pre .1 .0 .few)
+
 field-by-requires : tie.Need-field-by-requires
-field-by-requires c κs = by-requires (c .before .before .before .before .before .before .before .before .before .before .before .args .l) _ (c .before .before .before .before .before .before .before .before .before .before .before .args .o) (c .before .before .before .before .before .before .before .before .before .before .before .args .s) _ _ (c .before .before .before .before .before .before .before .before .before .before .before .pre .0) (c .before .before .before .before .before .before .before .before .before .before .before .pre .1 .0) (c .before .before .before .energy-at .ensures) (c .before .before .mass-at .ensures) (c .before .before .before .before .terms-of .ensures) (c .before .vectors-at .ensures) (c .before .before .before .before .before .before .before .before .before .before .before .pre .1 .1)
+field-by-requires c κs = by-requires (c .before .before .before .before .before .before .before .before .before .before .before .before .before .args .l) _ (c .before .before .before .before .before .before .before .before .before .before .before .before .before .args .o) (c .before .before .before .before .before .before .before .before .before .before .before .before .before .args .s) _ _ (c .before .before .before .before .before .before .before .before .before .before .before .before .before .pre .0) (c .before .before .before .before .before .before .before .before .before .before .before .before .before .pre .1 .0) (c .before .before .before .before .before .energy-at .ensures) (c .before .before .before .before .mass-at .ensures) (c .before .before .before .before .before .before .terms-of .ensures) (c .before .before .before .vectors-at .ensures) (c .before .before .packing-at .ensures) (c .before .source-at .ensures) (c .before .before .before .before .before .before .before .before .before .before .before .before .before .pre .1 .1)
 
 same-length : tie.Need-same-length
 same-length c = search needs
 
 returns : tie.Need-returns
-returns c = at-leaves (c .before .before .before .before .before .before .before .before .before .before .before .before .before .before .args .l) _ (c .before .before .before .before .before .before .before .before .before .before .before .before .before .before .args .o) (c .before .before .before .before .before .before .before .before .before .before .before .before .before .before .args .s) _ _ (c .before .before .before .before .before .before .before .before .before .before .before .before .before .before .pre .0) (c .before .before .before .before .before .before .before .before .before .before .before .before .before .before .pre .1 .0) (c .before .before .before .before .before .before .energy-at .ensures) (c .before .before .before .before .before .mass-at .ensures) (c .before .before .before .before .before .before .before .terms-of .ensures) (c .before .before .field-by .ensures)
+returns c = at-leaves (c .before .before .before .before .before .before .before .before .before .before .before .before .before .before .before .before .args .l) _ (c .before .before .before .before .before .before .before .before .before .before .before .before .before .before .before .before .args .o) (c .before .before .before .before .before .before .before .before .before .before .before .before .before .before .before .before .args .s) _ _ (c .before .before .before .before .before .before .before .before .before .before .before .before .before .before .before .before .pre .0) (c .before .before .before .before .before .before .before .before .before .before .before .before .before .before .before .before .pre .1 .0) (c .before .before .before .before .before .before .before .before .energy-at .ensures) (c .before .before .before .before .before .before .before .mass-at .ensures) (c .before .before .before .before .before .before .before .before .before .terms-of .ensures) (c .before .before .field-by .ensures)
 
 pub field-at-spec : {M : Type 1} → statement M
 field-at-spec =
@@ -93,6 +100,6 @@ field-at-spec =
     energy-at-requires
     mass-at-requires
     vectors-at-requires
-    field-by-requires
+    packing-at-requires source-at-requires field-by-requires
     same-length
     returns)

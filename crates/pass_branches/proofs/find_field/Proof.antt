@@ -20,8 +20,8 @@ same-length-2 c = search needs
 returns : tie.Need-returns
 returns c = search needs
 
-field-at-requires : tie.Need-field-at-requires
-field-at-requires c κs = (c .before .before .before .before .before .before .pre .0, (c .before .before .before .before .before .before .pre .1, λ t. absurd (idle-bounds (c .before .before .before .before .before .before .args .o) (c .before .before .before .acts-on .ensures) (c .before .before .if1 .left) t)))
+packed-field-requires : tie.Need-packed-field-requires
+packed-field-requires c κs = (c .before .before .before .before .before .before .pre .0, (c .before .before .before .before .before .before .pre .1, λ t. absurd (idle-bounds (c .before .before .before .before .before .before .args .o) (c .before .before .before .acts-on .ensures) (c .before .before .if1 .left) t)))
 
 same-length-3 : tie.Need-same-length-3
 same-length-3 c = search needs
@@ -30,7 +30,7 @@ same-length-4 : tie.Need-same-length-4
 same-length-4 c = search needs
 
 returns-2 : tie.Need-returns-2
-returns-2 c = idle-finds (c .before .before .before .before .before .before .before .before .before .args .l) _ (c .before .before .before .before .before .before .before .before .before .args .o) (c .before .before .before .before .before .before .before .before .before .args .s) _ _ (c .before .before .before .before .before .before .acts-on .ensures) (c .before .before .before .before .before .if1 .left) (c .before .before .field-at .ensures)
+returns-2 c = idle-finds (c .before .before .before .before .before .before .before .before .before .before .before .args .l) _ (c .before .before .before .before .before .before .before .before .before .before .before .args .o) (c .before .before .before .before .before .before .before .before .before .before .before .args .s) _ _ (c .before .before .before .before .before .before .before .before .acts-on .ensures) (c .before .before .before .before .before .before .before .if1 .left) (c .before .before .before .before .packed-field .ensures)
 
 pub find-field-spec : {M : Type 1} → statement M
 find-field-spec =
@@ -41,7 +41,7 @@ find-field-spec =
     same-length
     same-length-2
     returns
-    field-at-requires
+    packed-field-requires
     same-length-3
     same-length-4
     returns-2)

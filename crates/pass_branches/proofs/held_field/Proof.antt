@@ -19,8 +19,8 @@ same-length-2 c = search needs
 returns : tie.Need-returns
 returns c = held-refused (c .before .before .before .before .before .before .before .before .before .before .before .args .l) _ _ _ (c .before .before .before .before .before .before .before .before .before .before .before .pre .0) (c .before .before .before .before .before .before .before .before .before .before .before .pre .1 .0) (c .before .before .before .before .before .before .boundary-targets .ensures) (c .before .before .before .before .before .before .before .before .before .before .before .args .o) (c .before .before .before .before .before .before .before .before .before .before .before .args .s) (c .before .before .before .before .before .before .before .before .before .before .before .pre .1 .1) (c .before .if1 .taken) (c .refused .ensures)
 
-field-at-requires : tie.Need-field-at-requires
-field-at-requires c κs = (still-ordered (c .before .before .before .before .before .before .before .before .before .before .before .before .args .l) _ _ _ (c .before .before .before .before .before .before .before .before .before .before .before .before .pre .0) (c .before .before .before .before .before .before .before .before .before .before .before .before .pre .1 .0) (c .before .before .before .before .before .before .before .boundary-targets .ensures), (still-edged (c .before .before .before .before .before .before .before .before .before .before .before .before .args .l) _ _ _ (c .before .before .before .before .before .before .before .before .before .before .before .before .pre .0) (c .before .before .before .before .before .before .before .before .before .before .before .before .pre .1 .0) (c .before .before .before .before .before .before .before .boundary-targets .ensures), λ t. bounds (c .before .before .before .before .before .before .before .before .before .before .before .before .args .l) _ _ _ (c .before .before .before .before .before .before .before .before .before .before .before .before .pre .0) (c .before .before .before .before .before .before .before .before .before .before .before .before .pre .1 .0) (c .before .before .before .before .before .before .before .boundary-targets .ensures)))
+packed-field-requires : tie.Need-packed-field-requires
+packed-field-requires c κs = (still-ordered (c .before .before .before .before .before .before .before .before .before .before .before .before .args .l) _ _ _ (c .before .before .before .before .before .before .before .before .before .before .before .before .pre .0) (c .before .before .before .before .before .before .before .before .before .before .before .before .pre .1 .0) (c .before .before .before .before .before .before .before .boundary-targets .ensures), (still-edged (c .before .before .before .before .before .before .before .before .before .before .before .before .args .l) _ _ _ (c .before .before .before .before .before .before .before .before .before .before .before .before .pre .0) (c .before .before .before .before .before .before .before .before .before .before .before .before .pre .1 .0) (c .before .before .before .before .before .before .before .boundary-targets .ensures), λ t. bounds (c .before .before .before .before .before .before .before .before .before .before .before .before .args .l) _ _ _ (c .before .before .before .before .before .before .before .before .before .before .before .before .pre .0) (c .before .before .before .before .before .before .before .before .before .before .before .before .pre .1 .0) (c .before .before .before .before .before .before .before .boundary-targets .ensures)))
 
 same-length-3 : tie.Need-same-length-3
 same-length-3 c = search needs
@@ -29,7 +29,7 @@ same-length-4 : tie.Need-same-length-4
 same-length-4 c = search needs
 
 returns-2 : tie.Need-returns-2
-returns-2 c = held-finds (c .before .before .before .before .before .before .before .before .before .before .before .before .before .before .before .args .l) _ _ _ (c .before .before .before .before .before .before .before .before .before .before .before .before .before .before .before .pre .0) (c .before .before .before .before .before .before .before .before .before .before .before .before .before .before .before .pre .1 .0) (c .before .before .before .before .before .before .before .before .before .before .boundary-targets .ensures) (c .before .before .before .before .before .before .before .before .before .before .before .before .before .before .before .args .o) (c .before .before .before .before .before .before .before .before .before .before .before .before .before .before .before .args .s) (c .before .before .before .before .before .before .before .before .before .before .before .before .before .before .before .pre .1 .1) (c .before .before .before .before .before .if1 .left) (c .before .before .field-at .ensures)
+returns-2 c = held-finds (c .before .before .before .before .before .before .before .before .before .before .before .before .before .before .before .before .before .args .l) _ _ _ (c .before .before .before .before .before .before .before .before .before .before .before .before .before .before .before .before .before .pre .0) (c .before .before .before .before .before .before .before .before .before .before .before .before .before .before .before .before .before .pre .1 .0) (c .before .before .before .before .before .before .before .before .before .before .before .before .boundary-targets .ensures) (c .before .before .before .before .before .before .before .before .before .before .before .before .before .before .before .before .before .args .o) (c .before .before .before .before .before .before .before .before .before .before .before .before .before .before .before .before .before .args .s) (c .before .before .before .before .before .before .before .before .before .before .before .before .before .before .before .before .before .pre .1 .1) (c .before .before .before .before .before .before .before .if1 .left) (c .before .before .before .before .packed-field .ensures)
 
 pub held-field-spec : {M : Type 1} → statement M
 held-field-spec =
@@ -40,7 +40,7 @@ held-field-spec =
     same-length
     same-length-2
     returns
-    field-at-requires
+    packed-field-requires
     same-length-3
     same-length-4
     returns-2)

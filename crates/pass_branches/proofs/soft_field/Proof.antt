@@ -8,13 +8,13 @@ soft-system-requires : tie.Need-soft-system-requires
 soft-system-requires c κs = search needs
 
 solve-system-requires : tie.Need-solve-system-requires
-solve-system-requires c κs = (solve-room _ _ _ _ (c .before .before .before .before .before .before .before .before .args .t) (c .before .before .before .before .before .before .before .before .args .o) (c .before .before .before .before .before .before .before .before .pre .0) (search needs), c .before .before .before .before .before .before .before .before .pre .1 .energy-graph)
+solve-system-requires c κs = (solve-room _ _ _ _ (c .before .before .before .before .before .before .before .before .before .args .t) (c .before .before .before .before .before .before .before .before .before .args .o) (c .before .before .before .before .before .before .before .before .before .pre .0) (search needs), (c .before .before .before .before .before .before .before .before .before .pre .1 .0 .energy-graph, c .before .before .before .before .before .before .before .before .before .pre .1 .1))
 
 same-length : tie.Need-same-length
 same-length c = search needs
 
 returns : tie.Need-returns
-returns c = leaves-system _ _ _ _ (c .before .before .before .before .before .before .before .before .before .before .before .args .t) (c .before .before .before .before .before .before .before .before .before .before .before .args .o) (c .before .before .before .before .before .before .before .before .before .before .before .pre .0) (c .before .before .before .before .before .before .soft-system .ensures) (c .before .before .solve-system .ensures)
+returns c = leaves-system _ _ _ _ (c .before .before .before .before .before .before .before .before .before .before .before .before .args .t) (c .before .before .before .before .before .before .before .before .before .before .before .before .args .o) (c .before .before .before .before .before .before .before .before .before .before .before .before .pre .0) (c .before .before .before .before .before .before .soft-system .ensures) (c .before .before .solve-system .ensures)
 
 pub soft-field-spec : {M : Type 1} → statement M
 soft-field-spec =

@@ -1,5 +1,6 @@
 -- `pass_inverse_iteration::inverse_iteration` meets its contract: each return is one case of the chain; the laws are in proofs/Iterations.
-use Rattle.pass_solution.proofs.Chains.{not-done}
+use mathlib.Core.Path.{sym}
+use Rattle.pass_solution.proofs.Chains.{not-done, framed-engine}
 use Rattle.pass_inverse_iteration.proofs.Judgements.{same-pencil}
 use Rattle.pass_inverse_iteration.proofs.Iterations.{inverse-refused, inverse-iterated}
 use borrow.Author.Needs.{needs}
@@ -19,7 +20,7 @@ same-length : tie.Need-same-length
 same-length c = search needs
 
 returns : tie.Need-returns
-returns c = inverse-refused _ _ _ _ _ _ (c .before .before .before .before .before .before .before .before .before .args .o) (c .before .before .before .before .before .before .before .before .before .pre .0 .0) (c .before .before .before .before .begin .ensures) (not-done (c .enum-told2 .given .1))
+returns c = inverse-refused _ _ _ _ _ _ (c .before .before .before .before .before .before .before .before .before .before .args .o) (c .before .before .before .before .before .before .before .before .before .before .pre .0 .0) (c .before .before .before .before .begin .ensures) (not-done (c .enum-told2 .given .1))
 
 average-requires : tie.Need-average-requires
 average-requires c κs = search needs
@@ -28,13 +29,13 @@ inner-most-requires : tie.Need-inner-most-requires
 inner-most-requires c κs = search needs
 
 iterate-requires : tie.Need-iterate-requires
-iterate-requires c κs = (same-pencil (search needs) _ _ _ (c .before .before .before .before .before .before .before .before .before .before .before .before .pre .0 .0), c .before .before .before .before .before .before .before .before .before .before .before .before .pre .1)
+iterate-requires c κs = (same-pencil (search needs) _ _ _ (c .before .before .before .before .before .before .before .before .before .before .before .before .before .pre .0 .0), (c .before .before .before .before .before .before .before .before .before .before .before .before .before .pre .1 .0, framed-engine _ _ _ _ _ _ _ (c .before .before .before .before .before .before .before .before .before .before .before .before .before .pre .0 .0 .energy-room) (c .before .before .before .before .before .before .before .before .before .before .before .before .before .pre .1 .1) _ (sym (c .before .before .before .before .before .before .before .before .before .before .before .before .before .pre .0 .0 .one-size)) (c .before .before .before .before .before .before .before .begin .ensures .frame)))
 
 same-length-2 : tie.Need-same-length-2
 same-length-2 c = search needs
 
 returns-2 : tie.Need-returns-2
-returns-2 c = inverse-iterated _ _ _ _ _ _ (c .before .before .before .before .before .before .before .before .before .before .before .before .before .before .before .args .o) (c .before .before .before .before .before .before .before .before .before .before .before .before .before .before .before .pre .0 .0) (c .before .before .before .before .before .before .before .before .before .before .begin .ensures) (c .before .before .before .before .before .before .enum-told .given .1) (c .before .before .before .before .before .average .ensures) (c .before .before .before .before .inner-most .ensures) (c .before .before .iterate .ensures)
+returns-2 c = inverse-iterated _ _ _ _ _ _ (c .before .before .before .before .before .before .before .before .before .before .before .before .before .before .before .before .args .o) (c .before .before .before .before .before .before .before .before .before .before .before .before .before .before .before .before .pre .0 .0) (c .before .before .before .before .before .before .before .before .before .before .begin .ensures) (c .before .before .before .before .before .before .enum-told .given .1) (c .before .before .before .before .before .average .ensures) (c .before .before .before .before .inner-most .ensures) (c .before .before .iterate .ensures)
 
 pub inverse-iteration-spec : {M : Type 1} → statement M
 inverse-iteration-spec =

@@ -1,7 +1,8 @@
 -- `pass_inverse_iteration::iterate` meets its contract: the loop keeps what `Inv-loop` says, and what is left to do falls at each iteration; the laws are in proofs/Iterations.
-use mathlib.Core.Path.{_≡_}
+use mathlib.Core.Path.{_≡_, refl}
 use Prim.Native.Nat.{_≤_, _-_}
 use lib.ListN.{length}
+use Rattle.pass_solution.proofs.Chains.{framed-engine}
 use Rattle.pass_inverse_iteration.proofs.Judgements.{same-pencil}
 use Rattle.pass_inverse_iteration.proofs.Iterations.{Reached, reach-none, reach-again, reach-ended, reach-done}
 use borrow.Author.Needs.{needs}
@@ -9,25 +10,25 @@ use Rattle.pass_inverse_iteration.proofs.iterate.Statement.{statement}
 use Rattle.pass_inverse_iteration.proofs.iterate.Tie as tie
 
 abbrev Inv-loop : tie.InvT-loop
-Inv-loop work₀ mass energy l from to o iterations i₀ work i = (i ≤ iterations) × (length work ≡ length work₀) × Reached work₀ mass energy l from to o iterations work i
+Inv-loop work₀ mass energy l from to u t o iterations i₀ work i = (i ≤ iterations) × (length work ≡ length work₀) × Reached work₀ mass energy l from to o iterations work i
 
 abbrev μ-loop : tie.MeasureT-loop
-μ-loop work₀ mass energy l from to o iterations i₀ work i = iterations - i
+μ-loop work₀ mass energy l from to u t o iterations i₀ work i = iterations - i
 
 loop-holds : tie.Need-loop-holds Inv-loop μ-loop
 loop-holds c = (search needs, search needs, reach-none _ _ _ _ _ _ _ _)
 
 iterate-once-requires : tie.Need-iterate-once-requires Inv-loop μ-loop
-iterate-once-requires c κs = (same-pencil (c .before .before .loop .inv .1) _ _ _ (c .before .before .before .before .before .before .pre .0), c .before .before .before .before .before .before .pre .1)
+iterate-once-requires c κs = (same-pencil (c .before .before .loop .inv .1) _ _ _ (c .before .before .before .before .before .before .before .pre .0), (c .before .before .before .before .before .before .before .pre .1 .0, framed-engine _ _ _ _ _ _ _ (c .before .before .before .before .before .before .before .pre .0 .energy-room) (c .before .before .before .before .before .before .before .pre .1 .1) _ refl (c .before .before .loop .inv .2 .frame)))
 
-enum-known-t : tie.Need-enum-known-t Inv-loop μ-loop
-enum-known-t c = search needs
+enum-known-p : tie.Need-enum-known-p Inv-loop μ-loop
+enum-known-p c = search needs
 
 same-length : tie.Need-same-length Inv-loop μ-loop
 same-length c = search needs
 
 returns : tie.Need-returns Inv-loop μ-loop
-returns c = reach-ended _ _ _ _ _ _ _ _ (c .before .before .before .before .before .before .before .before .before .before .before .before .pre .0) _ (c .before .before .before .before .before .before .before .loop-test .taken) (c .before .before .before .before .before .before .before .before .loop .inv .2) (c .before .before .before .before .before .iterate-once .ensures) (c .before .t .given .1)
+returns c = reach-ended _ _ _ _ _ _ _ _ (c .before .before .before .before .before .before .before .before .before .before .before .before .before .pre .0) _ (c .before .before .before .before .before .before .before .loop-test .taken) (c .before .before .before .before .before .before .before .before .loop .inv .2) (c .before .before .before .before .before .iterate-once .ensures) (c .before .p .given .1)
 
 enum-told : tie.Need-enum-told Inv-loop μ-loop
 enum-told c = search needs
@@ -39,7 +40,7 @@ loop-less : tie.Need-loop-less Inv-loop μ-loop
 loop-less c = search needs
 
 loop-again : tie.Need-loop-again Inv-loop μ-loop
-loop-again c = (search needs, search needs, reach-again _ _ _ _ _ _ _ _ (c .before .before .before .before .before .before .before .before .before .before .before .pre .0) _ (c .before .before .before .before .before .before .loop-test .taken) (c .before .before .before .before .before .before .before .loop .inv .2) (c .before .before .before .before .iterate-once .ensures) (c .enum-told .given .1))
+loop-again c = (search needs, search needs, reach-again _ _ _ _ _ _ _ _ (c .before .before .before .before .before .before .before .before .before .before .before .before .pre .0) _ (c .before .before .before .before .before .before .loop-test .taken) (c .before .before .before .before .before .before .before .loop .inv .2) (c .before .before .before .before .iterate-once .ensures) (c .enum-told .given .1))
 
 gave-up-requires : tie.Need-gave-up-requires Inv-loop μ-loop
 gave-up-requires c κs = search needs
@@ -58,7 +59,7 @@ iterate-spec =
     μ-loop
     loop-holds
     iterate-once-requires
-    enum-known-t
+    enum-known-p
     same-length
     returns
     enum-told

@@ -7,7 +7,7 @@ use Rattle.pass_inverse_iteration.proofs.iterate_once.Statement.{statem
 use Rattle.pass_inverse_iteration.proofs.iterate_once.Tie as tie
 
 next-requires : tie.Need-next-requires
-next-requires c κs = c .before .before .before .before .pre
+next-requires c κs = c .before .before .before .before .before .pre
 
 enum-told : tie.Need-enum-told
 enum-told c = search needs
@@ -19,16 +19,16 @@ same-length : tie.Need-same-length
 same-length c = search needs
 
 returns : tie.Need-returns
-returns c = iteration-refused _ _ _ _ _ _ _ (c .before .before .before .before .before .before .before .before .before .pre .0) (c .before .before .before .before .next .ensures) (not-done (c .enum-told2 .given .1))
+returns c = iteration-refused _ _ _ _ _ _ _ (c .before .before .before .before .before .before .before .before .before .before .pre .0) (c .before .before .before .before .next .ensures) (not-done (c .enum-told2 .given .1))
 
 judge-requires : tie.Need-judge-requires
-judge-requires c κs = (same-pencil (search needs) _ _ _ (c .before .before .before .before .before .before .before .before .before .before .pre .0), c .before .before .before .before .before .before .before .before .before .before .pre .1)
+judge-requires c κs = (same-pencil (search needs) _ _ _ (c .before .before .before .before .before .before .before .before .before .before .before .pre .0), c .before .before .before .before .before .before .before .before .before .before .before .pre .1 .0)
 
 same-length-2 : tie.Need-same-length-2
 same-length-2 c = search needs
 
 returns-2 : tie.Need-returns-2
-returns-2 c = iteration-judged _ _ _ _ _ _ _ (c .before .before .before .before .before .before .before .before .before .before .before .before .before .pre .0) (c .before .before .before .before .before .before .before .before .next .ensures) (c .before .before .before .before .enum-told .given .1) (c .before .before .judge .ensures)
+returns-2 c = iteration-judged _ _ _ _ _ _ _ (c .before .before .before .before .before .before .before .before .before .before .before .before .before .before .pre .0) (c .before .before .before .before .before .before .before .before .next .ensures) (c .before .before .before .before .enum-told .given .1) (c .before .before .judge .ensures)
 
 pub iterate-once-spec : {M : Type 1} → statement M
 iterate-once-spec =

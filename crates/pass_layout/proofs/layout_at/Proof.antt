@@ -218,6 +218,27 @@ mul-t73 c = search needs
 add-t74 : tie.Need-add-t74
 add-t74 c = search needs
 
+mul-t75 : tie.Need-mul-t75
+mul-t75 c = search needs
+
+add-t76 : tie.Need-add-t76
+add-t76 c = search needs
+
+mul-t77 : tie.Need-mul-t77
+mul-t77 c = search needs
+
+add-t78 : tie.Need-add-t78
+add-t78 c = search needs
+
+mul-t79 : tie.Need-mul-t79
+mul-t79 c = search needs
+
+add-t80 : tie.Need-add-t80
+add-t80 c = search needs
+
+add-t81 : tie.Need-add-t81
+add-t81 c = search needs
+
 returns : tie.Need-returns
 unfolding layoutOf
 returns c = refl
@@ -297,4 +318,11 @@ layout-at-spec =
     add-t72
     mul-t73
     add-t74
+    mul-t75
+    add-t76
+    mul-t77
+    add-t78
+    mul-t79
+    add-t80
+    add-t81
     returns)

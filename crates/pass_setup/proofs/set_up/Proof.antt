@@ -7,7 +7,7 @@ use Rattle.pass_setup.proofs.set_up.Statement.{statement}
 use Rattle.pass_setup.proofs.set_up.Tie as tie
 
 geometries-requires : tie.Need-geometries-requires
-geometries-requires c κs = search needs
+geometries-requires c κs = (omega (arith, c .before .before .before .before .pre .0), c .before .before .before .before .pre .1)
 
 refused-requires : tie.Need-refused-requires
 refused-requires c κs = search needs

@@ -1,0 +1,51 @@
+-- `linear_layers::run` meets its contract: the copy is made, and the system solved by it; the laws are in proofs/Tests.
+use native.Mathlib.Omega.{arith}
+use Rattle.linear_layers.proofs.Tests.{counted, fits, graph, entries-needs, run-gradient, run-made}
+use borrow.Author.Needs.{needs}
+use Rattle.linear_layers.proofs.run.Statement.{statement}
+use Rattle.linear_layers.proofs.run.Tie as tie
+
+number-edges-requires : tie.Need-number-edges-requires
+number-edges-requires c κs = (c .before .before .before .before .before .pre .1, graph _ _ _ _ (c .before .before .before .before .before .pre .0))
+
+matrix-for-requires : tie.Need-matrix-for-requires
+matrix-for-requires c κs = search needs
+
+vectors-for-requires : tie.Need-vectors-for-requires
+vectors-for-requires c κs = omega (arith, fits _ _ _ _ (c .before .before .before .before .before .before .before .before .before .pre .0))
+
+packing-for-requires : tie.Need-packing-for-requires
+packing-for-requires c κs = counted _ _ _ (c .before .before .before .before .before .before .before .before .before .before .pre .1)
+
+source-for-requires : tie.Need-source-for-requires
+source-for-requires c κs = counted _ _ _ (c .before .before .before .before .before .before .before .before .before .before .before .pre .1)
+
+entries-requires : tie.Need-entries-requires
+entries-requires c κs = entries-needs (c .before .before .before .before .before .before .before .before .before .before .before .before .before .before .args .work .now) _ _ _ _ (c .before .before .before .before .before .before .before .before .before .before .before .before .before .before .args .tolerance) (c .before .before .before .before .before .before .before .before .before .before .before .before .before .before .args .most) (c .before .before .before .before .before .before .before .before .before .before .before .before .before .before .pre .0) (c .before .before .before .before .before .before .before .before .before .before .before .before .before .before .pre .1) (c .before .before .before .before .before .before .before .before .number-edges .ensures) (c .before .before .before .before .before .matrix-for .ensures) (c .before .before .before .packing-for .ensures) (c .before .before .source-for .ensures)
+
+conjugate-gradient-requires : tie.Need-conjugate-gradient-requires
+conjugate-gradient-requires c κs = run-gradient _ _ _ _ _ (c .before .before .before .before .before .before .before .before .before .before .before .before .before .before .before .before .before .before .before .args .tolerance) (c .before .before .before .before .before .before .before .before .before .before .before .before .before .before .before .before .before .before .before .args .most) (c .before .before .before .before .before .before .before .before .before .before .before .before .before .before .before .before .before .before .before .pre .0) (c .before .before .before .before .before .before .before .before .before .before .before .before .before .before .before .before .before .before .before .pre .1) (c .before .before .before .before .before .before .before .before .before .before .before .before .before .number-edges .ensures) (c .before .before .before .before .before .before .before .before .before .before .matrix-for .ensures) (c .before .before .before .before .before .before .before .before .before .vectors-for .ensures) (c .before .before .before .before .before .before .before .before .packing-for .ensures) (c .before .before .before .before .before .before .before .source-for .ensures) (c .before .before .before .before .entries .ensures)
+
+same-length : tie.Need-same-length
+same-length c = search needs
+
+same-length-2 : tie.Need-same-length-2
+same-length-2 c = search needs
+
+returns : tie.Need-returns
+returns c = run-made _ _ _ _ _ _ _ (c .before .before .before .before .before .before .before .before .before .before .before .before .before .before .before .before .before .before .before .before .before .before .pre .0) (c .before .before .before .before .before .before .before .before .before .before .before .before .before .before .before .before .before .before .before .before .before .before .pre .1) (c .before .before .before .before .before .before .before .before .before .before .before .before .before .before .before .before .number-edges .ensures) (c .before .before .before .before .before .before .before .before .before .before .before .before .before .matrix-for .ensures) (c .before .before .before .before .before .before .before .before .before .before .before .before .vectors-for .ensures) (c .before .before .before .before .before .before .before .before .before .before .before .packing-for .ensures) (c .before .before .before .before .before .before .before .before .before .before .source-for .ensures) (c .before .before .before .before .before .before .before .entries .ensures) (c .before .before .conjugate-gradient .ensures)
+
+pub run-spec : {M : Type 1} → statement M
+run-spec =
+    tie.close
+    (tie.spec
+    number-edges-requires
+    matrix-for-requires
+    vectors-for-requires
+    packing-for-requires
+    source-for-requires
+    entries-requires
+    conjugate-gradient-requires
+    same-length
+    same-length-2
+    returns)

@@ -1,0 +1,24 @@
+-- `pass_branches::packed_field` meets its contract: what the field depends on is left by the copy; the laws are in proofs/Packing.
+use borrow.Author.Needs.{needs}
+use Rattle.pass_branches.proofs.Packing.{pack-requires, packed-ordered, packed-edges, packed-bounds, leaves-packed}
+use Rattle.pass_branches.proofs.packed_field.Statement.{statement}
+use Rattle.pass_branches.proofs.packed_field.Tie as tie
+
+pack-edges-requires : tie.Need-pack-edges-requires
+pack-edges-requires c κs = pack-requires (c .before .before .before .args .l) _ _ (c .before .before .before .pre .0) (c .before .before .before .pre .1 .0)
+
+field-at-requires : tie.Need-field-at-requires
+field-at-requires c κs = (packed-ordered (c .before .before .before .before .before .before .before .before .args .l) _ _ (c .before .before .before .before .before .before .before .before .pre .0) (c .before .before .before .before .before .before .before .before .pre .1 .0) (c .before .before .before .before .pack-edges .ensures), (packed-edges (c .before .before .before .before .before .before .before .before .args .l) _ _ (c .before .before .before .before .before .before .before .before .pre .0) (c .before .before .before .before .before .before .before .before .pre .1 .0) (c .before .before .before .before .pack-edges .ensures), packed-bounds (c .before .before .before .before .before .before .before .before .args .l) _ _ (c .before .before .before .before .before .before .before .before .pre .0) (c .before .before .before .before .before .before .before .before .pre .1 .0) (c .before .before .before .before .pack-edges .ensures) _ (c .before .before .before .before .before .before .before .before .args .o) (c .before .before .before .before .before .before .before .before .args .s) (c .before .before .before .before .before .before .before .before .pre .1 .1)))
+
+same-length : tie.Need-same-length
+same-length c = search needs
+
+same-length-2 : tie.Need-same-length-2
+same-length-2 c = search needs
+
+returns : tie.Need-returns
+returns c = leaves-packed (c .before .before .before .before .before .before .before .before .before .before .before .args .l) _ _ (c .before .before .before .before .before .before .before .before .before .before .before .pre .0) (c .before .before .before .before .before .before .before .before .before .before .before .pre .1 .0) (c .before .before .before .before .before .before .before .pack-edges .ensures) _ (c .before .before .before .before .before .before .before .before .before .before .before .args .o) (c .before .before .before .before .before .before .before .before .before .before .before .args .s) (c .before .before .field-at .ensures)
+
+pub packed-field-spec : {M : Type 1} → statement M
+packed-field-spec =
+    tie.close (tie.spec pack-edges-requires field-at-requires same-length same-length-2 returns)
