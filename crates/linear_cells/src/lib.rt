@@ -1,8 +1,8 @@
 // One lent slice as regions of reals and of complex numbers. A complex vector of n cells at `base` is split:
-// its n real parts, and then its n imaginary parts. Loads and stores of one cell, and what fills, copies and zeroes.
+// its n real parts, and then its n imaginary parts. Loads and stores of one cell, and what fills, copies and zeroes. A lent slice of numbers has regions too.
 use complex::Complex;
 ghost use mathlib.Core.Path.{_≡_};
-ghost use Prim.Native.Nat.{_+_, _<_, _≤_};
+ghost use Prim.Native.Nat.{_+_, _^_, _<_, _≤_};
 ghost use lib.ListN.{length, getD, set, replicate};
 ghost use lib.Ieee.{nan};
 ghost use Rattle.float.specs.Double.{lit};
@@ -44,6 +44,30 @@ pub fn store(work: &mut [f64], base: usize, n: usize, i: usize, z: Complex)
 {
     store_real(work, base, i, z.re);
     store_real(work, base + n, i, z.im);
+}
+
+// A number as an index.
+pub fn wide(x: u32) -> usize
+    ensures { λ r. ⌜ r ≡ x ⌝ }
+{
+    x as usize
+}
+
+// Number i of the region at `base`, loaded as a real is.
+pub fn load_number(numbers: &[u32], base: usize, i: usize) -> usize
+    requires { ⌜ base + i < length (now numbers) ⌝ }
+    ensures { λ r. ⌜ r ≡ getD (now (numbers .entry)) (base + i) 0 ⌝ }
+{
+    let rest = &numbers[base..];
+    wide(rest[i])
+}
+
+pub fn store_number(numbers: &mut [u32], base: usize, i: usize, value: usize)
+    requires { ⌜ (base + i < length (now numbers)) × (value < 2 ^ 32) ⌝ }
+    ensures { λ _. ⌜ now (numbers .exit) ≡ set (now (numbers .entry)) (base + i) value ⌝ }
+{
+    let rest = &mut numbers[base..];
+    rest[i] = value as u32;
 }
 
 // `value` n times from `base`.

@@ -5,6 +5,7 @@ use linear_cells::load;
 use linear_cells::load_real;
 use linear_cells::store;
 use linear_cells::store_real;
+use linear_cells::wide;
 ghost use mathlib.Core.Path.{_≡_};
 ghost use Prim.Native.Nat.{_+_, _*_, _<_, _≤_};
 ghost use lib.ListN.{length, getD, set};
@@ -144,12 +145,6 @@ fn edge_one(
     let ends = edge_ends(work, y, x, off, n, m, e, a, b);
     store(work, y, n, a, ends.a);
     store(work, y, n, b, ends.b);
-}
-
-fn wide(x: u32) -> usize
-    ensures { λ r. ⌜ r ≡ x ⌝ }
-{
-    x as usize
 }
 
 fn edge_at(work: &mut [f64], y: usize, x: usize, h: Hermitian, e: usize, from: &[u32], to: &[u32])
