@@ -1,0 +1,85 @@
+-- `linear_adjacency::lent::count` meets its contract: the loop keeps what `Inv-loop` says, and what is left to do falls at each iteration; the laws are in proofs/Loops.
+use mathlib.Core.Path.{_≡_, _∙_, ap}
+use Prim.Native.Nat.{_≤_, _-_}
+use native.Mathlib.Omega.{arith}
+use lib.ListN.{length}
+use Rattle.linear_cells.specs.Region.{put}
+use Rattle.linear_cells.proofs.Regions.{length-put}
+use Rattle.linear_adjacency.specs.Build.{degrees}
+use Rattle.linear_adjacency.proofs.Loops.{count-none, count-in, count-again, count-done}
+use borrow.Author.Needs.{needs}
+use Rattle.linear_adjacency.proofs.lent.count.Statement.{statement}
+use Rattle.linear_adjacency.proofs.lent.count.Tie as tie
+
+abbrev Inv-loop : tie.InvT-loop
+Inv-loop w₀ at n from to e₀ e-end w e = (e-end ≡ length from) × (e ≤ length from) × (length w ≡ length w₀) × (w ≡ put w₀ at (degrees from to n e))
+
+abbrev μ-loop : tie.MeasureT-loop
+μ-loop w₀ at n from to e₀ e-end w e = e-end - e
+
+loop-holds : tie.Need-loop-holds Inv-loop μ-loop
+loop-holds c = (omega arith, omega arith, omega arith, count-none _ _ _ _ _ (c .before .before .before .pre .1 .1))
+
+mul-wide : tie.Need-mul-wide Inv-loop μ-loop
+mul-wide c = search needs
+
+shared-slice-read-wide : tie.Need-shared-slice-read-wide Inv-loop μ-loop
+shared-slice-read-wide c = search needs
+
+wide-requires : tie.Need-wide-requires Inv-loop μ-loop
+wide-requires c κs = search needs
+
+mul-wide-2 : tie.Need-mul-wide-2 Inv-loop μ-loop
+mul-wide-2 c = search needs
+
+shared-slice-read-wide-2 : tie.Need-shared-slice-read-wide-2 Inv-loop μ-loop
+shared-slice-read-wide-2 c = search needs
+
+wide-requires-2 : tie.Need-wide-requires-2 Inv-loop μ-loop
+wide-requires-2 c κs = search needs
+
+add-count-edge : tie.Need-add-count-edge Inv-loop μ-loop
+add-count-edge c = omega (arith, c .before .before .before .before .before .before .before .before .before .before .pre .0 .room, c .before .before .before .before .before .before .before .before .before .before .pre .1 .0 .a-below (c .before .before .before .before .before .before .loop .e) (omega arith), c .before .before .before .wide .ensures)
+
+add-count-edge-2 : tie.Need-add-count-edge-2 Inv-loop μ-loop
+add-count-edge-2 c = omega (arith, c .before .before .before .before .before .before .before .before .before .before .pre .0 .room, c .before .before .before .before .before .before .before .before .before .before .pre .1 .0 .b-below (c .before .before .before .before .before .before .loop .e) (omega arith), c .before .wide2 .ensures)
+
+count-edge-requires : tie.Need-count-edge-requires Inv-loop μ-loop
+count-edge-requires c κs = count-in _ _ _ _ _ (c .before .before .before .before .before .before .before .before .before .before .pre .0) (c .before .before .before .before .before .before .before .before .before .before .pre .1 .0) (c .before .before .before .before .before .before .loop .e) (omega arith) (c .before .before .before .before .before .before .loop .inv .3) (c .before .before .before .wide .ensures) (c .before .wide2 .ensures)
+
+add-e : tie.Need-add-e Inv-loop μ-loop
+add-e c = search needs
+
+loop-less : tie.Need-loop-less Inv-loop μ-loop
+loop-less c = search needs
+
+loop-again : tie.Need-loop-again Inv-loop μ-loop
+loop-again c = let q = count-again _ _ _ _ _ (c .before .before .before .before .before .before .before .before .before .before .before .before .before .pre .0) (c .before .before .before .before .before .before .before .before .before .before .before .before .before .pre .1 .0) (c .before .before .before .before .before .before .before .before .before .loop .e) (omega arith) (c .before .before .before .before .before .before .before .before .before .loop .inv .3) (c .before .before .before .before .before .before .wide .ensures) (c .before .before .before .before .wide2 .ensures) (c .before .before .count-edge .ensures) in (omega arith, omega arith, ap length q ∙ length-put _ _ _, q)
+
+same-length : tie.Need-same-length Inv-loop μ-loop
+same-length c = search needs
+
+returns : tie.Need-returns Inv-loop μ-loop
+returns c = count-done _ _ _ _ _ (c .before .loop .inv .0) (c .before .loop .inv .1) (c .loop-test .left) (c .before .loop .inv .3)
+
+pub count-spec : {M : Type 1} → statement M
+count-spec =
+    tie.close
+    (tie.spec
+    Inv-loop
+    μ-loop
+    loop-holds
+    mul-wide
+    shared-slice-read-wide
+    wide-requires
+    mul-wide-2
+    shared-slice-read-wide-2
+    wide-requires-2
+    add-count-edge
+    add-count-edge-2
+    count-edge-requires
+    add-e
+    loop-less
+    loop-again
+    same-length
+    returns)

@@ -1,0 +1,38 @@
+-- `linear_adjacency::lent::vertex_lists` meets its contract: the laws are in proofs/Tests.
+use Rattle.linear_adjacency.proofs.Tests.{not-true, not-false, lists-no-edges, lists-no-room, lists-needs, lists-made}
+use borrow.Author.Needs.{needs}
+use Rattle.linear_adjacency.proofs.lent.vertex_lists.Statement.{statement}
+use Rattle.linear_adjacency.proofs.lent.vertex_lists.Tie as tie
+
+are-edges-requires : tie.Need-are-edges-requires
+are-edges-requires c κs = search needs
+
+returns : tie.Need-returns
+returns c = lists-no-edges _ _ _ _ (c .before .are-edges .ensures) (not-true _ (c .if1 .taken))
+
+has-room-requires : tie.Need-has-room-requires
+has-room-requires c κs = search needs
+
+returns-2 : tie.Need-returns-2
+returns-2 c = lists-no-room _ _ _ _ (c .before .before .before .are-edges .ensures) (not-false _ (c .before .before .if1 .left)) (c .before .has-room .ensures) (not-true _ (c .if2 .taken))
+
+build-requires : tie.Need-build-requires
+build-requires c κs = lists-needs _ _ _ (c .before .before .before .before .before .before .before .before .args .lists .now) (c .before .before .before .before .are-edges .ensures) (not-false _ (c .before .before .before .if1 .left)) (c .before .before .has-room .ensures) (not-false _ (c .before .if2 .left))
+
+same-length : tie.Need-same-length
+same-length c = search needs
+
+returns-3 : tie.Need-returns-3
+returns-3 c = lists-made _ _ _ _ (c .before .before .before .before .before .before .before .are-edges .ensures) (not-false _ (c .before .before .before .before .before .before .if1 .left)) (c .before .before .before .before .before .has-room .ensures) (not-false _ (c .before .before .before .before .if2 .left)) (c .before .before .build .ensures)
+
+pub vertex-lists-spec : {M : Type 1} → statement M
+vertex-lists-spec =
+    tie.close
+    (tie.spec
+    are-edges-requires
+    returns
+    has-room-requires
+    returns-2
+    build-requires
+    same-length
+    returns-3)
