@@ -85,7 +85,7 @@ module _ (a b : List ℕ) (v : ℕ) where
 -- ---- as the slice holds them
 
 module _ (n : ℕ) (a b l : List ℕ) (g : Ends n a b) (h : Listed a b n l 0) where
-  begins : (v : ℕ) → v ≤ n → getD l v 0 ≡ startOf a b (length a) v
+  pub begins : (v : ℕ) → v ≤ n → getD l v 0 ≡ startOf a b (length a) v
   begins v k = ap (λ i. getD l i 0) (sym (zero-add v)) ∙ h .starts v k
 
   -- the list of v that stands there

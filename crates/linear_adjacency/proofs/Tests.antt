@@ -16,7 +16,7 @@ use Rattle.linear_adjacency.specs.Adjacency.{Ends, adjacency}
 use Rattle.linear_adjacency.specs.Build.{ListRoom}
 use Rattle.linear_adjacency.specs.Incidence.{isEdge, areEdgesTo, areEdges, hasRoom, listable, VertexLists}
 
-and-false : (a : Bool) → a && false ≡ false
+pub and-false : (a : Bool) → a && false ≡ false
 and-false true = refl
 and-false false = refl
 

@@ -43,7 +43,9 @@ is-edge-requires : tie.Need-is-edge-requires Inv-loop μ-loop
 is-edge-requires c κs = search needs
 
 returns-2 : tie.Need-returns-2 Inv-loop μ-loop
-returns-2 c = edges-not _ _ _ (c .before .before .before .before .before .before .before .before .if1 .left) _ (c .before .before .before .before .before .before .loop-test .taken) (c .before .before .before .before .wide .ensures) (c .before .before .wide2 .ensures) (c .before .is-edge .ensures) (not-true _ (c .if2 .taken))
+returns-2 c =
+    let back8 = c .before .before .before .before .before .before .before .before in
+    edges-not _ _ _ (back8 .if1 .left) _ (c .before .before .before .before .before .before .loop-test .taken) (c .before .before .before .before .wide .ensures) (c .before .before .wide2 .ensures) (c .before .is-edge .ensures) (not-true _ (c .if2 .taken))
 
 add-e : tie.Need-add-e Inv-loop μ-loop
 add-e c = search needs
@@ -52,7 +54,9 @@ loop-less : tie.Need-loop-less Inv-loop μ-loop
 loop-less c = search needs
 
 loop-again : tie.Need-loop-again Inv-loop μ-loop
-loop-again c = (search needs, search needs, edges-again _ _ _ _ (c .before .before .before .before .before .before .before .loop .inv .2) (c .before .before .before .before .wide .ensures) (c .before .before .wide2 .ensures) (c .before .is-edge .ensures) (not-false _ (c .if2 .left)))
+loop-again c =
+    let back7 = c .before .before .before .before .before .before .before in
+    (search needs, search needs, edges-again _ _ _ _ (back7 .loop .inv .2) (c .before .before .before .before .wide .ensures) (c .before .before .wide2 .ensures) (c .before .is-edge .ensures) (not-false _ (c .if2 .left)))
 
 returns-3 : tie.Need-returns-3 Inv-loop μ-loop
 returns-3 c = edges-done _ _ _ (c .before .before .if1 .left) (c .before .loop .inv .0) (c .before .loop .inv .1) (c .loop-test .left) (c .before .loop .inv .2)

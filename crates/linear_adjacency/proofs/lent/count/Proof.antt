@@ -39,13 +39,20 @@ wide-requires-2 : tie.Need-wide-requires-2 Inv-loop μ-loop
 wide-requires-2 c κs = search needs
 
 add-count-edge : tie.Need-add-count-edge Inv-loop μ-loop
-add-count-edge c = omega (arith, c .before .before .before .before .before .before .before .before .before .before .pre .0 .room, c .before .before .before .before .before .before .before .before .before .before .pre .1 .0 .a-below (c .before .before .before .before .before .before .loop .e) (omega arith), c .before .before .before .wide .ensures)
+add-count-edge c =
+    let start = c .before .before .before .before .before .before .before .before .before .before in
+    omega (arith, start .pre .0 .room, start .pre .1 .0 .a-below (c .before .before .before .before .before .before .loop .e) (omega arith), c .before .before .before .wide .ensures)
 
 add-count-edge-2 : tie.Need-add-count-edge-2 Inv-loop μ-loop
-add-count-edge-2 c = omega (arith, c .before .before .before .before .before .before .before .before .before .before .pre .0 .room, c .before .before .before .before .before .before .before .before .before .before .pre .1 .0 .b-below (c .before .before .before .before .before .before .loop .e) (omega arith), c .before .wide2 .ensures)
+add-count-edge-2 c =
+    let start = c .before .before .before .before .before .before .before .before .before .before in
+    omega (arith, start .pre .0 .room, start .pre .1 .0 .b-below (c .before .before .before .before .before .before .loop .e) (omega arith), c .before .wide2 .ensures)
 
 count-edge-requires : tie.Need-count-edge-requires Inv-loop μ-loop
-count-edge-requires c κs = count-in _ _ _ _ _ (c .before .before .before .before .before .before .before .before .before .before .pre .0) (c .before .before .before .before .before .before .before .before .before .before .pre .1 .0) (c .before .before .before .before .before .before .loop .e) (omega arith) (c .before .before .before .before .before .before .loop .inv .3) (c .before .before .before .wide .ensures) (c .before .wide2 .ensures)
+count-edge-requires c κs =
+    let start = c .before .before .before .before .before .before .before .before .before .before in
+    let back6 = c .before .before .before .before .before .before in
+    count-in _ _ _ _ _ (start .pre .0) (start .pre .1 .0) (back6 .loop .e) (omega arith) (back6 .loop .inv .3) (c .before .before .before .wide .ensures) (c .before .wide2 .ensures)
 
 add-e : tie.Need-add-e Inv-loop μ-loop
 add-e c = search needs
@@ -54,7 +61,12 @@ loop-less : tie.Need-loop-less Inv-loop μ-loop
 loop-less c = search needs
 
 loop-again : tie.Need-loop-again Inv-loop μ-loop
-loop-again c = let q = count-again _ _ _ _ _ (c .before .before .before .before .before .before .before .before .before .before .before .before .before .pre .0) (c .before .before .before .before .before .before .before .before .before .before .before .before .before .pre .1 .0) (c .before .before .before .before .before .before .before .before .before .loop .e) (omega arith) (c .before .before .before .before .before .before .before .before .before .loop .inv .3) (c .before .before .before .before .before .before .wide .ensures) (c .before .before .before .before .wide2 .ensures) (c .before .before .count-edge .ensures) in (omega arith, omega arith, ap length q ∙ length-put _ _ _, q)
+loop-again c =
+    let start = c .before .before .before .before .before .before .before .before .before .before .before .before .before in
+    let back9 = c .before .before .before .before .before .before .before .before .before in
+    let q = count-again _ _ _ _ _ (start .pre .0) (start .pre .1 .0) (back9 .loop .e) (omega arith) (back9 .loop .inv .3) (c .before .before .before .before .before .before .wide .ensures)
+    (c .before .before .before .before .wide2 .ensures) (c .before .before .count-edge .ensures) in
+    (omega arith, omega arith, ap length q ∙ length-put _ _ _, q)
 
 same-length : tie.Need-same-length Inv-loop μ-loop
 same-length c = search needs

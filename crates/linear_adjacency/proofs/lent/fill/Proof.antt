@@ -39,19 +39,29 @@ wide-requires-2 : tie.Need-wide-requires-2 Inv-loop μ-loop
 wide-requires-2 c κs = search needs
 
 place-edge-requires : tie.Need-place-edge-requires Inv-loop μ-loop
-place-edge-requires c κs = fill-both _ _ _ (c .before .before .before .before .before .before .before .before .before .before .pre .1 .0) _ _ (c .before .before .before .before .before .before .before .before .before .before .pre .0) (c .before .before .before .before .before .before .loop .e) (omega arith) (omega arith) (c .before .before .before .before .before .before .loop .inv .2) (c .before .before .before .wide .ensures) (c .before .wide2 .ensures)
+place-edge-requires c κs =
+    let start = c .before .before .before .before .before .before .before .before .before .before in
+    let back6 = c .before .before .before .before .before .before in
+    fill-both _ _ _ (start .pre .1 .0) _ _ (start .pre .0) (back6 .loop .e) (omega arith) (omega arith) (back6 .loop .inv .2) (c .before .before .before .wide .ensures) (c .before .wide2 .ensures)
 
 loop-less : tie.Need-loop-less Inv-loop μ-loop
 loop-less c = search needs
 
 loop-again : tie.Need-loop-again Inv-loop μ-loop
-loop-again c = let q = fill-again _ _ _ (c .before .before .before .before .before .before .before .before .before .before .before .before .before .pre .1 .0) _ _ (c .before .before .before .before .before .before .before .before .before .before .before .before .before .pre .0) (c .before .before .before .before .before .before .before .before .before .loop .e) (omega arith) (omega arith) (c .before .before .before .before .before .before .before .before .before .loop .inv .2) (c .before .before .before .before .before .before .wide .ensures) (c .before .before .before .before .wide2 .ensures) (c .before .before .place-edge .ensures) in (omega arith, ap length q ∙ length-fillTo _ _ _ (c .before .before .before .before .before .before .before .before .before .before .before .before .before .pre .1 .0) _ _ (c .before .before .before .before .before .before .before .before .before .before .before .before .before .pre .0) _, q)
+loop-again c =
+    let start = c .before .before .before .before .before .before .before .before .before .before .before .before .before in
+    let back9 = c .before .before .before .before .before .before .before .before .before in
+    let q = fill-again _ _ _ (start .pre .1 .0) _ _ (start .pre .0) (back9 .loop .e) (omega arith) (omega arith) (back9 .loop .inv .2) (c .before .before .before .before .before .before .wide .ensures)
+    (c .before .before .before .before .wide2 .ensures) (c .before .before .place-edge .ensures) in
+    (omega arith, ap length q ∙ length-fillTo _ _ _ (start .pre .1 .0) _ _ (start .pre .0) _, q)
 
 same-length : tie.Need-same-length Inv-loop μ-loop
 same-length c = search needs
 
 returns : tie.Need-returns Inv-loop μ-loop
-returns c = fill-done _ _ _ (c .before .before .before .before .before .pre .1 .0) _ _ (c .before .before .before .before .before .pre .0) (omega arith) (c .before .loop .inv .2)
+returns c =
+    let start = c .before .before .before .before .before in
+    fill-done _ _ _ (start .pre .1 .0) _ _ (start .pre .0) (omega arith) (c .before .loop .inv .2)
 
 pub fill-spec : {M : Type 1} → statement M
 fill-spec =

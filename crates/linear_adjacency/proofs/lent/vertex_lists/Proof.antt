@@ -17,13 +17,17 @@ returns-2 : tie.Need-returns-2
 returns-2 c = lists-no-room _ _ _ _ (c .before .before .before .are-edges .ensures) (not-false _ (c .before .before .if1 .left)) (c .before .has-room .ensures) (not-true _ (c .if2 .taken))
 
 build-requires : tie.Need-build-requires
-build-requires c κs = lists-needs _ _ _ (c .before .before .before .before .before .before .before .before .args .lists .now) (c .before .before .before .before .are-edges .ensures) (not-false _ (c .before .before .before .if1 .left)) (c .before .before .has-room .ensures) (not-false _ (c .before .if2 .left))
+build-requires c κs =
+    let start = c .before .before .before .before .before .before .before .before in
+    lists-needs _ _ _ (start .args .lists .now) (c .before .before .before .before .are-edges .ensures) (not-false _ (c .before .before .before .if1 .left)) (c .before .before .has-room .ensures) (not-false _ (c .before .if2 .left))
 
 same-length : tie.Need-same-length
 same-length c = search needs
 
 returns-3 : tie.Need-returns-3
-returns-3 c = lists-made _ _ _ _ (c .before .before .before .before .before .before .before .are-edges .ensures) (not-false _ (c .before .before .before .before .before .before .if1 .left)) (c .before .before .before .before .before .has-room .ensures) (not-false _ (c .before .before .before .before .if2 .left)) (c .before .before .build .ensures)
+returns-3 c =
+    let back7 = c .before .before .before .before .before .before .before in
+    lists-made _ _ _ _ (back7 .are-edges .ensures) (not-false _ (c .before .before .before .before .before .before .if1 .left)) (c .before .before .before .before .before .has-room .ensures) (not-false _ (c .before .before .before .before .if2 .left)) (c .before .before .build .ensures)
 
 pub vertex-lists-spec : {M : Type 1} → statement M
 vertex-lists-spec =
