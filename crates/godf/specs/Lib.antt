@@ -1,3 +1,4 @@
 pub mod Answers
+pub mod Product
 pub mod Report
 pub mod Solve

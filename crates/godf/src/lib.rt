@@ -1,5 +1,6 @@
 // What C and Rust call. Each function is one of a layer below under C's calling rules, and include/godf.h mirrors this file.
 pub mod field;
+pub mod product;
 pub mod refine;
 pub mod solve_call;
 
