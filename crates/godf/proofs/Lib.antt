@@ -1,2 +1,3 @@
 mod Answer
+mod Lists
 mod Told

@@ -18,15 +18,15 @@ pub record ListsTold (n : ℕ) (from to lists : List ℕ) (code : ℕ) (lists′
   pub incidence : code ≡ 0 → Incidence n from to lists′
 
 -- an answer's number, and what it leaves in the two places. That the answer is the product is linear_rows' claim `SameProduct`
-unfoldable pub productNumber : Product → ℕ
+abbrev pub productNumber : Product → ℕ
 productNumber (At z) = 0
 productNumber Outside = 1
 
-unfoldable pub reOr : Product → Float → Float
+abbrev pub reOr : Product → Float → Float
 reOr (At z) re = z .re
 reOr Outside re = re
 
-unfoldable pub imOr : Product → Float → Float
+abbrev pub imOr : Product → Float → Float
 imOr (At z) im = z .im
 imOr Outside im = im
 
