@@ -42,6 +42,10 @@ pub mod access {
         }
     }
 
+    fn apply(s: &System) -> Vec<Pair> {
+        pairs(&hermitian(s).apply(&complex(&s.rhs)))
+    }
+
     fn conjugate_gradient(s: &System) -> Result<(Vec<Pair>, usize), String> {
         super::conjugate_gradient(&hermitian(s), &complex(&s.rhs), s.tolerance, s.most).map(|(x, n)| (pairs(&x), n))
     }
@@ -149,6 +153,7 @@ pub mod access {
         triangle_field_variation,
         refine_once,
         extend_guidance,
+        apply,
         conjugate_gradient,
         time_conjugate_gradient,
         normalize_in_mass,

@@ -2,7 +2,7 @@
 
 use crate::{
     candidates::{candidate, Candidate, Copied, RUNS},
-    case, linear, platform_differences, reasons,
+    case, linear, platform_differences, products, reasons,
     reference::Reference,
     refine_call, refinement, scalars, solves, texts, BOUND, PLATFORM,
 };
@@ -22,6 +22,7 @@ const USAGE: &str = "usage:
   try CANDIDATE < FILE                    one printed case
   notice COUNT SEED                       wrong copies and spoilt answers as candidates: is each noticed?
   refine COUNT SEED                       godf_refine beside refine_once
+  products COUNT SEED                     godf_vertex_lists and godf_vertex_product beside the reference's product
   tell COUNT SEED                         what the generator's calls come to
   platform COUNT SEED                     the reference over its platform's functions, on whole solves
   reasons COUNT SEED                      a search for row 24's reasons";
@@ -90,6 +91,7 @@ pub fn run(copies: &'static [Copy]) {
         ["try", name] => solves::attempt(named(name).as_ref(), &read_case()),
         ["notice", count, seed] => solves::notice(copies, number(count), number(seed)),
         ["refine", count, seed] => refine_call::compare(number(count), number(seed)),
+        ["products", count, seed] => products::compare(number(count), number(seed)),
         ["tell", count, seed] => {
             solves::tell(number(count), number(seed));
             true

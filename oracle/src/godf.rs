@@ -1,4 +1,4 @@
-//! The calls of libgodf.a on floors (include/godf.h), on slices.
+//! The calls of libgodf.a on floors and matrices (include/godf.h), on slices.
 
 use crate::case::{Boundary, Case};
 
@@ -102,6 +102,32 @@ extern "C" {
         corners: usize,
         valence_3: *mut usize,
         valence_5: *mut usize,
+    ) -> u32;
+    fn godf_vertex_lists(
+        n: usize,
+        from: *const u32,
+        edges: usize,
+        to: *const u32,
+        ends: usize,
+        lists: *mut u32,
+        list_numbers: usize,
+    ) -> u32;
+    fn godf_vertex_product(
+        diagonal: *const f64,
+        n: usize,
+        off: *const f64,
+        off_numbers: usize,
+        from: *const u32,
+        edges: usize,
+        to: *const u32,
+        ends: usize,
+        lists: *const u32,
+        list_numbers: usize,
+        x: *const f64,
+        x_numbers: usize,
+        vertex: usize,
+        re: *mut f64,
+        im: *mut f64,
     ) -> u32;
 }
 
@@ -306,4 +332,57 @@ pub fn answer<'a>(coarse: &'a [f64], fine: &'a [f64], n: usize, flagged: usize) 
         )
     };
     [coarse, fine][which as usize].get(..count).unwrap_or(&[f64::NAN])
+}
+
+/// Writes the lists of the edges at each of n vertices: 0, or 1 where it writes nothing.
+pub fn vertex_lists(n: usize, from: &[u32], to: &[u32], lists: &mut [u32]) -> u32 {
+    // SAFETY: each pointer goes with the length of its own slice
+    unsafe {
+        godf_vertex_lists(
+            n,
+            from.as_ptr(),
+            from.len(),
+            to.as_ptr(),
+            to.len(),
+            lists.as_mut_ptr(),
+            lists.len(),
+        )
+    }
+}
+
+/// A matrix with its lists, and a vector, as godf_vertex_product takes them. A complex number is a pair in `off` and `x`.
+#[derive(Clone)]
+pub struct Factors {
+    pub diagonal: Vec<f64>,
+    pub off: Vec<f64>,
+    pub from: Vec<u32>,
+    pub to: Vec<u32>,
+    pub lists: Vec<u32>,
+    pub x: Vec<f64>,
+}
+
+/// The product at one vertex: 0 or 1, and the two places that it is written to, which hold marks before the call.
+pub fn vertex_product(of: &Factors, vertex: usize) -> (u32, [f64; 2]) {
+    let [mut re, mut im] = [MARK; 2];
+    // SAFETY: each pointer goes with the length of its own slice
+    let code = unsafe {
+        godf_vertex_product(
+            of.diagonal.as_ptr(),
+            of.diagonal.len(),
+            of.off.as_ptr(),
+            of.off.len(),
+            of.from.as_ptr(),
+            of.from.len(),
+            of.to.as_ptr(),
+            of.to.len(),
+            of.lists.as_ptr(),
+            of.lists.len(),
+            of.x.as_ptr(),
+            of.x.len(),
+            vertex,
+            &mut re,
+            &mut im,
+        )
+    };
+    (code, [re, im])
 }

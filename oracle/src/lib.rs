@@ -13,6 +13,8 @@ pub mod leaves;
 pub mod linear;
 pub mod outcome;
 pub mod platform_differences;
+mod product_calls;
+pub mod products;
 pub mod random;
 pub mod reasons;
 pub mod reference;

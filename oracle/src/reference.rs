@@ -44,6 +44,8 @@ pub struct Reference {
     pub triangle_field_variation: fn(&[f64], &[usize; 3]) -> f64,
     pub refine_once: fn(&[[f64; 3]], &[[usize; 3]], &[f64], &[f64], f64) -> Refined,
     pub extend_guidance: fn(&[f64], &[(usize, usize)], usize) -> Vec<f64>,
+    /// The matrix times the right-hand side.
+    pub apply: fn(&System) -> Vec<Pair>,
     pub conjugate_gradient: fn(&System) -> Result<(Vec<Pair>, usize), String>,
     /// The seconds of one call, without the making of the matrix.
     pub time_conjugate_gradient: fn(&System) -> f64,
