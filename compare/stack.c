@@ -11,6 +11,7 @@
 #define SIDE 128
 #define N (SIDE * SIDE)
 #define T 32768
+#define EDGES (3 * T)
 #define STACK (256 * 1024)
 #define MOST (64 * 1024)
 #define PAINT 0xa5
@@ -22,6 +23,8 @@ static size_t work_count, number_count;
 static uint64_t report[4], told;
 static godf_report solved;
 static double sum;
+static double diagonal[N], entries[2 * EDGES], vector[2 * N];
+static uint32_t from[EDGES], to[EDGES], lists[N + 1 + 2 * EDGES];
 
 /* A grid of 128 by 128 points has 32,258 triangles; the rest are its first ones again. The angles turn by more than any small threshold on every side. */
 static void make_floor(void) {
@@ -39,6 +42,16 @@ static void make_floor(void) {
             uint32_t two[] = {a, b, d, a, d, c};
             for (int k = 0; k < 2 && t < T; k++, t++) memcpy(triangles + 3 * t, two + 3 * k, sizeof(uint32_t) * 3);
         }
+}
+
+/* Every side of every triangle, as an edge of its own: as many edges as a floor can have. */
+static void make_matrix(void) {
+    for (int e = 0; e < EDGES; e++) {
+        from[e] = triangles[e];
+        to[e] = triangles[e % 3 == 2 ? e - 2 : e + 1];
+        entries[2 * e] = entries[2 * e + 1] = 0.5;
+    }
+    for (int i = 0; i < N; i++) diagonal[i] = vector[2 * i] = vector[2 * i + 1] = 1;
 }
 
 static void nothing(void) {}
@@ -81,6 +94,14 @@ static void singularities(void) {
     told = godf_count_singularities(angles, N, triangles, 3 * T, &three, &five);
 }
 
+static void vertex_lists(void) { told = godf_vertex_lists(N, from, EDGES, to, EDGES, lists, N + 1 + 2 * EDGES); }
+
+static void vertex_product(void) {
+    double re, im;
+    told = godf_vertex_product(diagonal, N, entries, 2 * EDGES, from, EDGES, to, EDGES, lists, N + 1 + 2 * EDGES, vector, 2 * N, SIDE + 1, &re, &im);
+    sum += re + im;
+}
+
 static void leaves(void) { sum += godf_sin(400000.5) + godf_cos(-400000.5) + godf_atan2(1e-300, -1e10) + godf_sqrt(5e-324); }
 
 static void *run(void *call) {
@@ -108,8 +129,10 @@ int main(void) {
         const char *name;
         void (*call)(void);
     } calls[] = {{"godf_refine", refine},       {"godf_solve, tangent", solve}, {"godf_solve, guided", solve_smooth}, {"godf_answer", answer},
-                 {"lengths", lengths},          {"godf_interp_angle", probe},   {"godf_count_singularities", singularities}, {"leaves", leaves}};
+                 {"lengths", lengths},          {"godf_interp_angle", probe},   {"godf_count_singularities", singularities}, {"leaves", leaves},
+                 {"godf_vertex_lists", vertex_lists}, {"godf_vertex_product", vertex_product}};
     make_floor();
+    make_matrix();
     work_count = godf_work_f64(N, T, 1);
     number_count = godf_work_u32(N, T, 1);
     work = malloc(work_count * sizeof *work);
@@ -127,6 +150,10 @@ int main(void) {
         }
         if (i == 2 && (told != 0 || solved.flagged != T)) {
             printf("the guided solve was to flag every triangle: %d, %d flagged\n", (int)told, (int)solved.flagged);
+            wrong = 1;
+        }
+        if ((calls[i].call == vertex_lists || calls[i].call == vertex_product) && told != 0) {
+            printf("%s was refused\n", calls[i].name);
             wrong = 1;
         }
     }

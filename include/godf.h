@@ -3,7 +3,7 @@
  *   cc program.c libgodf.a -lm          (-lm: f64's remainder is C's fmod)
  *
  * A function writes to the places that it is lent and nowhere else, keeps nothing between calls and takes any numbers; what it cannot work
- * with it refuses by a number. Calls from several threads on arrays of their own do not disturb each other.
+ * with it refuses by a number. Calls from several threads do not disturb each other where none writes to an array that another is given.
  *
  * Pointers are valid for the counts that go with them and aligned as C aligns their types; a null pointer goes with count 0 only. An array
  * that is written overlaps nothing else that is passed. Counts are of array elements, not of points or triangles.
@@ -186,6 +186,45 @@ uint32_t godf_interp_angle(const double *alpha, size_t alphas, const double *poi
  *   1  refused: triangles are not of whole triples */
 uint32_t godf_count_singularities(const double *alpha, size_t alphas, const uint32_t *triangles, size_t corners,
                                   size_t *valence_3, size_t *valence_5);
+
+/* ---- the matrix product, one vertex at a time
+ * For a product that is spread over cores. The matrix is Hermitian: it has a row and a column for each of n vertices, a real diagonal, and
+ * a complex entry for each edge. Edge e joins two different vertices. Its entry off[e] stands in row from[e], column to[e]; the conjugate
+ * of off[e] stands in row to[e], column from[e]. Where several edges join the same two vertices, their entries add up. All else is 0. In
+ * `off` and in the vector x a complex number is two doubles, re and im; an odd last number is not read.
+ *
+ * Build the lists once for a graph. Then ask for the vertices in any order, on any threads. The product at a vertex starts with the
+ * diagonal term and adds the terms of the vertex's edges in the order of the edges' numbers; every operation is rounded once. The solver's
+ * own product has the same order at each vertex, so the bits are the same, however the vertices are spread over cores.
+ *
+ * Neither call uses memory but what it is lent. examples/product.c spreads a product over threads. */
+
+/* Writes the lists of the edges at each vertex. `edges` is the count of `from`, `ends` that of `to`; both are the number of edges, m.
+ *   lists[0 .. n]    for each vertex, how many entries stand before its list; lists[n] is 2 m
+ *   lists[n + 1 ..]  2 m entries: the lists of vertices 0, 1, .. n - 1, one behind the other. A vertex's list has the numbers of the edges
+ *                    that have an end there, rising
+ * The list of vertex v has lists[v + 1] - lists[v] entries, and the first of them is lists[n + 1 + lists[v]]. The rest of `lists` stays.
+ *   0  the first n + 1 + 2 m numbers of `lists` are written
+ *   1  refused, and nothing is written: `edges` is not `ends`, `lists` has room for fewer numbers, 2 m is 2^32 or more, an end is not
+ *      below n, or the two ends of an edge are the same vertex
+ * Call it on one thread, and start the products when it has returned. */
+uint32_t godf_vertex_lists(size_t n, const uint32_t *from, size_t edges, const uint32_t *to, size_t ends, uint32_t *lists,
+                           size_t list_numbers);
+
+/* The product of the matrix and x at one vertex. Each edge e of the vertex's list adds off[e] times x[to[e]] where from[e] is the vertex,
+ * and otherwise the conjugate of off[e] times x[from[e]].
+ *   0  *re and *im are the product
+ *   1  refused, and nothing is written: the vertex is not below n or not in x; `lists` has not n + 1 numbers, or the vertex's list does not
+ *      lie within it or ends before it begins; the number of an edge in the list is not in `from`, in `to` or in `off`; or the other end
+ *      of such an edge is not in x
+ * The call tests each number that it goes by, so that damaged lists are refused or give another sum, and nothing worse. Lists that
+ * godf_vertex_lists has written, for the same n, from and to, are never refused where `off` has m entries and x has n.
+ *
+ * The arrays are only read. Any number of threads may call it on the same arrays at once, as long as none writes to them and each call
+ * has its own *re and *im. */
+uint32_t godf_vertex_product(const double *diagonal, size_t n, const double *off, size_t off_numbers, const uint32_t *from, size_t edges,
+                             const uint32_t *to, size_t ends, const uint32_t *lists, size_t list_numbers,
+                             const double *x, size_t x_numbers, size_t vertex, double *re, double *im);
 
 #ifdef __cplusplus
 }
