@@ -7,8 +7,8 @@ use std::{
     process::{exit, Command, Stdio},
 };
 
-/// A call that only a library with the whole solve has.
-const NEWEST_CALL: &[u8] = b"godf_solve";
+/// A call that an older library has not.
+const NEWEST_CALL: &str = "godf_vertex_product";
 
 fn stop(message: &str) -> ! {
     println!("cargo:warning=godf: {message}");
@@ -59,9 +59,10 @@ fn main() {
         build(project);
     }
     let bytes = fs::read(&library).unwrap_or_else(|e| stop(&format!("{}: {e}", library.display())));
-    if !bytes.windows(NEWEST_CALL.len()).any(|name| name == NEWEST_CALL) {
+    let newest = NEWEST_CALL.as_bytes();
+    if !bytes.windows(newest.len()).any(|name| name == newest) {
         stop(&format!(
-            "{} has no godf_solve, so it is older than this crate: run `rt staticlib godf`",
+            "{} has no {NEWEST_CALL}, so it is older than this crate: run `rt staticlib godf`",
             library.display()
         ));
     }

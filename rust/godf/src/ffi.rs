@@ -102,4 +102,30 @@ extern "C" {
         valence_3: *mut usize,
         valence_5: *mut usize,
     ) -> u32;
+    pub fn godf_vertex_lists(
+        n: usize,
+        from: *const u32,
+        edges: usize,
+        to: *const u32,
+        ends: usize,
+        lists: *mut u32,
+        list_numbers: usize,
+    ) -> u32;
+    pub fn godf_vertex_product(
+        diagonal: *const f64,
+        n: usize,
+        off: *const f64,
+        off_numbers: usize,
+        from: *const u32,
+        edges: usize,
+        to: *const u32,
+        ends: usize,
+        lists: *const u32,
+        list_numbers: usize,
+        x: *const f64,
+        x_numbers: usize,
+        vertex: usize,
+        re: *mut f64,
+        im: *mut f64,
+    ) -> u32;
 }

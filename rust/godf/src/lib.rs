@@ -25,6 +25,8 @@
 //!   caller's own slices.
 //! - [`refine`] splits triangles on which a field turns too far; [`Field::refined_floor`] is the floor of a solve's second pass.
 //! - [`probe`], [`count_singularities`] and [`singularities`] read a field.
+//! - [`vertex_lists`] and [`vertex_product`] give the product of a [`Matrix`] and a vector one vertex at a time, so that it can be spread
+//!   over threads.
 //! - [`simons_godf`] has the reference's own functions, so that a program that uses it changes one `use` line.
 //!
 //! A call that is refused says why: [`Refusal`]. No call panics for what it is given, except for want of memory.
@@ -48,6 +50,7 @@ mod field;
 mod floor;
 mod mode;
 mod options;
+mod product;
 mod refine;
 mod refusal;
 pub mod simons_godf;
@@ -56,6 +59,7 @@ mod solve;
 pub use field::{count_singularities, probe, singularities, Probe, Singularity, Valence};
 pub use floor::Floor;
 pub use options::{BoundaryMode, Guidance, Options};
+pub use product::{vertex_lists, vertex_product, Matrix};
 pub use refine::{flagged, refine, Refined};
 pub use refusal::{Place, Refusal};
 pub use solve::{answer, Counts, Field, Lengths, Lent, Workspace, MOST_POINTS, MOST_TRIANGLES};

@@ -92,6 +92,18 @@ fn the_other_calls() {
     let count = || godf::count_singularities(&[0.0, 0.5, 0.0, 1.0], floor.triangles);
     assert_eq!(count(), hostile(count));
     assert_eq!(count(), (1, 0));
+    let matrix = godf::Matrix {
+        diagonal: &[0.1, 1.0 / 3.0],
+        off: &[[0.7, 1e-310]],
+        from: &[0],
+        to: &[1],
+    };
+    let lists = || godf::vertex_lists(2, matrix.from, matrix.to);
+    assert_eq!(lists(), hostile(lists));
+    let lists = lists().expect("lists");
+    let product = || godf::vertex_product(matrix, &lists, &[[0.1, 0.3], [0.7, 5e-320]], 1);
+    assert_eq!(product(), hostile(product));
+    assert!(product().is_some());
     let lengths = || Lengths::of(4, 2, 5e-324);
     assert_eq!(lengths(), hostile(lengths));
     assert_eq!(lengths().fine, 10);
