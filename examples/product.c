@@ -96,6 +96,7 @@ int main(void) {
         return 1;
     }
     int same = memcmp(one, many, sizeof one) == 0;
-    printf("%d vertices, %d edges, %d threads: %s\n", VERTICES, EDGES, THREADS, same ? "the bits of one thread" : "other bits than one thread's");
+    printf("%d vertices, %d edges, %d threads: %s\n", VERTICES, EDGES, THREADS,
+           same ? "the bits of one thread" : "other bits than one thread's");
     return same ? 0 : 1;
 }

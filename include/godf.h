@@ -218,7 +218,8 @@ uint32_t godf_vertex_lists(size_t n, const uint32_t *from, size_t edges, const u
  *      lie within it or ends before it begins; the number of an edge in the list is not in `from`, in `to` or in `off`; or the other end
  *      of such an edge is not in x
  * The call tests each number that it goes by, so that damaged lists are refused or give another sum, and nothing worse. Lists that
- * godf_vertex_lists has written, for the same n, from and to, are never refused where `off` has m entries and x has n.
+ * godf_vertex_lists has written, for the same n, from and to, are never refused where the vertex is below n, `off` has m entries and x
+ * has n.
  *
  * The arrays are only read. Any number of threads may call it on the same arrays at once, as long as none writes to them and each call
  * has its own *re and *im. */

@@ -202,8 +202,8 @@ impl Compared {
         self.lists.tell("lists");
         self.products.tell("products");
         self.vertices.tell("vertices of products");
-        self.lists_faults.count.tell("refused lists, and just accepted");
-        self.product_faults.count.tell("refused products, and just accepted");
+        self.lists_faults.count.tell("calls for lists, some refused");
+        self.product_faults.count.tell("calls for products, some refused");
         self.met.tell();
         self.lists_faults.tell();
         self.product_faults.tell();
