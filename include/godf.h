@@ -214,9 +214,9 @@ uint32_t godf_vertex_lists(size_t n, const uint32_t *from, size_t edges, const u
 /* The product of the matrix and x at one vertex. Each edge e of the vertex's list adds off[e] times x[to[e]] where from[e] is the vertex,
  * and otherwise the conjugate of off[e] times x[from[e]].
  *   0  *re and *im are the product
- *   1  refused, and nothing is written: the vertex is not below n or not in x; `lists` has not n + 1 numbers, or the vertex's list does not
- *      lie within it or ends before it begins; the number of an edge in the list is not in `from`, in `to` or in `off`; or the other end
- *      of such an edge is not in x
+ *   1  refused, and nothing is written: the vertex is not below n or not in x; `lists` has fewer than n + 1 numbers; the vertex's list
+ *      does not lie within `lists`, or ends before it begins; the number of an edge in the list is not in `from`, in `to` or in `off`; or
+ *      the other end of such an edge is not in x
  * The call tests each number that it goes by, so that damaged lists are refused or give another sum, and nothing worse. Lists that
  * godf_vertex_lists has written, for the same n, from and to, are never refused where the vertex is below n, `off` has m entries and x
  * has n.
