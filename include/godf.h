@@ -197,7 +197,8 @@ uint32_t godf_count_singularities(const double *alpha, size_t alphas, const uint
  * diagonal term and adds the terms of the vertex's edges in the order of the edges' numbers; every operation is rounded once. The solver's
  * own product has the same order at each vertex, so the bits are the same, however the vertices are spread over cores.
  *
- * Neither call uses memory but what it is lent. examples/product.c spreads a product over threads. */
+ * The calls use less than 16 kilobytes of stack, and no memory but what they are lent. examples/product.c spreads a product over
+ * threads. */
 
 /* Writes the lists of the edges at each vertex. `edges` is the count of `from`, `ends` that of `to`; both are the number of edges, m.
  *   lists[0 .. n]    for each vertex, how many entries stand before its list; lists[n] is 2 m
