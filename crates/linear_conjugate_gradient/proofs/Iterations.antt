@@ -20,7 +20,7 @@ use Rattle.linear_conjugate_gradient.specs.declared.Vectors.{Vectors}
 use Rattle.linear_vectors.specs.declared.residual.Sums.{Sums}
 use Rattle.linear_packing.specs.declared.Packing.{Packing}
 use Rattle.linear_packing.specs.Packed.{Packed}
-use Rattle.linear_pairs.specs.Work.{Multiplies}
+use Rattle.linear_pairs.specs.Product.{Multiplies}
 use Rattle.linear_cells.proofs.Cells.{regionC-same}
 use Rattle.linear_vectors.specs.Vectors.{recipsOf}
 use Rattle.linear_conjugate_gradient.specs.declared.Progress.{Progress}
@@ -189,7 +189,7 @@ module _ (w : List Float) (h : Hermitian) (l : Vectors) (from to : List ℕ) (li
 
 -- ---- the engine
 
--- the product with its sum in one pass
+-- the product and its inner product, in one pass
 pub multiply-engine : (w : List Float) (h : Hermitian) (l : Vectors) (from to : List ℕ) → SolverRoom (length w) h l → {w₁ : List Float} {r : Float}
     → Multiplies w w₁ (matrix w h from to) (regionC w (l .direction) (h .size)) (l .applied) r → Multiplied w w₁ h l from to r
 unfolding multiplied denominator read
@@ -202,7 +202,7 @@ multiply-engine w h l from to ok {w₁} {r} e =
     let y : Sized n t = multiplied-sized n m s z in
     record { work = e .work ∙ ap (λ u. putC u (l .applied) (t .q)) (lay-read w n l) ∙ put-q w n l (ok .vector-room) s z (t .q) (y .q-n); result = e .dot }
 
--- the vectors' change leaves the copy
+-- a change of the vectors leaves the copy
 pub engine-still : (w : List Float) (h : Hermitian) (l : Vectors) (from to u : List ℕ) (t : Packing) → SolverRoom (length w) h l → Engine w h l from to u t
     → (s : State) → Sized (h .size) s → {w₁ : List Float} → w₁ ≡ lay w (h .size) l s → Engine w₁ h l from to u t
 engine-still w h l from to u t ok g s z {w₁} e =
@@ -212,4 +212,4 @@ engine-still w h l from to u t ok g s z {w₁} e =
     ap (λ v. regionC v (t .entries) (t .slots)) e
     ∙ regionC-same (lay w n l s) w (t .entries) (t .slots) (get-below w n l (ok .vector-room) s z (t .entries) (2 * t .slots) (g .room .entries-below)) in
     let k : Packed (matrix w h from to) w u t = g .packed in
-    record { room = g .room; packed = rw m (record { all = k .all; starts = k .starts; nears = k .nears; marks = k .marks; entries = o ∙ k .entries }) }
+    record { room = g .room; packed = rw m (record { all = k .all; starts = k .starts; neighbours = k .neighbours; marks = k .marks; entries = o ∙ k .entries }) }

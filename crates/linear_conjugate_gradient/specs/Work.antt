@@ -50,14 +50,15 @@ pub record SolverRoom (len : ℕ) (h : Hermitian) (l : Vectors) : Type 0 where
   pub off-below : h .off + 2 * h .edges ≤ l .x
   pub vector-room : VectorRoom len (h .size) l
 
--- a packed copy of the matrix, also below the vectors
+-- where the packed copy of the matrix stands: its entries are below the vectors too
 pub record EngineRoom (words : ℕ) (h : Hermitian) (l : Vectors) (t : Packing) : Type 0 where
   pub one-size : t .size ≡ h .size
   pub entries-below : t .entries + 2 * t .slots ≤ l .x
   pub starts-in : t .starts + (t .size + 1) ≤ words
-  pub near-in : t .near + t .slots ≤ words
+  pub neighbours-in : t .neighbours + t .slots ≤ words
   pub marks-in : t .marks + t .size / 2 ≤ words
 
+-- the packed copy of the matrix stands in w and u
 pub record Engine (w : List Float) (h : Hermitian) (l : Vectors) (from to u : List ℕ) (t : Packing) : Type 0 where
   pub room : EngineRoom (length u) h l t
   pub packed : Packed (matrix w h from to) w u t

@@ -85,14 +85,14 @@ fn multiply(
     from: &[u32],
     to: &[u32],
     u: &[u32],
-    t: Packing,
+    copy: Packing,
 ) -> f64
     requires { ⌜ SolverRoom (length (now work)) h l ⌝ }
     requires { ⌜ Graph h (now from) (now to) ⌝ }
-    requires { ⌜ Engine (now work) h l (now from) (now to) (now u) t ⌝ }
+    requires { ⌜ Engine (now work) h l (now from) (now to) (now u) copy ⌝ }
     ensures { λ r. ⌜ Multiplied (now (work .entry)) (now (work .exit)) h l (now (from .entry)) (now (to .entry)) r ⌝ }
 {
-    linear_pairs::multiply(work, l.applied, l.direction, h, from, to, u, t)
+    linear_pairs::multiply(work, l.applied, l.direction, h, from, to, u, copy)
 }
 
 // residual = residual - applied * alpha, with both sums. Their terms are left where the matrix times the direction stood.
@@ -160,17 +160,17 @@ fn iterate_once(
     from: &[u32],
     to: &[u32],
     u: &[u32],
-    t: Packing,
+    copy: Packing,
     limit: f64,
     dot: f64,
 ) -> Progress
     requires { ⌜ SolverRoom (length (now work)) h l ⌝ }
     requires { ⌜ Graph h (now from) (now to) ⌝ }
-    requires { ⌜ Engine (now work) h l (now from) (now to) (now u) t ⌝ }
+    requires { ⌜ Engine (now work) h l (now from) (now to) (now u) copy ⌝ }
     ensures { λ r. ⌜ Ended (now (work .entry)) (now (work .exit)) (h .size) l
         (iterationOf (matrix (now (work .entry)) h (now (from .entry)) (now (to .entry))) limit dot (read (now (work .entry)) (h .size) l)) r ⌝ }
 {
-    let denominator = multiply(work, h, l, from, to, u, t);
+    let denominator = multiply(work, h, l, from, to, u, copy);
     if float::not_positive(denominator) {
         return Progress::Broken(Reason::Denominator);
     }
@@ -195,20 +195,20 @@ fn iterate(
     from: &[u32],
     to: &[u32],
     u: &[u32],
-    t: Packing,
+    copy: Packing,
     limit: f64,
     first: f64,
     most: usize,
 ) -> Answer
     requires { ⌜ SolverRoom (length (now work)) h l ⌝ }
     requires { ⌜ Graph h (now from) (now to) ⌝ }
-    requires { ⌜ Engine (now work) h l (now from) (now to) (now u) t ⌝ }
+    requires { ⌜ Engine (now work) h l (now from) (now to) (now u) copy ⌝ }
     ensures { λ r. ⌜ Solved (now (work .entry)) (now (work .exit)) (h .size) l
         (run (matrix (now (work .entry)) h (now (from .entry)) (now (to .entry))) limit most 0 first (read (now (work .entry)) (h .size) l)) r ⌝ }
 {
     let mut dot = first;
     for i in 0..most {
-        let p = iterate_once(work, h, l, from, to, u, t, limit, dot);
+        let p = iterate_once(work, h, l, from, to, u, copy, limit, dot);
         let Progress::Going(next) = p else {
             return answer_of(p, i + 1);
         };
@@ -225,13 +225,13 @@ pub fn conjugate_gradient(
     from: &[u32],
     to: &[u32],
     u: &[u32],
-    t: Packing,
+    copy: Packing,
     tolerance: f64,
     most: usize,
 ) -> Answer
     requires { ⌜ SolverRoom (length (now work)) h l ⌝ }
     requires { ⌜ Graph h (now from) (now to) ⌝ }
-    requires { ⌜ Engine (now work) h l (now from) (now to) (now u) t ⌝ }
+    requires { ⌜ Engine (now work) h l (now from) (now to) (now u) copy ⌝ }
     ensures { λ r. ⌜ Solved (now (work .entry)) (now (work .exit)) (h .size) l
         (solved (matrix (now (work .entry)) h (now (from .entry)) (now (to .entry))) tolerance most (read (now (work .entry)) (h .size) l)) r ⌝ }
 {
@@ -247,7 +247,7 @@ pub fn conjugate_gradient(
     if float::not_positive(first) {
         return Answer::GaveUp(Reason::FirstResidual);
     }
-    iterate(work, h, l, from, to, u, t, tolerance * norm, first, most)
+    iterate(work, h, l, from, to, u, copy, tolerance * norm, first, most)
 }
 
 // x divided by its norm in the mass matrix. The region at y is left with the matrix times x.

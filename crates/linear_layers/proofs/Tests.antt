@@ -20,7 +20,7 @@ use Rattle.linear_packing.specs.declared.Packing.{Packing}
 use Rattle.linear_packing.specs.declared.Source.{Source}
 use Rattle.linear_packing.specs.Slots.{entriesOf}
 use Rattle.linear_packing.specs.Packed.{Packed}
-use Rattle.linear_packing.specs.Pack.{PackRoom, EntriesRoom, Woven, Ready, packedIn}
+use Rattle.linear_packing.specs.Pack.{PackRoom, EntriesRoom, Interleaved, Ready, packedIn}
 use Rattle.linear_packing.specs.Pack as pack
 use Rattle.linear_packing.proofs.Whole.{ready, from-kept, to-kept, packed, length-with, reals-kept, cells-kept, matrix-kept}
 use Rattle.linear_pairs.proofs.Product.{ends-of}
@@ -217,7 +217,7 @@ module _ (len n m : ℕ) where
       narrow = omega (arith, few-edges);
       all = refl;
       behind = omega arith;
-      near-in = omega arith;
+      neighbours-in = omega arith;
       halves-in = omega arith;
       from-in = omega arith;
       to-in = omega arith;
@@ -306,8 +306,8 @@ module _ (w : List Float) (n : ℕ) (from to u : List ℕ) (tolerance : Float) (
   }
 
   module _ {u₃ : List ℕ} (eu : u₃ ≡ numbersFor u n from to) where
-    pub entries-needs : {h : Hermitian} {t : Packing} {s : Source} → h ≡ matrixFor n m → t ≡ packingFor n m → s ≡ sourceFor n m → Woven u₃ t s × EntriesRoom (length w) h t s
-    entries-needs eh et es = rw (eh, et, es) (numbers-ready u n from to r edges-graph eu .woven, entries-fit)
+    pub entries-needs : {h : Hermitian} {t : Packing} {s : Source} → h ≡ matrixFor n m → t ≡ packingFor n m → s ≡ sourceFor n m → Interleaved u₃ t s × EntriesRoom (length w) h t s
+    entries-needs eh et es = rw (eh, et, es) (numbers-ready u n from to r edges-graph eu .interleaved, entries-fit)
 
     module _ {w₁ : List Float} (ew : w₁ ≡ putC w (n + 2 * m) (entriesOf (matrix w (matrixFor n m) (pack.fromIn (sourceFor n m) u₃) (pack.toIn (sourceFor n m) u₃)) n)) where
       is-made : w₁ ≡ entriesFor w n from to
@@ -347,13 +347,13 @@ module _ (w : List Float) (n : ℕ) (from to u : List ℕ) (tolerance : Float) (
       engine : Engine w₁ (matrixFor n m) (vectorsFor n m) from to u₃ (packingFor n m)
       unfolding matrixFor vectorsFor
       engine =
-          let p = numbers-ready u n from to r edges-graph eu .woven .room in
+          let p = numbers-ready u n from to r edges-graph eu .interleaved .room in
           record {
             room = record {
               one-size = refl;
               entries-below = omega arith;
-              starts-in = omega (arith, p .behind, p .near-in, p .halves-in, p .from-in, p .to-in, p .marks-in);
-              near-in = omega (arith, p .near-in, p .halves-in, p .from-in, p .to-in, p .marks-in);
+              starts-in = omega (arith, p .behind, p .neighbours-in, p .halves-in, p .from-in, p .to-in, p .marks-in);
+              neighbours-in = omega (arith, p .neighbours-in, p .halves-in, p .from-in, p .to-in, p .marks-in);
               marks-in = p .marks-in;
             };
             packed = rw same-matrix made-packed;

@@ -57,7 +57,7 @@ vectorsFor n m = record {
 
 -- the packed copy, and what it is made of
 abbrev pub packingFor : ℕ → ℕ → Packing
-packingFor n m = record { size = n; slots = 2 * m; entries = n + 2 * m; starts = 0; near = n + 1; marks = n + 1 + 6 * m }
+packingFor n m = record { size = n; slots = 2 * m; entries = n + 2 * m; starts = 0; neighbours = n + 1; marks = n + 1 + 6 * m }
 
 abbrev pub sourceFor : ℕ → ℕ → Source
 sourceFor n m = record { edges = m; from = n + 1 + 4 * m; to = n + 1 + 5 * m; halves = n + 1 + 2 * m }

@@ -122,7 +122,7 @@ fn packing_for(n: usize, m: usize) -> Packing
         slots: 2 * m,
         entries: n + 2 * m,
         starts: 0,
-        near: n + 1,
+        neighbours: n + 1,
         marks: n + 1 + 6 * m,
     }
 }

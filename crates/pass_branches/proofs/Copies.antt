@@ -65,13 +65,13 @@ module _ (w : List Float) (h : Hermitian) (l : Vectors) (at : ℕ) (from to u : 
 
     pub copied-engine : Engine w₁ h l from to u c
     copied-engine =
-        let p = k .ready .woven .room in
+        let p = k .ready .interleaved .room in
         record {
           room = record {
             one-size = room .one-size;
             entries-below = room .entries-below;
-            starts-in = omega (arith, p .behind, p .near-in, p .halves-in, p .from-in, p .to-in, p .marks-in);
-            near-in = omega (arith, p .near-in, p .halves-in, p .from-in, p .to-in, p .marks-in);
+            starts-in = omega (arith, p .behind, p .neighbours-in, p .halves-in, p .from-in, p .to-in, p .marks-in);
+            neighbours-in = omega (arith, p .neighbours-in, p .halves-in, p .from-in, p .to-in, p .marks-in);
             marks-in = p .marks-in;
           };
           packed = rw one-matrix copy-packed;

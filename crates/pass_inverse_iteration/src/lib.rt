@@ -1,5 +1,5 @@
 // Inverse iteration for the smallest eigenpair of the shifted pencil, in regions of one lent slice: the Rust's steps. The iterate stands at the solver's x.
-// The packed copy of the energy matrix, for the solver, stands at `t`.
+// The packed copy of the energy matrix, for the solver, stands at `copy`.
 use linear_conjugate_gradient::Vectors;
 use linear_hermitian::Hermitian;
 use linear_packing::Packing;
@@ -106,16 +106,16 @@ fn next(
     from: &[u32],
     to: &[u32],
     u: &[u32],
-    t: Packing,
+    copy: Packing,
     o: Limits,
 ) -> Stage
     requires { ⌜ PencilRoom (length (now work)) mass energy l ⌝ }
     requires { ⌜ Graphs mass energy (now from) (now to) ⌝ }
-    requires { ⌜ Engine (now work) energy l (now from) (now to) (now u) t ⌝ }
+    requires { ⌜ Engine (now work) energy l (now from) (now to) (now u) copy ⌝ }
     ensures { λ r. ⌜ TakesNext (now (work .entry)) (now (work .exit)) mass energy l (now (from .entry)) (now (to .entry)) o r ⌝ }
 {
     linear_hermitian::apply(work, l.residual, l.x, mass, from, to);
-    let s = pass_solution::solve(work, energy, l, from, to, u, t, o.most);
+    let s = pass_solution::solve(work, energy, l, from, to, u, copy, o.most);
     let Stage::Done = s else {
         return s;
     };
@@ -130,15 +130,15 @@ fn iterate_once(
     from: &[u32],
     to: &[u32],
     u: &[u32],
-    t: Packing,
+    copy: Packing,
     o: Limits,
 ) -> Progress
     requires { ⌜ PencilRoom (length (now work)) mass energy l ⌝ }
     requires { ⌜ Graphs mass energy (now from) (now to) ⌝ }
-    requires { ⌜ Engine (now work) energy l (now from) (now to) (now u) t ⌝ }
+    requires { ⌜ Engine (now work) energy l (now from) (now to) (now u) copy ⌝ }
     ensures { λ r. ⌜ IteratesOnce (now (work .entry)) (now (work .exit)) mass energy l (now (from .entry)) (now (to .entry)) o r ⌝ }
 {
-    let s = next(work, mass, energy, l, from, to, u, t, o);
+    let s = next(work, mass, energy, l, from, to, u, copy, o);
     let Stage::Done = s else {
         return Progress::Ended(s);
     };
@@ -153,17 +153,17 @@ fn iterate(
     from: &[u32],
     to: &[u32],
     u: &[u32],
-    t: Packing,
+    copy: Packing,
     o: Limits,
     iterations: usize,
 ) -> Stage
     requires { ⌜ PencilRoom (length (now work)) mass energy l ⌝ }
     requires { ⌜ Graphs mass energy (now from) (now to) ⌝ }
-    requires { ⌜ Engine (now work) energy l (now from) (now to) (now u) t ⌝ }
+    requires { ⌜ Engine (now work) energy l (now from) (now to) (now u) copy ⌝ }
     ensures { λ r. ⌜ Iterates (now (work .entry)) (now (work .exit)) mass energy l (now (from .entry)) (now (to .entry)) o iterations r ⌝ }
 {
     for i in 0..iterations {
-        let p = iterate_once(work, mass, energy, l, from, to, u, t, o);
+        let p = iterate_once(work, mass, energy, l, from, to, u, copy, o);
         if let Progress::Ended(s) = p {
             return s;
         }
@@ -196,12 +196,12 @@ pub fn inverse_iteration(
     from: &[u32],
     to: &[u32],
     u: &[u32],
-    t: Packing,
+    copy: Packing,
     o: Outer,
 ) -> Stage
     requires { ⌜ PencilRoom (length (now work)) mass energy l × PlanesBelow (energy .size) l o ⌝ }
     requires { ⌜ Graphs mass energy (now from) (now to) ⌝ }
-    requires { ⌜ Engine (now work) energy l (now from) (now to) (now u) t ⌝ }
+    requires { ⌜ Engine (now work) energy l (now from) (now to) (now u) copy ⌝ }
     ensures { λ r. ⌜ Inverts (now (work .entry)) (now (work .exit)) mass energy l (now (from .entry)) (now (to .entry)) o r ⌝ }
 {
     let s = begin(work, mass, l, from, to, o);
@@ -212,5 +212,16 @@ pub fn inverse_iteration(
         average: average(o.trace, energy.size),
         most: pass_solution::inner_most(energy.size),
     };
-    iterate(work, mass, energy, l, from, to, u, t, limits, o.iterations)
+    iterate(
+        work,
+        mass,
+        energy,
+        l,
+        from,
+        to,
+        u,
+        copy,
+        limits,
+        o.iterations,
+    )
 }

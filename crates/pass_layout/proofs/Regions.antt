@@ -86,7 +86,7 @@ module _ (l : Layout) (m : ℕ) {reals words : ℕ} (o : Ordered l reals words) 
     narrow = omega (arith, o .few-triangles);
     all = refl;
     behind = refl;
-    near-in = omega arith;
+    neighbours-in = omega arith;
     halves-in = omega (arith, o .table-in, o .point-buckets);
     from-in = omega (arith, o .from-in);
     to-in = omega (arith, o .to-in, o .counts-in, o .flags-in);

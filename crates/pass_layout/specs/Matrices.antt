@@ -17,7 +17,7 @@ vectorsAt l = record { x = l .iterate; residual = l .residual; direction = l .di
 
 -- the packed copy of a matrix: its entries in the f64 work, its numbers where the table of sides stood, and its marks
 abbrev pub packingAt : Layout → ℕ → Packing
-packingAt l m = record { size = l .points; slots = 2 * m; entries = l .packed; starts = l .table; near = l .table + (l .points + 1); marks = l .marks }
+packingAt l m = record { size = l .points; slots = 2 * m; entries = l .packed; starts = l .table; neighbours = l .table + (l .points + 1); marks = l .marks }
 
 abbrev pub sourceAt : Layout → ℕ → Source
 sourceAt l m = record { edges = m; from = l .from; to = l .to; halves = l .table + (l .points + 1) + 2 * m }

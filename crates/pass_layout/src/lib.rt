@@ -152,7 +152,7 @@ pub fn packing_at(l: Layout, edges: usize) -> Packing
         slots: 2 * edges,
         entries: l.packed,
         starts: l.table,
-        near: l.table + (l.points + 1),
+        neighbours: l.table + (l.points + 1),
         marks: l.marks,
     }
 }

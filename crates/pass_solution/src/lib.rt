@@ -57,7 +57,7 @@ fn gave_up(r: Reason) -> Stage
     }
 }
 
-// Solves the system of the matrix and the right-hand side in the residual's region, by at most `most` iterations. The matrix's packed copy stands at t.
+// Solves the system of the matrix and the right-hand side in the residual's region, by at most `most` iterations. The matrix's packed copy stands at copy.
 pub fn solve(
     work: &mut [f64],
     h: Hermitian,
@@ -65,15 +65,15 @@ pub fn solve(
     from: &[u32],
     to: &[u32],
     u: &[u32],
-    t: Packing,
+    copy: Packing,
     most: usize,
 ) -> Stage
     requires { ⌜ SolverRoom (length (now work)) h l ⌝ }
     requires { ⌜ Graph h (now from) (now to) ⌝ }
-    requires { ⌜ Engine (now work) h l (now from) (now to) (now u) t ⌝ }
+    requires { ⌜ Engine (now work) h l (now from) (now to) (now u) copy ⌝ }
     ensures { λ r. ⌜ Solves (now (work .entry)) (now (work .exit)) h l (now (from .entry)) (now (to .entry)) most r ⌝ }
 {
-    let a = conjugate_gradient(work, h, l, from, to, u, t, INNER_TOLERANCE, most);
+    let a = conjugate_gradient(work, h, l, from, to, u, copy, INNER_TOLERANCE, most);
     match a {
         Answer::Iterate(_) => Stage::Done,
         Answer::GaveUp(reason) => gave_up(reason),

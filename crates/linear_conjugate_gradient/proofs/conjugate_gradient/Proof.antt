@@ -27,7 +27,9 @@ same-length-2 : tie.Need-same-length-2
 same-length-2 c = search needs
 
 returns-2 : tie.Need-returns-2
-returns-2 c = solve-diagonal _ _ _ _ _ _ _ (c .before .before .before .before .before .before .euclidean-norm .ensures) (c .before .before .before .before .before .not-positive .ensures) (c .before .before .before .before .if1 .left) (c .before .before .first-not-positive .ensures) (c .if2 .taken)
+returns-2 c =
+    solve-diagonal _ _ _ _ _ _ _ (c .before .before .before .before .before .before .euclidean-norm .ensures) (c .before .before .before .before .before .not-positive .ensures)
+    (c .before .before .before .before .if1 .left) (c .before .before .first-not-positive .ensures) (c .if2 .taken)
 
 begin-requires : tie.Need-begin-requires
 begin-requires c κs = search needs
@@ -39,16 +41,40 @@ same-length-3 : tie.Need-same-length-3
 same-length-3 c = search needs
 
 returns-3 : tie.Need-returns-3
-returns-3 c = solve-first _ _ _ _ _ _ _ (c .before .before .before .before .before .before .before .before .before .before .before .before .euclidean-norm .ensures) (c .before .before .before .before .before .before .before .before .before .before .before .not-positive .ensures) (c .before .before .before .before .before .before .before .before .before .before .if1 .left) (c .before .before .before .before .before .before .before .before .first-not-positive .ensures) (c .before .before .before .before .before .before .before .before .before .before .before .before .before .before .before .before .before .before .pre .0) (c .before .before .before .before .before .before .if2 .left) (c .before .before .before .before .begin .ensures) (c .before .not-positive2 .ensures) (c .if3 .taken)
+returns-3 c =
+    let start = c .before .before .before .before .before .before .before .before .before .before .before .before .before .before .before .before .before .before in
+    let back12 = c .before .before .before .before .before .before .before .before .before .before .before .before in
+    let back11 = c .before .before .before .before .before .before .before .before .before .before .before in
+    let back10 = c .before .before .before .before .before .before .before .before .before .before in
+    let back8 = c .before .before .before .before .before .before .before .before in
+    solve-first _ _ _ _ _ _ _ (back12 .euclidean-norm .ensures) (back11 .not-positive .ensures) (back10 .if1 .left) (back8 .first-not-positive .ensures) (start .pre .0)
+    (c .before .before .before .before .before .before .if2 .left) (c .before .before .before .before .begin .ensures) (c .before .not-positive2 .ensures) (c .if3 .taken)
 
 iterate-requires : tie.Need-iterate-requires
-iterate-requires c κs = (same-room (search needs) _ _ (c .before .before .before .before .before .before .before .before .before .before .before .before .before .before .before .before .before .before .before .pre .0), (c .before .before .before .before .before .before .before .before .before .before .before .before .before .before .before .before .before .before .before .pre .1 .0, engine-still _ _ _ _ _ _ _ (c .before .before .before .before .before .before .before .before .before .before .before .before .before .before .before .before .before .before .before .pre .0) (c .before .before .before .before .before .before .before .before .before .before .before .before .before .before .before .before .before .before .before .pre .1 .1) _ (begun-sized _ _ _ (length-region _ _ _ _) (read-sized _ _ _)) (c .before .before .before .before .before .begin .ensures .work)))
+iterate-requires c κs =
+    let start = c .before .before .before .before .before .before .before .before .before .before .before .before .before .before .before .before .before .before .before in (
+      same-room (search needs) _ _ (start .pre .0),
+      (
+        start .pre .1 .0,
+        engine-still _ _ _ _ _ _ _ (start .pre .0) (start .pre .1 .1) _ (begun-sized _ _ _ (length-region _ _ _ _) (read-sized _ _ _))
+            (c .before .before .before .before .before .begin .ensures .work),
+      ),
+    )
 
 same-length-4 : tie.Need-same-length-4
 same-length-4 c = search needs
 
 returns-4 : tie.Need-returns-4
-returns-4 c = solve-run _ _ _ _ _ _ _ (c .before .before .before .before .before .before .before .before .before .before .before .before .before .before .before .before .euclidean-norm .ensures) (c .before .before .before .before .before .before .before .before .before .before .before .before .before .before .before .not-positive .ensures) (c .before .before .before .before .before .before .before .before .before .before .before .before .before .before .if1 .left) (c .before .before .before .before .before .before .before .before .before .before .before .before .first-not-positive .ensures) (c .before .before .before .before .before .before .before .before .before .before .before .before .before .before .before .before .before .before .before .before .before .before .pre .0) (c .before .before .before .before .before .before .before .before .before .before .if2 .left) (c .before .before .before .before .before .before .before .before .begin .ensures) (c .before .before .before .before .before .not-positive2 .ensures) (c .before .before .before .before .if3 .left) (c .before .before .iterate .ensures)
+returns-4 c =
+    let start = c .before .before .before .before .before .before .before .before .before .before .before .before .before .before .before .before .before .before .before .before .before .before in
+    let back16 = c .before .before .before .before .before .before .before .before .before .before .before .before .before .before .before .before in
+    let back15 = c .before .before .before .before .before .before .before .before .before .before .before .before .before .before .before in
+    let back14 = c .before .before .before .before .before .before .before .before .before .before .before .before .before .before in
+    let back12 = c .before .before .before .before .before .before .before .before .before .before .before .before in
+    let back10 = c .before .before .before .before .before .before .before .before .before .before in
+    let back8 = c .before .before .before .before .before .before .before .before in
+    solve-run _ _ _ _ _ _ _ (back16 .euclidean-norm .ensures) (back15 .not-positive .ensures) (back14 .if1 .left) (back12 .first-not-positive .ensures) (start .pre .0) (back10 .if2 .left)
+    (back8 .begin .ensures) (c .before .before .before .before .before .not-positive2 .ensures) (c .before .before .before .before .if3 .left) (c .before .before .iterate .ensures)
 
 pub conjugate-gradient-spec : {M : Type 1} → statement M
 conjugate-gradient-spec =

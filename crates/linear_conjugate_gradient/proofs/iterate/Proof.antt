@@ -22,7 +22,9 @@ loop-holds : tie.Need-loop-holds Inv-loop μ-loop
 loop-holds c = (search needs, search needs, run-none _ _ _ _ _ _ _ _)
 
 iterate-once-requires : tie.Need-iterate-once-requires Inv-loop μ-loop
-iterate-once-requires c κs = (same-room (c .before .before .loop .inv .1) _ _ (c .before .before .before .before .before .before .before .pre .0), (c .before .before .before .before .before .before .before .pre .1 .0, engine-still _ _ _ _ _ _ _ (c .before .before .before .before .before .before .before .pre .0) (c .before .before .before .before .before .before .before .pre .1 .1) _ (read-sized _ _ _) (c .before .before .loop .inv .2 .frame)))
+iterate-once-requires c κs =
+    let start = c .before .before .before .before .before .before .before in
+    (same-room (c .before .before .loop .inv .1) _ _ (start .pre .0), (start .pre .1 .0, engine-still _ _ _ _ _ _ _ (start .pre .0) (start .pre .1 .1) _ (read-sized _ _ _) (c .before .before .loop .inv .2 .frame)))
 
 enum-known-p : tie.Need-enum-known-p Inv-loop μ-loop
 enum-known-p c = search needs
@@ -37,13 +39,11 @@ same-length : tie.Need-same-length Inv-loop μ-loop
 same-length c = search needs
 
 returns : tie.Need-returns Inv-loop μ-loop
-returns c = run-ended _ _ _ _ _ _ _ _ (c .before .before .before .before .before .before .before .before .before .before .before .before .pre .0) _ (c .before .before .before .before .before .before .loop-test .taken) (c .before .before .before .before .before .before .before .loop .inv .2) (c .before .before .before .before .iterate-once .ensures)
-    (λ next e.
-    ⊎-elim
-    (λ k. let z : _≡_ {A = ℕ} 0 1 = rw e at k in omega arith)
-    (λ k. let z : _≡_ {A = ℕ} 0 2 = rw e at k in omega arith)
-    (c .before .match .keys2))
-    (c .answer-of .ensures)
+returns c =
+    let start = c .before .before .before .before .before .before .before .before .before .before .before .before in
+    let back7 = c .before .before .before .before .before .before .before in
+    run-ended _ _ _ _ _ _ _ _ (start .pre .0) _ (c .before .before .before .before .before .before .loop-test .taken) (back7 .loop .inv .2) (c .before .before .before .before .iterate-once .ensures)
+    (λ next e. ⊎-elim (λ k. let z : _≡_ {A = ℕ} 0 1 = rw e at k in omega arith) (λ k. let z : _≡_ {A = ℕ} 0 2 = rw e at k in omega arith) (c .before .match .keys2)) (c .answer-of .ensures)
 
 add-i : tie.Need-add-i Inv-loop μ-loop
 add-i c = search needs
@@ -52,7 +52,11 @@ loop-less : tie.Need-loop-less Inv-loop μ-loop
 loop-less c = search needs
 
 loop-again : tie.Need-loop-again Inv-loop μ-loop
-loop-again c = (search needs, search needs, run-again _ _ _ _ _ _ _ _ (c .before .before .before .before .before .before .before .before .before .before .before .before .before .pre .0) _ (c .before .before .before .before .before .before .before .loop-test .taken) (c .before .before .before .before .before .before .before .before .loop .inv .2) (c .before .before .before .before .before .iterate-once .ensures) (c .before .p .given .1))
+loop-again c =
+    let start = c .before .before .before .before .before .before .before .before .before .before .before .before .before in
+    let back8 = c .before .before .before .before .before .before .before .before in
+    let back7 = c .before .before .before .before .before .before .before in
+    (search needs, search needs, run-again _ _ _ _ _ _ _ _ (start .pre .0) _ (back7 .loop-test .taken) (back8 .loop .inv .2) (c .before .before .before .before .before .iterate-once .ensures) (c .before .p .given .1))
 
 same-length-2 : tie.Need-same-length-2 Inv-loop μ-loop
 same-length-2 c = search needs

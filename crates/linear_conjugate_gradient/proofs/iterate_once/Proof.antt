@@ -5,7 +5,9 @@ use Rattle.linear_conjugate_gradient.proofs.iterate_once.Statement.{sta
 use Rattle.linear_conjugate_gradient.proofs.iterate_once.Tie as tie
 
 multiply-requires : tie.Need-multiply-requires
-multiply-requires c κs = (c .before .before .before .before .before .pre .0, (c .before .before .before .before .before .pre .1 .0, c .before .before .before .before .before .pre .1 .1))
+multiply-requires c κs =
+    let start = c .before .before .before .before .before in
+    (start .pre .0, (start .pre .1 .0, start .pre .1 .1))
 
 not-positive-requires : tie.Need-not-positive-requires
 not-positive-requires c κs = search needs
@@ -23,7 +25,10 @@ same-length-2 : tie.Need-same-length-2
 same-length-2 c = search needs
 
 returns-2 : tie.Need-returns-2
-returns-2 c = iteration-stepped _ _ _ _ _ _ _ (c .before .before .before .before .before .before .before .before .before .before .before .before .before .before .pre .0) (c .before .before .before .before .before .before .before .before .multiply .ensures) (c .before .before .before .before .before .not-positive .ensures) (c .before .before .before .before .if1 .left) (c .before .before .step .ensures)
+returns-2 c =
+    let start = c .before .before .before .before .before .before .before .before .before .before .before .before .before .before in
+    let back8 = c .before .before .before .before .before .before .before .before in
+    iteration-stepped _ _ _ _ _ _ _ (start .pre .0) (back8 .multiply .ensures) (c .before .before .before .before .before .not-positive .ensures) (c .before .before .before .before .if1 .left) (c .before .before .step .ensures)
 
 pub iterate-once-spec : {M : Type 1} → statement M
 iterate-once-spec =

@@ -7,13 +7,17 @@ use Rattle.linear_conjugate_gradient.proofs.multiply.Statement.{stateme
 use Rattle.linear_conjugate_gradient.proofs.multiply.Tie as tie
 
 multiply-requires : tie.Need-multiply-requires
-multiply-requires c κs = (omega (arith, apart), (c .before .before .before .before .before .pre .1 .0, c .before .before .before .before .before .pre .1 .1 .packed))
+multiply-requires c κs =
+    let start = c .before .before .before .before .before in
+    (omega (arith, apart), (start .pre .1 .0, start .pre .1 .1 .packed))
 
 same-length : tie.Need-same-length
 same-length c = search needs
 
 returns : tie.Need-returns
-returns c = multiply-engine _ _ _ _ _ (c .before .before .before .before .before .before .before .before .pre .0) (c .before .before .multiply .ensures)
+returns c =
+    let start = c .before .before .before .before .before .before .before .before in
+    multiply-engine _ _ _ _ _ (start .pre .0) (c .before .before .multiply .ensures)
 
 pub multiply-spec : {M : Type 1} → statement M
 multiply-spec = tie.close (tie.spec multiply-requires same-length returns)

@@ -12,7 +12,7 @@ linear-most-requires : tie.Need-linear-most-requires
 linear-most-requires c κs = search needs
 
 entries-requires : tie.Need-entries-requires
-entries-requires c κs = (c .before .before .before .before .before .before .pre .1 .1 .1 .ready .woven, entries-room _ _ _ _ _ (c .before .before .before .before .before .before .pre .0 .0) (c .before .before .before .before .before .before .pre .1 .1 .0))
+entries-requires c κs = (c .before .before .before .before .before .before .pre .1 .1 .1 .ready .interleaved, entries-room _ _ _ _ _ (c .before .before .before .before .before .before .pre .0 .0) (c .before .before .before .before .before .before .pre .1 .1 .0))
 
 solve-requires : tie.Need-solve-requires
 solve-requires c κs = (copied-room _ _ _ _ _ _ _ _ _ (c .before .before .before .before .before .before .before .before .before .before .pre .0 .0) (c .before .before .before .before .before .before .before .before .before .before .pre .1 .1 .0) (c .before .before .before .before .before .before .before .before .before .before .pre .1 .1 .1) (c .before .before .before .entries .ensures), (c .before .before .before .before .before .before .before .before .before .before .pre .1 .0, copied-engine _ _ _ _ _ _ _ _ _ (c .before .before .before .before .before .before .before .before .before .before .pre .0 .0) (c .before .before .before .before .before .before .before .before .before .before .pre .1 .1 .0) (c .before .before .before .before .before .before .before .before .before .before .pre .1 .1 .1) (c .before .before .before .entries .ensures)))

@@ -10,7 +10,7 @@ use Rattle.pass_branches.proofs.vector_field.Statement.{statement}
 use Rattle.pass_branches.proofs.vector_field.Tie as tie
 
 entries-requires : tie.Need-entries-requires
-entries-requires c κs = (c .before .before .before .before .before .pre .1 .1 .1 .ready .woven, entries-room _ _ _ _ _ (c .before .before .before .before .before .pre .0 .0 .0 .energy-room) (c .before .before .before .before .before .pre .1 .1 .0 .0))
+entries-requires c κs = (c .before .before .before .before .before .pre .1 .1 .1 .ready .interleaved, entries-room _ _ _ _ _ (c .before .before .before .before .before .pre .0 .0 .0 .energy-room) (c .before .before .before .before .before .pre .1 .1 .0 .0))
 
 inverse-iteration-requires : tie.Need-inverse-iteration-requires
 inverse-iteration-requires c κs = ((same-pencil (copied-length _ _ _ _ _ _ _ _ _ (c .before .before .before .before .before .before .before .before .before .pre .0 .0 .0 .energy-room) (c .before .before .before .before .before .before .before .before .before .pre .1 .1 .0 .0) (c .before .before .before .before .before .before .before .before .before .pre .1 .1 .1) (c .before .before .before .entries .ensures)) _ _ _ (c .before .before .before .before .before .before .before .before .before .pre .0 .0 .0), c .before .before .before .before .before .before .before .before .before .pre .0 .0 .1), (c .before .before .before .before .before .before .before .before .before .pre .1 .0, copied-engine _ _ _ _ _ _ _ _ _ (c .before .before .before .before .before .before .before .before .before .pre .0 .0 .0 .energy-room) (c .before .before .before .before .before .before .before .before .before .pre .1 .1 .0 .0) (c .before .before .before .before .before .before .before .before .before .pre .1 .1 .1) (c .before .before .before .entries .ensures)))
