@@ -38,7 +38,7 @@ edgeAt n from to k = edgeGood n (getD from k 0) (getD to k 0)
 unfoldable pub good : ℕ → ℕ → List ℕ → List ℕ → Bool
 good len n from to = leb (10 * n + 6 * length from) len && (eqb (length to) (length from) && allTo (edgeAt n from to) (length from))
 
--- the numbers of the packed copy have room for n rows and m edges, and each is a u32
+-- there is room for the packed copy of n rows and m edges, and each of its numbers is a u32 (`has_room`)
 unfoldable pub roomy : ℕ → ℕ → ℕ → Bool
 roomy len n m = ltb n (2 ^ 32) && (ltb m (2 ^ 31) && leb (n + 1 + 6 * m + n / 2) len)
 
@@ -55,21 +55,21 @@ vectorsFor n m = record {
   inverse = n + 6 * m + 2 * n + 2 * n + 2 * n + 2 * n;
 }
 
--- the packed copy, and what it is made of
+-- where the packed copy stands (`packing_for`), and what it is made from (`source_for`)
 abbrev pub packingFor : ℕ → ℕ → Packing
 packingFor n m = record { size = n; slots = 2 * m; entries = n + 2 * m; starts = 0; neighbours = n + 1; marks = n + 1 + 6 * m }
 
 abbrev pub sourceFor : ℕ → ℕ → Source
 sourceFor n m = record { edges = m; from = n + 1 + 4 * m; to = n + 1 + 5 * m; halves = n + 1 + 2 * m }
 
--- the ends are laid out, and the copy's numbers made of them
+-- the ends of the edges are copied, and the packed copy is made from them (`number_edges`)
 abbrev pub endsFor : List ℕ → ℕ → List ℕ → List ℕ → List ℕ
 endsFor u n from to = put (put u (sourceFor n (length from) .from) from) (sourceFor n (length from) .to) to
 
 unfoldable pub numbersFor : List ℕ → ℕ → List ℕ → List ℕ → List ℕ
 numbersFor u n from to = packedIn (packingFor n (length from)) (sourceFor n (length from)) (endsFor u n from to)
 
--- its entries
+-- w with the entries of the packed copy
 unfoldable pub entriesFor : List Float → ℕ → List ℕ → List ℕ → List Float
 entriesFor w n from to = putC w (n + 2 * length from) (entriesOf (matrix w (matrixFor n (length from)) from to) n)
 
@@ -77,13 +77,13 @@ unfoldable pub outcome : List Float → ℕ → List ℕ → List ℕ → Float 
 outcome w n from to tolerance most =
     solved (matrix w (matrixFor n (length from)) from to) tolerance most (read w n (vectorsFor n (length from)))
 
--- a solve, where every test is passed
+-- a solve, where all tests are passed (`run`)
 pub record Runs (w w′ : List Float) (n : ℕ) (from to u u′ : List ℕ) (tolerance : Float) (most : ℕ) (r : Answer) : Type 0 where
   pub work : w′ ≡ lay (entriesFor w n from to) n (vectorsFor n (length from)) (outcome w n from to tolerance most .state)
   pub numbers : u′ ≡ numbersFor u n from to
   pub result : r ≡ outcome w n from to tolerance most .answer
 
--- they are
+-- all tests are passed
 unfoldable pub tested : ℕ → ℕ → List ℕ → List ℕ → ℕ → Bool
 tested len n from to words = good len n from to && roomy words n (length from)
 
@@ -99,12 +99,13 @@ unfoldable pub solvedAnswer : Bool → List Float → ℕ → List ℕ → List 
 solvedAnswer true w n from to tolerance most = Solved (outcome w n from to tolerance most .answer)
 solvedAnswer false w n from to tolerance most = Refused
 
+-- what `solve` leaves and returns
 pub record SolveChecked (w w′ : List Float) (n : ℕ) (from to u u′ : List ℕ) (tolerance : Float) (most : ℕ) (r : Checked) : Type 0 where
   pub work : w′ ≡ solvedWork (tested (length w) n from to (length u)) w n from to tolerance most
   pub numbers : u′ ≡ solvedNumbers (tested (length w) n from to (length u)) u n from to
   pub result : r ≡ solvedAnswer (tested (length w) n from to (length u)) w n from to tolerance most
 
--- the same, where only the test's answer goes back
+-- the same, where only the result of the tests is returned (`layers_conjugate_gradient`)
 pub record SolveTold (w w′ : List Float) (n : ℕ) (from to u u′ : List ℕ) (tolerance : Float) (most : ℕ) (r : Bool) : Type 0 where
   pub work : w′ ≡ solvedWork (tested (length w) n from to (length u)) w n from to tolerance most
   pub numbers : u′ ≡ solvedNumbers (tested (length w) n from to (length u)) u n from to

@@ -1,5 +1,6 @@
 // The layers with every test made that they leave to their callers, some under C calling rules: for comparison and timing
 // beside the Rust. No part of the product.
+use linear_cells::wide;
 use linear_conjugate_gradient::Answer;
 use linear_conjugate_gradient::Normalized;
 use linear_conjugate_gradient::Vectors;
@@ -22,12 +23,6 @@ pub enum Checked {
     Refused,
     Solved(Answer),
     Normal(Normalized),
-}
-
-fn wide(x: u32) -> usize
-    ensures { λ r. ⌜ r ≡ x ⌝ }
-{
-    x as usize
 }
 
 fn edge_good(n: usize, a: usize, b: usize) -> bool
@@ -100,7 +95,7 @@ fn vectors_for(n: usize, m: usize) -> Vectors
     }
 }
 
-// Whether the numbers of the packed copy have room, and each is a u32.
+// Whether `numbers` has room for the packed copy of n rows and m edges, and each of its numbers is a u32.
 fn has_room(numbers: &[u32], n: usize, m: usize) -> bool
     ensures { λ r. ⌜ r ≡ roomy (length (now (numbers .entry))) n m ⌝ }
 {
@@ -113,6 +108,7 @@ fn has_room(numbers: &[u32], n: usize, m: usize) -> bool
     n + 1 + 6 * m + n / 2 <= numbers.len()
 }
 
+// Where the packed copy stands, and what it is made from.
 fn packing_for(n: usize, m: usize) -> Packing
     requires { ⌜ (n < 2 ^ 32) × (m < 2 ^ 32) ⌝ }
     ensures { λ r. ⌜ r ≡ packingFor n m ⌝ }
@@ -139,6 +135,7 @@ fn source_for(n: usize, m: usize) -> Source
     }
 }
 
+// Copies the ends of the edges to `at`.
 fn put_ends(ends: &[u32], numbers: &mut [u32], at: usize)
     requires { ⌜ at + length (now ends) ≤ length (now numbers) ⌝ }
     ensures { λ _. ⌜ now (numbers .exit) ≡ put (now (numbers .entry)) at (now (ends .entry)) ⌝ }
@@ -148,20 +145,20 @@ fn put_ends(ends: &[u32], numbers: &mut [u32], at: usize)
     }
 }
 
-// The numbers of the packed copy, of these edges.
+// What depends on the edges alone of the packed copy.
 fn number_edges(numbers: &mut [u32], n: usize, from: &[u32], to: &[u32])
     requires { ⌜ roomy (length (now numbers)) n (length (now from)) ≡ true ⌝ }
     requires { ⌜ Graph (matrixFor n (length (now from))) (now from) (now to) ⌝ }
     ensures { λ _. ⌜ now (numbers .exit) ≡ numbersFor (now (numbers .entry)) n (now (from .entry)) (now (to .entry)) ⌝ }
 {
-    let t = packing_for(n, from.len());
-    let s = source_for(n, from.len());
-    put_ends(from, numbers, s.from);
-    put_ends(to, numbers, s.to);
-    linear_packing::pack(numbers, t, s);
+    let copy = packing_for(n, from.len());
+    let source = source_for(n, from.len());
+    put_ends(from, numbers, source.from);
+    put_ends(to, numbers, source.to);
+    linear_packing::pack(numbers, copy, source);
 }
 
-// The solve, once all is tested.
+// The solve, where all tests are passed.
 fn run(
     work: &mut [f64],
     n: usize,
@@ -178,14 +175,14 @@ fn run(
     number_edges(numbers, n, from, to);
     let h = matrix_for(n, from.len());
     let l = vectors_for(n, from.len());
-    let t = packing_for(n, from.len());
-    let s = source_for(n, from.len());
-    linear_packing::entries(work, numbers, h, t, s);
-    conjugate_gradient(work, h, l, from, to, numbers, t, tolerance, most)
+    let copy = packing_for(n, from.len());
+    let source = source_for(n, from.len());
+    linear_packing::entries(work, numbers, h, copy, source);
+    conjugate_gradient(work, h, l, from, to, numbers, copy, tolerance, most)
 }
 
 // The slice holds the diagonal, the entries off it, room for those of the packed copy, the iterate's region, the right-hand side, and room for three vectors.
-// `numbers` is room for the numbers of the copy: a word for each row and one more, six for each edge, and one for each two rows.
+// `numbers` is scratch for the packed copy: one number for each row and one more, six for each edge, and one for each two rows.
 pub fn solve(
     work: &mut [f64],
     n: usize,

@@ -67,7 +67,8 @@ traces-cases : (t : Traces) (next : Passed) → ((tracesStage t ≡ Done) × (af
 unfolding tracesStage
 traces-cases t next = go (notPositive (t .energy)) (notPositive (t .mass))
   where
-    go : (e m : Bool) → ((cond e (Refused (gaveUp 1 0)) (cond m (Refused (gaveUp 2 0)) Done) ≡ Done) × (cond e (faulty (gaveUp 1 0)) (cond m (faulty (gaveUp 2 0)) next) ≡ next)) ⊎ ((x : Fault) × (cond e (Refused (gaveUp 1 0)) (cond m (Refused (gaveUp 2 0)) Done) ≡ Refused x) × (cond e (faulty (gaveUp 1 0)) (cond m (faulty (gaveUp 2 0)) next) ≡ faulty x))
+    go : (e m : Bool) → ((cond e (Refused (gaveUp 1 0)) (cond m (Refused (gaveUp 2 0)) Done) ≡ Done) × (cond e (faulty (gaveUp 1 0)) (cond m (faulty (gaveUp 2 0)) next) ≡ next)) ⊎
+        ((x : Fault) × (cond e (Refused (gaveUp 1 0)) (cond m (Refused (gaveUp 2 0)) Done) ≡ Refused x) × (cond e (faulty (gaveUp 1 0)) (cond m (faulty (gaveUp 2 0)) next) ≡ faulty x))
     go true m = inr (gaveUp 1 0, refl, refl)
     go false true = inr (gaveUp 2 0, refl, refl)
     go false false = inl (refl, refl)

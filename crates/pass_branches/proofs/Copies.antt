@@ -23,6 +23,7 @@ use Rattle.linear_conjugate_gradient.specs.Work.{SolverRoom, Engine}
 use Rattle.linear_conjugate_gradient.proofs.Lays.{same-room}
 use Rattle.pass_inverse_iteration.specs.declared.Outer.{Outer}
 use Rattle.pass_soft.specs.Work.{systemIn}
+use Rattle.pass_field.specs.Field.{FieldRoom}
 use Rattle.pass_refusal.specs.declared.Stage.{Stage}
 use Rattle.pass_options.specs.Pass.{Passed}
 use Rattle.pass_branches.specs.Work.{Leaves, LeavesLinear, LeavesVector, CopyRoom, CopyBehind, Copies}
@@ -37,6 +38,10 @@ entries-room {len} h l at c e ok room =
       entries-in = omega (arith, z, room .entries-below);
       entries-off = apart (c .entries) (2 * c .slots) (h .off) (2 * h .edges) (omega (arith, room .off-before));
     }
+
+-- the angles of a solution have room
+pub angles-room : {len len₁ : ℕ} (h : Hermitian) (l : Vectors) (at : ℕ) → SolverRoom len h l → at + h .size ≤ l .x → len₁ ≡ len → FieldRoom len₁ (l .x) at (h .size)
+angles-room h l at ok before e = omega (arith, apart, ok .vector-room .vectors-in)
 
 module _ (w : List Float) (h : Hermitian) (l : Vectors) (at : ℕ) (from to u : List ℕ) (c : Packing) (e : Source) (ok : SolverRoom (length w) h l) (room : CopyRoom h l at c e)
     (k : Copies u from to c e) where

@@ -70,7 +70,7 @@ pub record BranchRoom (len : ℕ) (h mass : Hermitian) (l : Vectors) (at : ℕ) 
   pub angles-below : at + h .size ≤ h .diagonal
   pub angles-below-off : at + h .size ≤ h .off
 
--- where the packed copy of the matrix at h stands: its entries lie behind that matrix and the angles, and below the vectors
+-- where the packed copy of the matrix at h stands: its entries are after that matrix and the angles, and before the solver's vectors
 pub record CopyRoom (h : Hermitian) (l : Vectors) (at : ℕ) (c : Packing) (e : Source) : Type 0 where
   pub one-size : c .size ≡ h .size
   pub one-graph : h .edges ≡ e .edges
@@ -79,14 +79,14 @@ pub record CopyRoom (h : Hermitian) (l : Vectors) (at : ℕ) (c : Packing) (e : 
   pub off-before : h .off + 2 * h .edges ≤ c .entries
   pub entries-below : c .entries + 2 * c .slots ≤ l .x
 
--- and behind the mass matrix and the coordinates
+-- and after the mass matrix and the coordinates
 pub record CopyBehind (mass : Hermitian) (n : ℕ) (o : Outer) (c : Packing) : Type 0 where
   pub mass-before : mass .diagonal + mass .size ≤ c .entries
   pub mass-off-before : mass .off + 2 * mass .edges ≤ c .entries
   pub x-before : o .x + n ≤ c .entries
   pub y-before : o .y + n ≤ c .entries
 
--- its numbers stand in u, and are those of the edges with these ends
+-- all of the copy that depends on the edges alone stands in u, made from the edges with these ends
 pub record Copies (u from to : List ℕ) (c : Packing) (e : Source) : Type 0 where
   pub ready : Ready u c e
   pub lower : from ≡ pack.fromIn e u
@@ -150,13 +150,13 @@ LeavesAt l m o s w w′ u r =
 abbrev pub Bounds : Layout → List Float → List ℕ → Type 0
 Bounds l w u = boundaryData (flagsAt l u) (regionC w (l .targets) (l .points)) ≡ regionC w (l .targets) (l .points)
 
--- there are m edges, and the numbers of their packed copy
+-- m edges stand in u, and all of their packed copy that depends on them alone (`field_at` requires it)
 pub record Packs (l : Layout) (m : ℕ) (u : List ℕ) : Type 0 where
   pub few : m ≤ 3 * l .triangles
   pub graph : Graph (massAt l m) (fromIn l m u) (toIn l m u)
   pub ready : Ready u (packingAt l m) (sourceAt l m)
 
--- the field, with all before the table of sides as it was
+-- what `packed_field` leaves: the field, and all before the table of sides as it was
 pub record LeavesPacked (l : Layout) (m : ℕ) (o : Options) (s : Search) (w w′ : List Float) (u u′ : List ℕ) (r : Stage) : Type 0 where
   pub leaves : LeavesAt l m o s w w′ u r
   pub all-words : length u′ ≡ length u

@@ -1,7 +1,7 @@
 // The second part of a pass: from the two matrices to the field, by the branch that the options choose. It refuses by rows 23 and 24.
 // specs/Branches.antt says what each branch finds, and specs/Work.antt where it stands. `flag` has a flag for each point, 1 where it lies on the boundary,
-// and `from` and `to` the ends of the edges. The linear solver multiplies by a packed copy of its matrix: its numbers, which depend on the edges alone, are made
-// once, and its entries once for each system.
+// and `from` and `to` the ends of the edges. The linear solver multiplies by a packed copy of its matrix. `pack_edges` makes what depends
+// on the edges alone, once in a pass; the entries are made once for each system.
 use linear_conjugate_gradient::Vectors;
 use linear_hermitian::Hermitian;
 use linear_packing::Packing;
@@ -43,31 +43,37 @@ pub struct Search {
     pub iterations: usize,
 }
 
+// Where the linear solver works: its vectors, the packed copy of its matrix, and what the copy is made from.
+pub struct Solver {
+    pub vectors: Vectors,
+    pub copy: Packing,
+    pub source: Source,
+}
+
 // The angles of the solution of the system of the matrix at h and the right-hand side in the solver's residual.
 fn solve_system(
     w: &mut [f64],
     h: Hermitian,
-    l: Vectors,
+    solver: Solver,
     angles: usize,
     iterations: usize,
     from: &[u32],
     to: &[u32],
     u: &[u32],
-    copy: Packing,
-    source: Source,
 ) -> Stage
-    requires { ⌜ SolverRoom (length (now w)) h l × (angles + h .size ≤ l .x) ⌝ }
+    requires { ⌜ SolverRoom (length (now w)) h (solver .vectors) × (angles + h .size ≤ solver .vectors .x) ⌝ }
     requires { ⌜ Graph h (now from) (now to) ⌝ }
-    requires { ⌜ CopyRoom h l angles copy source × Copies (now u) (now from) (now to) copy source ⌝ }
-    ensures { λ r. ⌜ LeavesLinear (now (w .entry)) (now (w .exit)) h l angles iterations (now (from .entry)) (now (to .entry)) r ⌝ }
+    requires { ⌜ CopyRoom h (solver .vectors) angles (solver .copy) (solver .source) × Copies (now u) (now from) (now to) (solver .copy) (solver .source) ⌝ }
+    ensures { λ r. ⌜ LeavesLinear (now (w .entry)) (now (w .exit)) h (solver .vectors) angles iterations (now (from .entry)) (now (to .entry)) r ⌝ }
 {
     let most = pass_solution::linear_most(h.size, iterations);
-    linear_packing::entries(w, u, h, copy, source);
-    let s = pass_solution::solve(w, h, l, from, to, u, copy, most);
+    let copy = solver.copy;
+    linear_packing::entries(w, u, h, copy, solver.source);
+    let s = pass_solution::solve(w, h, solver.vectors, from, to, u, copy, most);
     let Stage::Done = s else {
         return s;
     };
-    pass_field::angles_from(w, l.x, angles, h.size)
+    pass_field::angles_from(w, solver.vectors.x, angles, h.size)
 }
 
 // The soft terms alone.
@@ -75,23 +81,21 @@ fn soft_field(
     w: &mut [f64],
     h: Hermitian,
     mass: Hermitian,
-    l: Vectors,
+    solver: Solver,
     angles: usize,
     t: Terms,
     o: Outer,
     from: &[u32],
     to: &[u32],
     u: &[u32],
-    copy: Packing,
-    source: Source,
 ) -> Stage
-    requires { ⌜ BranchRoom (length (now w)) h mass l angles t o ⌝ }
+    requires { ⌜ BranchRoom (length (now w)) h mass (solver .vectors) angles t o ⌝ }
     requires { ⌜ Graphs mass h (now from) (now to) ⌝ }
-    requires { ⌜ CopyRoom h l angles copy source × Copies (now u) (now from) (now to) copy source ⌝ }
+    requires { ⌜ CopyRoom h (solver .vectors) angles (solver .copy) (solver .source) × Copies (now u) (now from) (now to) (solver .copy) (solver .source) ⌝ }
     ensures { λ r. ⌜ LeavesSoft (now (w .entry)) (now (w .exit)) h mass angles (now (from .entry)) (now (to .entry)) t o r ⌝ }
 {
-    pass_systems::soft_system(w, h, mass, l, from, to, t);
-    solve_system(w, h, l, angles, o.iterations, from, to, u, copy, source)
+    pass_systems::soft_system(w, h, mass, solver.vectors, from, to, t);
+    solve_system(w, h, solver, angles, o.iterations, from, to, u)
 }
 
 // The boundary held by a penalty.
@@ -99,7 +103,7 @@ fn weak_field(
     w: &mut [f64],
     h: Hermitian,
     mass: Hermitian,
-    l: Vectors,
+    solver: Solver,
     targets: usize,
     angles: usize,
     weight: f64,
@@ -109,16 +113,25 @@ fn weak_field(
     from: &[u32],
     to: &[u32],
     u: &[u32],
-    copy: Packing,
-    source: Source,
 ) -> Stage
-    requires { ⌜ BranchRoom (length (now w)) h mass l angles t o × TargetRoom (length (now w)) h l targets ⌝ }
+    requires { ⌜ BranchRoom (length (now w)) h mass (solver .vectors) angles t o × TargetRoom (length (now w)) h (solver .vectors) targets ⌝ }
     requires { ⌜ Graphs mass h (now from) (now to) × (length (now flag) ≡ h .size) ⌝ }
-    requires { ⌜ CopyRoom h l angles copy source × Copies (now u) (now from) (now to) copy source ⌝ }
+    requires { ⌜ CopyRoom h (solver .vectors) angles (solver .copy) (solver .source) × Copies (now u) (now from) (now to) (solver .copy) (solver .source) ⌝ }
     ensures { λ r. ⌜ LeavesWeak (now (w .entry)) (now (w .exit)) h mass targets angles weight (now (flag .entry)) (now (from .entry)) (now (to .entry)) t o r ⌝ }
 {
-    pass_systems::weak_system(w, h, mass, l, targets, weight, flag, from, to, t);
-    solve_system(w, h, l, angles, o.iterations, from, to, u, copy, source)
+    pass_systems::weak_system(
+        w,
+        h,
+        mass,
+        solver.vectors,
+        targets,
+        weight,
+        flag,
+        from,
+        to,
+        t,
+    );
+    solve_system(w, h, solver, angles, o.iterations, from, to, u)
 }
 
 // The boundary held exactly.
@@ -126,7 +139,7 @@ fn tangent_field(
     w: &mut [f64],
     h: Hermitian,
     mass: Hermitian,
-    l: Vectors,
+    solver: Solver,
     targets: usize,
     angles: usize,
     t: Terms,
@@ -135,17 +148,15 @@ fn tangent_field(
     from: &[u32],
     to: &[u32],
     u: &[u32],
-    copy: Packing,
-    source: Source,
 ) -> Stage
-    requires { ⌜ BranchRoom (length (now w)) h mass l angles t o × TargetRoom (length (now w)) h l targets ⌝ }
+    requires { ⌜ BranchRoom (length (now w)) h mass (solver .vectors) angles t o × TargetRoom (length (now w)) h (solver .vectors) targets ⌝ }
     requires { ⌜ Graphs mass h (now from) (now to) × (length (now flag) ≡ h .size) ⌝ }
     requires { ⌜ boundaryData (now flag) (regionC (now w) targets (h .size)) ≡ regionC (now w) targets (h .size) ⌝ }
-    requires { ⌜ CopyRoom h l angles copy source × Copies (now u) (now from) (now to) copy source ⌝ }
+    requires { ⌜ CopyRoom h (solver .vectors) angles (solver .copy) (solver .source) × Copies (now u) (now from) (now to) (solver .copy) (solver .source) ⌝ }
     ensures { λ r. ⌜ LeavesTangent (now (w .entry)) (now (w .exit)) h mass targets angles (now (flag .entry)) (now (from .entry)) (now (to .entry)) t o r ⌝ }
 {
-    pass_systems::tangent_system(w, h, mass, l, targets, flag, from, to, t);
-    solve_system(w, h, l, angles, o.iterations, from, to, u, copy, source)
+    pass_systems::tangent_system(w, h, mass, solver.vectors, targets, flag, from, to, t);
+    solve_system(w, h, solver, angles, o.iterations, from, to, u)
 }
 
 // The eigenvector of the smallest eigenvalue.
@@ -153,26 +164,35 @@ fn vector_field(
     w: &mut [f64],
     h: Hermitian,
     mass: Hermitian,
-    l: Vectors,
+    solver: Solver,
     angles: usize,
     o: Outer,
     from: &[u32],
     to: &[u32],
     u: &[u32],
-    copy: Packing,
-    source: Source,
 ) -> Stage
-    requires { ⌜ (PencilRoom (length (now w)) mass h l × PlanesBelow (h .size) l o) × (angles + h .size ≤ l .x) ⌝ }
+    requires { ⌜ (PencilRoom (length (now w)) mass h (solver .vectors) × PlanesBelow (h .size) (solver .vectors) o) × (angles + h .size ≤ solver .vectors .x) ⌝ }
     requires { ⌜ Graphs mass h (now from) (now to) ⌝ }
-    requires { ⌜ (CopyRoom h l angles copy source × CopyBehind mass (h .size) o copy) × Copies (now u) (now from) (now to) copy source ⌝ }
+    requires { ⌜ (CopyRoom h (solver .vectors) angles (solver .copy) (solver .source) × CopyBehind mass (h .size) o (solver .copy))
+        × Copies (now u) (now from) (now to) (solver .copy) (solver .source) ⌝ }
     ensures { λ r. ⌜ LeavesVector (now (w .entry)) (now (w .exit)) h mass angles (now (from .entry)) (now (to .entry)) o r ⌝ }
 {
-    linear_packing::entries(w, u, h, copy, source);
-    let s = pass_inverse_iteration::inverse_iteration(w, mass, h, l, from, to, u, copy, o);
+    linear_packing::entries(w, u, h, solver.copy, solver.source);
+    let s = pass_inverse_iteration::inverse_iteration(
+        w,
+        mass,
+        h,
+        solver.vectors,
+        from,
+        to,
+        u,
+        solver.copy,
+        o,
+    );
     let Stage::Done = s else {
         return s;
     };
-    pass_field::angles_from(w, l.x, angles, h.size)
+    pass_field::angles_from(w, solver.vectors.x, angles, h.size)
 }
 
 // Whether no soft term acts.
@@ -193,25 +213,24 @@ fn free_field(
     w: &mut [f64],
     h: Hermitian,
     mass: Hermitian,
-    l: Vectors,
+    solver: Solver,
     angles: usize,
     t: Terms,
     o: Outer,
     from: &[u32],
     to: &[u32],
     u: &[u32],
-    copy: Packing,
-    source: Source,
 ) -> Stage
-    requires { ⌜ BranchRoom (length (now w)) h mass l angles t o ⌝ }
+    requires { ⌜ BranchRoom (length (now w)) h mass (solver .vectors) angles t o ⌝ }
     requires { ⌜ Graphs mass h (now from) (now to) ⌝ }
-    requires { ⌜ (CopyRoom h l angles copy source × CopyBehind mass (h .size) o copy) × Copies (now u) (now from) (now to) copy source ⌝ }
+    requires { ⌜ (CopyRoom h (solver .vectors) angles (solver .copy) (solver .source) × CopyBehind mass (h .size) o (solver .copy))
+        × Copies (now u) (now from) (now to) (solver .copy) (solver .source) ⌝ }
     ensures { λ r. ⌜ LeavesFree (now (w .entry)) (now (w .exit)) h mass angles (now (from .entry)) (now (to .entry)) t o r ⌝ }
 {
     if none_acts(t) {
-        return vector_field(w, h, mass, l, angles, o, from, to, u, copy, source);
+        return vector_field(w, h, mass, solver, angles, o, from, to, u);
     }
-    soft_field(w, h, mass, l, angles, t, o, from, to, u, copy, source)
+    soft_field(w, h, mass, solver, angles, t, o, from, to, u)
 }
 
 // The branch of a boundary mode.
@@ -220,7 +239,7 @@ fn field_by(
     w: &mut [f64],
     h: Hermitian,
     mass: Hermitian,
-    l: Vectors,
+    solver: Solver,
     targets: usize,
     angles: usize,
     t: Terms,
@@ -229,34 +248,18 @@ fn field_by(
     from: &[u32],
     to: &[u32],
     u: &[u32],
-    copy: Packing,
-    source: Source,
 ) -> Stage
-    requires { ⌜ BranchRoom (length (now w)) h mass l angles t o × TargetRoom (length (now w)) h l targets ⌝ }
+    requires { ⌜ BranchRoom (length (now w)) h mass (solver .vectors) angles t o × TargetRoom (length (now w)) h (solver .vectors) targets ⌝ }
     requires { ⌜ Graphs mass h (now from) (now to) × (length (now flag) ≡ h .size) ⌝ }
     requires { ⌜ (mode ≡ Tangent → boundaryData (now flag) (regionC (now w) targets (h .size)) ≡ regionC (now w) targets (h .size)) ⌝ }
-    requires { ⌜ (CopyRoom h l angles copy source × CopyBehind mass (h .size) o copy) × Copies (now u) (now from) (now to) copy source ⌝ }
+    requires { ⌜ (CopyRoom h (solver .vectors) angles (solver .copy) (solver .source) × CopyBehind mass (h .size) o (solver .copy))
+        × Copies (now u) (now from) (now to) (solver .copy) (solver .source) ⌝ }
     ensures { λ r. ⌜ LeavesBy mode (now (w .entry)) (now (w .exit)) h mass targets angles (now (flag .entry)) (now (from .entry)) (now (to .entry)) t o r ⌝ }
 {
     match mode {
-        BoundaryMode::None => free_field(w, h, mass, l, angles, t, o, from, to, u, copy, source),
+        BoundaryMode::None => free_field(w, h, mass, solver, angles, t, o, from, to, u),
         BoundaryMode::Tangent => {
-            tangent_field(
-                w,
-                h,
-                mass,
-                l,
-                targets,
-                angles,
-                t,
-                o,
-                flag,
-                from,
-                to,
-                u,
-                copy,
-                source,
-            )
+            tangent_field(w, h, mass, solver, targets, angles, t, o, flag, from, to, u)
         }
         BoundaryMode::Weak(weight) => {
             if weight > 0.0 {
@@ -264,7 +267,7 @@ fn field_by(
                     w,
                     h,
                     mass,
-                    l,
+                    solver,
                     targets,
                     angles,
                     weight,
@@ -274,11 +277,9 @@ fn field_by(
                     from,
                     to,
                     u,
-                    copy,
-                    source,
                 );
             }
-            free_field(w, h, mass, l, angles, t, o, from, to, u, copy, source)
+            free_field(w, h, mass, solver, angles, t, o, from, to, u)
         }
     }
 }
@@ -306,7 +307,7 @@ fn terms_of(l: Layout, o: Options, s: Search) -> Terms
     }
 }
 
-// The field of what stands at l, with the flags and the targets there, and with the numbers of the packed copy.
+// The field of what stands at l, with the flags and the targets there. `pack_edges` has run.
 fn field_at(w: &mut [f64], u: &[u32], l: Layout, edges: usize, o: Options, s: Search) -> Stage
     requires { ⌜ Ordered l (length (now w)) (length (now u)) ⌝ }
     requires { ⌜ Packs l edges (now u) × (o .boundary ≡ Tangent → Bounds l (now w) (now u)) ⌝ }
@@ -334,12 +335,17 @@ fn field_at(w: &mut [f64], u: &[u32], l: Layout, edges: usize, o: Options, s: Se
     let mode = o.boundary;
     let copy = pass_layout::packing_at(l, edges);
     let source = pass_layout::source_at(l, edges);
+    let solver = Solver {
+        vectors,
+        copy,
+        source,
+    };
     field_by(
         mode,
         w,
         h,
         mass,
-        vectors,
+        solver,
         l.targets,
         l.angles,
         t,
@@ -348,23 +354,23 @@ fn field_at(w: &mut [f64], u: &[u32], l: Layout, edges: usize, o: Options, s: Se
         from,
         to,
         u,
-        copy,
-        source,
     )
 }
 
-// Makes the numbers of the packed copy, over the table of sides, which is read no more.
+// What depends on the edges alone of the packed copy. It overwrites the table of sides, which is no longer read.
 fn pack_edges(u: &mut [u32], l: Layout, edges: usize)
     requires { ⌜ Countable l edges × PackRoom (length (now u)) (packingAt l edges) (sourceAt l edges) ⌝ }
     requires { ⌜ Ends (l .points) (fromIn l edges (now u)) (toIn l edges (now u)) ⌝ }
     ensures { λ _. ⌜ now (u .exit) ≡ packedIn (packingAt l edges) (sourceAt l edges) (now (u .entry)) ⌝ }
 {
-    let copy = pass_layout::packing_at(l, edges);
-    let source = pass_layout::source_at(l, edges);
-    linear_packing::pack(u, copy, source);
+    linear_packing::pack(
+        u,
+        pass_layout::packing_at(l, edges),
+        pass_layout::source_at(l, edges),
+    );
 }
 
-// The same without them.
+// `pack_edges`, and then the field.
 fn packed_field(
     w: &mut [f64],
     u: &mut [u32],

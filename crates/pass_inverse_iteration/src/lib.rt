@@ -1,5 +1,5 @@
 // Inverse iteration for the smallest eigenpair of the shifted pencil, in regions of one lent slice: the Rust's steps. The iterate stands at the solver's x.
-// The packed copy of the energy matrix, for the solver, stands at `copy`.
+// `copy` is where the packed copy of the energy matrix stands, which the solver multiplies by.
 use linear_conjugate_gradient::Vectors;
 use linear_hermitian::Hermitian;
 use linear_packing::Packing;

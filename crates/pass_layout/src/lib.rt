@@ -35,7 +35,7 @@ pub struct Layout {
     pub mass_off: usize,
     pub energy: usize,
     pub energy_off: usize,
-    // The entries of the packed copy of a matrix, which the linear solver multiplies by.
+    // The entries of the packed copy of the matrix that the linear solver multiplies by.
     pub packed: usize,
     // The targets on the boundary, and the vectors of the linear solver.
     pub targets: usize,
@@ -142,7 +142,7 @@ pub fn vectors_at(l: Layout) -> Vectors
     }
 }
 
-// Where the packed copy of a matrix stands, with so many edges.
+// Where the packed copy of a matrix with so many edges stands.
 pub fn packing_at(l: Layout, edges: usize) -> Packing
     requires { ⌜ Countable l edges ⌝ }
     ensures { λ r. ⌜ r ≡ packingAt l edges ⌝ }
@@ -157,7 +157,7 @@ pub fn packing_at(l: Layout, edges: usize) -> Packing
     }
 }
 
-// What it is made of.
+// What the packed copy is made from.
 pub fn source_at(l: Layout, edges: usize) -> Source
     requires { ⌜ Countable l edges ⌝ }
     ensures { λ r. ⌜ r ≡ sourceAt l edges ⌝ }

@@ -57,7 +57,8 @@ fn gave_up(r: Reason) -> Stage
     }
 }
 
-// Solves the system of the matrix and the right-hand side in the residual's region, by at most `most` iterations. The matrix's packed copy stands at copy.
+// Solves the system of the matrix and the right-hand side in the residual's region, by at most `most` iterations. `copy` is where the packed
+// copy of the matrix stands.
 pub fn solve(
     work: &mut [f64],
     h: Hermitian,

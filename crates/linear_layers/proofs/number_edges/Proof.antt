@@ -11,19 +11,35 @@ source-for-requires : tie.Need-source-for-requires
 source-for-requires c κs = counted _ _ _ (c .before .before .before .before .pre .0)
 
 put-ends-requires : tie.Need-put-ends-requires
-put-ends-requires c κs = from-fits (c .before .before .before .before .before .before .args .numbers .now) _ _ _ (c .before .before .before .before .before .before .pre .0) (c .before .before .before .before .before .before .pre .1) (c .before .before .packing-for .ensures) (c .before .source-for .ensures)
+put-ends-requires c κs =
+    let start = c .before .before .before .before .before .before in
+    from-fits (start .args .numbers .now) _ _ _ (start .pre .0) (start .pre .1) (c .before .before .packing-for .ensures) (c .before .source-for .ensures)
 
 put-ends-requires-2 : tie.Need-put-ends-requires-2
-put-ends-requires-2 c κs = to-fits _ _ _ _ (c .before .before .before .before .before .before .before .before .before .before .pre .0) (c .before .before .before .before .before .before .before .before .before .before .pre .1) (c .before .before .before .before .before .before .packing-for .ensures) (c .before .before .before .before .before .source-for .ensures) (c .before .before .before .put-ends .ensures)
+put-ends-requires-2 c κs =
+    let start = c .before .before .before .before .before .before .before .before .before .before in
+    to-fits _ _ _ _ (start .pre .0) (start .pre .1) (c .before .before .before .before .before .before .packing-for .ensures) (c .before .before .before .before .before .source-for .ensures)
+    (c .before .before .before .put-ends .ensures)
 
 pack-requires : tie.Need-pack-requires
-pack-requires c κs = pack-needs _ _ _ _ (c .before .before .before .before .before .before .before .before .before .before .before .before .before .before .pre .0) (c .before .before .before .before .before .before .before .before .before .before .before .before .before .before .pre .1) (c .before .before .before .before .before .before .before .before .before .before .packing-for .ensures) (c .before .before .before .before .before .before .before .before .before .source-for .ensures) (c .before .before .before .before .before .before .before .put-ends .ensures) (c .before .before .before .put-ends2 .ensures)
+pack-requires c κs =
+    let start = c .before .before .before .before .before .before .before .before .before .before .before .before .before .before in
+    let back10 = c .before .before .before .before .before .before .before .before .before .before in
+    let back9 = c .before .before .before .before .before .before .before .before .before in
+    let back7 = c .before .before .before .before .before .before .before in
+    pack-needs _ _ _ _ (start .pre .0) (start .pre .1) (back10 .packing-for .ensures) (back9 .source-for .ensures) (back7 .put-ends .ensures) (c .before .before .before .put-ends2 .ensures)
 
 same-length : tie.Need-same-length
 same-length c = search needs
 
 returns : tie.Need-returns
-returns c = edges-numbered _ _ _ _ (c .before .before .before .before .before .before .before .before .before .before .before .before .before .before .before .before .before .pre .0) (c .before .before .before .before .before .before .before .before .before .before .before .before .before .before .before .before .before .pre .1) (c .before .before .before .before .before .before .before .before .before .before .before .before .before .packing-for .ensures) (c .before .before .before .before .before .before .before .before .before .before .before .before .source-for .ensures) (c .before .before .before .before .before .before .before .before .before .before .put-ends .ensures) (c .before .before .before .before .before .before .put-ends2 .ensures) (c .before .before .pack .ensures)
+returns c =
+    let start = c .before .before .before .before .before .before .before .before .before .before .before .before .before .before .before .before .before in
+    let back13 = c .before .before .before .before .before .before .before .before .before .before .before .before .before in
+    let back12 = c .before .before .before .before .before .before .before .before .before .before .before .before in
+    let back10 = c .before .before .before .before .before .before .before .before .before .before in
+    edges-numbered _ _ _ _ (start .pre .0) (start .pre .1) (back13 .packing-for .ensures) (back12 .source-for .ensures) (back10 .put-ends .ensures)
+    (c .before .before .before .before .before .before .put-ends2 .ensures) (c .before .before .pack .ensures)
 
 pub number-edges-spec : {M : Type 1} → statement M
 number-edges-spec =

@@ -6,25 +6,45 @@ use Rattle.linear_layers.proofs.run.Statement.{statement}
 use Rattle.linear_layers.proofs.run.Tie as tie
 
 number-edges-requires : tie.Need-number-edges-requires
-number-edges-requires c κs = (c .before .before .before .before .before .pre .1, graph _ _ _ _ (c .before .before .before .before .before .pre .0))
+number-edges-requires c κs =
+    let start = c .before .before .before .before .before in
+    (start .pre .1, graph _ _ _ _ (start .pre .0))
 
 matrix-for-requires : tie.Need-matrix-for-requires
 matrix-for-requires c κs = search needs
 
 vectors-for-requires : tie.Need-vectors-for-requires
-vectors-for-requires c κs = omega (arith, fits _ _ _ _ (c .before .before .before .before .before .before .before .before .before .pre .0))
+vectors-for-requires c κs =
+    let start = c .before .before .before .before .before .before .before .before .before in
+    omega (arith, fits _ _ _ _ (start .pre .0))
 
 packing-for-requires : tie.Need-packing-for-requires
-packing-for-requires c κs = counted _ _ _ (c .before .before .before .before .before .before .before .before .before .before .pre .1)
+packing-for-requires c κs =
+    let start = c .before .before .before .before .before .before .before .before .before .before in
+    counted _ _ _ (start .pre .1)
 
 source-for-requires : tie.Need-source-for-requires
-source-for-requires c κs = counted _ _ _ (c .before .before .before .before .before .before .before .before .before .before .before .pre .1)
+source-for-requires c κs =
+    let start = c .before .before .before .before .before .before .before .before .before .before .before in
+    counted _ _ _ (start .pre .1)
 
 entries-requires : tie.Need-entries-requires
-entries-requires c κs = entries-needs (c .before .before .before .before .before .before .before .before .before .before .before .before .before .before .args .work .now) _ _ _ _ (c .before .before .before .before .before .before .before .before .before .before .before .before .before .before .args .tolerance) (c .before .before .before .before .before .before .before .before .before .before .before .before .before .before .args .most) (c .before .before .before .before .before .before .before .before .before .before .before .before .before .before .pre .0) (c .before .before .before .before .before .before .before .before .before .before .before .before .before .before .pre .1) (c .before .before .before .before .before .before .before .before .number-edges .ensures) (c .before .before .before .before .before .matrix-for .ensures) (c .before .before .before .packing-for .ensures) (c .before .before .source-for .ensures)
+entries-requires c κs =
+    let start = c .before .before .before .before .before .before .before .before .before .before .before .before .before .before in
+    let back8 = c .before .before .before .before .before .before .before .before in
+    entries-needs (start .args .work .now) _ _ _ _ (start .args .tolerance) (start .args .most) (start .pre .0) (start .pre .1) (back8 .number-edges .ensures)
+    (c .before .before .before .before .before .matrix-for .ensures) (c .before .before .before .packing-for .ensures) (c .before .before .source-for .ensures)
 
 conjugate-gradient-requires : tie.Need-conjugate-gradient-requires
-conjugate-gradient-requires c κs = run-gradient _ _ _ _ _ (c .before .before .before .before .before .before .before .before .before .before .before .before .before .before .before .before .before .before .before .args .tolerance) (c .before .before .before .before .before .before .before .before .before .before .before .before .before .before .before .before .before .before .before .args .most) (c .before .before .before .before .before .before .before .before .before .before .before .before .before .before .before .before .before .before .before .pre .0) (c .before .before .before .before .before .before .before .before .before .before .before .before .before .before .before .before .before .before .before .pre .1) (c .before .before .before .before .before .before .before .before .before .before .before .before .before .number-edges .ensures) (c .before .before .before .before .before .before .before .before .before .before .matrix-for .ensures) (c .before .before .before .before .before .before .before .before .before .vectors-for .ensures) (c .before .before .before .before .before .before .before .before .packing-for .ensures) (c .before .before .before .before .before .before .before .source-for .ensures) (c .before .before .before .before .entries .ensures)
+conjugate-gradient-requires c κs =
+    let start = c .before .before .before .before .before .before .before .before .before .before .before .before .before .before .before .before .before .before .before in
+    let back13 = c .before .before .before .before .before .before .before .before .before .before .before .before .before in
+    let back10 = c .before .before .before .before .before .before .before .before .before .before in
+    let back9 = c .before .before .before .before .before .before .before .before .before in
+    let back8 = c .before .before .before .before .before .before .before .before in
+    let back7 = c .before .before .before .before .before .before .before in
+    run-gradient _ _ _ _ _ (start .args .tolerance) (start .args .most) (start .pre .0) (start .pre .1) (back13 .number-edges .ensures) (back10 .matrix-for .ensures) (back9 .vectors-for .ensures)
+    (back8 .packing-for .ensures) (back7 .source-for .ensures) (c .before .before .before .before .entries .ensures)
 
 same-length : tie.Need-same-length
 same-length c = search needs
@@ -33,7 +53,16 @@ same-length-2 : tie.Need-same-length-2
 same-length-2 c = search needs
 
 returns : tie.Need-returns
-returns c = run-made _ _ _ _ _ _ _ (c .before .before .before .before .before .before .before .before .before .before .before .before .before .before .before .before .before .before .before .before .before .before .pre .0) (c .before .before .before .before .before .before .before .before .before .before .before .before .before .before .before .before .before .before .before .before .before .before .pre .1) (c .before .before .before .before .before .before .before .before .before .before .before .before .before .before .before .before .number-edges .ensures) (c .before .before .before .before .before .before .before .before .before .before .before .before .before .matrix-for .ensures) (c .before .before .before .before .before .before .before .before .before .before .before .before .vectors-for .ensures) (c .before .before .before .before .before .before .before .before .before .before .before .packing-for .ensures) (c .before .before .before .before .before .before .before .before .before .before .source-for .ensures) (c .before .before .before .before .before .before .before .entries .ensures) (c .before .before .conjugate-gradient .ensures)
+returns c =
+    let start = c .before .before .before .before .before .before .before .before .before .before .before .before .before .before .before .before .before .before .before .before .before .before in
+    let back16 = c .before .before .before .before .before .before .before .before .before .before .before .before .before .before .before .before in
+    let back13 = c .before .before .before .before .before .before .before .before .before .before .before .before .before in
+    let back12 = c .before .before .before .before .before .before .before .before .before .before .before .before in
+    let back11 = c .before .before .before .before .before .before .before .before .before .before .before in
+    let back10 = c .before .before .before .before .before .before .before .before .before .before in
+    let back7 = c .before .before .before .before .before .before .before in
+    run-made _ _ _ _ _ _ _ (start .pre .0) (start .pre .1) (back16 .number-edges .ensures) (back13 .matrix-for .ensures) (back12 .vectors-for .ensures) (back11 .packing-for .ensures)
+    (back10 .source-for .ensures) (back7 .entries .ensures) (c .before .before .conjugate-gradient .ensures)
 
 pub run-spec : {M : Type 1} → statement M
 run-spec =

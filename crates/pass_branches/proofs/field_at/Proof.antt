@@ -63,19 +63,32 @@ vectors-at-requires : tie.Need-vectors-at-requires
 vectors-at-requires c κs = search needs
 
 packing-at-requires : tie.Need-packing-at-requires
-packing-at-requires c κs = countable _ _ (c .before .before .before .before .before .before .before .before .before .before .pre .0) (c .before .before .before .before .before .before .before .before .before .before .pre .1 .0 .few)
+packing-at-requires c κs =
+    let start = c .before .before .before .before .before .before .before .before .before .before in
+    countable _ _ (start .pre .0) (start .pre .1 .0 .few)
 
 source-at-requires : tie.Need-source-at-requires
-source-at-requires c κs = countable _ _ (c .before .before .before .before .before .before .before .before .before .before .before .pre .0) (c .before .before .before .before .before .before .before .before .before .before .before .pre .1 .0 .few)
+source-at-requires c κs =
+    let start = c .before .before .before .before .before .before .before .before .before .before .before in
+    countable _ _ (start .pre .0) (start .pre .1 .0 .few)
 
 field-by-requires : tie.Need-field-by-requires
-field-by-requires c κs = by-requires (c .before .before .before .before .before .before .before .before .before .before .before .before .before .args .l) _ (c .before .before .before .before .before .before .before .before .before .before .before .before .before .args .o) (c .before .before .before .before .before .before .before .before .before .before .before .before .before .args .s) _ _ (c .before .before .before .before .before .before .before .before .before .before .before .before .before .pre .0) (c .before .before .before .before .before .before .before .before .before .before .before .before .before .pre .1 .0) (c .before .before .before .before .before .energy-at .ensures) (c .before .before .before .before .mass-at .ensures) (c .before .before .before .before .before .before .terms-of .ensures) (c .before .before .before .vectors-at .ensures) (c .before .before .packing-at .ensures) (c .before .source-at .ensures) (c .before .before .before .before .before .before .before .before .before .before .before .before .before .pre .1 .1)
+field-by-requires c κs =
+    let start = c .before .before .before .before .before .before .before .before .before .before .before .before .before in
+    by-requires (start .args .l) _ (start .args .o) (start .args .s) _ _ (start .pre .0) (start .pre .1 .0) (c .before .before .before .before .before .energy-at .ensures)
+    (c .before .before .before .before .mass-at .ensures) (c .before .before .before .before .before .before .terms-of .ensures) (c .before .before .before .vectors-at .ensures)
+    (c .before .before .packing-at .ensures) (c .before .source-at .ensures) (start .pre .1 .1)
 
 same-length : tie.Need-same-length
 same-length c = search needs
 
 returns : tie.Need-returns
-returns c = at-leaves (c .before .before .before .before .before .before .before .before .before .before .before .before .before .before .before .before .args .l) _ (c .before .before .before .before .before .before .before .before .before .before .before .before .before .before .before .before .args .o) (c .before .before .before .before .before .before .before .before .before .before .before .before .before .before .before .before .args .s) _ _ (c .before .before .before .before .before .before .before .before .before .before .before .before .before .before .before .before .pre .0) (c .before .before .before .before .before .before .before .before .before .before .before .before .before .before .before .before .pre .1 .0) (c .before .before .before .before .before .before .before .before .energy-at .ensures) (c .before .before .before .before .before .before .before .mass-at .ensures) (c .before .before .before .before .before .before .before .before .before .terms-of .ensures) (c .before .before .field-by .ensures)
+returns c =
+    let start = c .before .before .before .before .before .before .before .before .before .before .before .before .before .before .before .before in
+    let back9 = c .before .before .before .before .before .before .before .before .before in
+    let back8 = c .before .before .before .before .before .before .before .before in
+    let back7 = c .before .before .before .before .before .before .before in
+    at-leaves (start .args .l) _ (start .args .o) (start .args .s) _ _ (start .pre .0) (start .pre .1 .0) (back8 .energy-at .ensures) (back7 .mass-at .ensures) (back9 .terms-of .ensures) (c .before .before .field-by .ensures)
 
 pub field-at-spec : {M : Type 1} → statement M
 field-at-spec =
@@ -100,6 +113,8 @@ field-at-spec =
     energy-at-requires
     mass-at-requires
     vectors-at-requires
-    packing-at-requires source-at-requires field-by-requires
+    packing-at-requires
+    source-at-requires
+    field-by-requires
     same-length
     returns)

@@ -9,7 +9,9 @@ acts-on-requires : tie.Need-acts-on-requires
 acts-on-requires c κs = search needs
 
 held-field-requires : tie.Need-held-field-requires
-held-field-requires c κs = (c .before .before .before .before .before .before .pre .0, (c .before .before .before .before .before .before .pre .1, sym (c .before .before .before .acts-on .ensures) ∙ c .before .before .if1 .taken))
+held-field-requires c κs =
+    let start = c .before .before .before .before .before .before in
+    (start .pre .0, (start .pre .1, sym (c .before .before .before .acts-on .ensures) ∙ c .before .before .if1 .taken))
 
 same-length : tie.Need-same-length
 same-length c = search needs
@@ -21,7 +23,9 @@ returns : tie.Need-returns
 returns c = search needs
 
 packed-field-requires : tie.Need-packed-field-requires
-packed-field-requires c κs = (c .before .before .before .before .before .before .pre .0, (c .before .before .before .before .before .before .pre .1, λ t. absurd (idle-bounds (c .before .before .before .before .before .before .args .o) (c .before .before .before .acts-on .ensures) (c .before .before .if1 .left) t)))
+packed-field-requires c κs =
+    let start = c .before .before .before .before .before .before in
+    (start .pre .0, (start .pre .1, λ t. absurd (idle-bounds (start .args .o) (c .before .before .before .acts-on .ensures) (c .before .before .if1 .left) t)))
 
 same-length-3 : tie.Need-same-length-3
 same-length-3 c = search needs
@@ -30,7 +34,11 @@ same-length-4 : tie.Need-same-length-4
 same-length-4 c = search needs
 
 returns-2 : tie.Need-returns-2
-returns-2 c = idle-finds (c .before .before .before .before .before .before .before .before .before .before .before .args .l) _ (c .before .before .before .before .before .before .before .before .before .before .before .args .o) (c .before .before .before .before .before .before .before .before .before .before .before .args .s) _ _ (c .before .before .before .before .before .before .before .before .acts-on .ensures) (c .before .before .before .before .before .before .before .if1 .left) (c .before .before .before .before .packed-field .ensures)
+returns-2 c =
+    let start = c .before .before .before .before .before .before .before .before .before .before .before in
+    let back8 = c .before .before .before .before .before .before .before .before in
+    let back7 = c .before .before .before .before .before .before .before in
+    idle-finds (start .args .l) _ (start .args .o) (start .args .s) _ _ (back8 .acts-on .ensures) (back7 .if1 .left) (c .before .before .before .before .packed-field .ensures)
 
 pub find-field-spec : {M : Type 1} → statement M
 find-field-spec =

@@ -8,22 +8,30 @@ none-acts-requires : tie.Need-none-acts-requires
 none-acts-requires c κs = search needs
 
 vector-field-requires : tie.Need-vector-field-requires
-vector-field-requires c κs = (vector-room _ _ _ _ (c .before .before .before .before .before .before .before .args .t) _ (c .before .before .before .before .before .before .before .pre .0), c .before .before .before .before .before .before .before .pre .1)
+vector-field-requires c κs =
+    let start = c .before .before .before .before .before .before .before in
+    (vector-room _ _ _ _ (start .args .t) _ (start .pre .0), start .pre .1)
 
 same-length : tie.Need-same-length
 same-length c = search needs
 
 returns : tie.Need-returns
-returns c = free-vector _ _ _ _ _ _ _ (c .before .before .before .before .before .before .before .before .before .before .args .t) _ (c .before .before .before .before .before .none-acts .ensures) (c .before .before .before .before .if1 .taken) (c .before .before .vector-field .ensures)
+returns c =
+    let start = c .before .before .before .before .before .before .before .before .before .before in
+    free-vector _ _ _ _ _ _ _ (start .args .t) _ (c .before .before .before .before .before .none-acts .ensures) (c .before .before .before .before .if1 .taken) (c .before .before .vector-field .ensures)
 
 soft-field-requires : tie.Need-soft-field-requires
-soft-field-requires c κs = (c .before .before .before .before .before .before .before .pre .0, (c .before .before .before .before .before .before .before .pre .1 .0, (c .before .before .before .before .before .before .before .pre .1 .1 .0 .0, c .before .before .before .before .before .before .before .pre .1 .1 .1)))
+soft-field-requires c κs =
+    let start = c .before .before .before .before .before .before .before in
+    (start .pre .0, (start .pre .1 .0, (start .pre .1 .1 .0 .0, start .pre .1 .1 .1)))
 
 same-length-2 : tie.Need-same-length-2
 same-length-2 c = search needs
 
 returns-2 : tie.Need-returns-2
-returns-2 c = free-soft _ _ _ _ _ _ _ (c .before .before .before .before .before .before .before .before .before .before .args .t) _ (c .before .before .before .before .before .none-acts .ensures) (c .before .before .before .before .if1 .left) (c .before .before .soft-field .ensures)
+returns-2 c =
+    let start = c .before .before .before .before .before .before .before .before .before .before in
+    free-soft _ _ _ _ _ _ _ (start .args .t) _ (c .before .before .before .before .before .none-acts .ensures) (c .before .before .before .before .if1 .left) (c .before .before .soft-field .ensures)
 
 pub free-field-spec : {M : Type 1} → statement M
 free-field-spec =

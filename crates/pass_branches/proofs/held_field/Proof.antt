@@ -5,7 +5,9 @@ use Rattle.pass_branches.proofs.held_field.Statement.{statement}
 use Rattle.pass_branches.proofs.held_field.Tie as tie
 
 boundary-targets-requires : tie.Need-boundary-targets-requires
-boundary-targets-requires c κs = (boundary-room (c .before .before .before .before .args .l) _ (c .before .before .before .before .pre .0) (c .before .before .before .before .pre .1 .0 .few), (c .before .before .before .before .pre .1 .0 .sided, c .before .before .before .before .pre .1 .0 .numbers))
+boundary-targets-requires c κs =
+    let start = c .before .before .before .before in
+    (boundary-room (start .args .l) _ (start .pre .0) (start .pre .1 .0 .few), (start .pre .1 .0 .sided, start .pre .1 .0 .numbers))
 
 refused-requires : tie.Need-refused-requires
 refused-requires c κs = search needs
@@ -17,10 +19,22 @@ same-length-2 : tie.Need-same-length-2
 same-length-2 c = search needs
 
 returns : tie.Need-returns
-returns c = held-refused (c .before .before .before .before .before .before .before .before .before .before .before .args .l) _ _ _ (c .before .before .before .before .before .before .before .before .before .before .before .pre .0) (c .before .before .before .before .before .before .before .before .before .before .before .pre .1 .0) (c .before .before .before .before .before .before .boundary-targets .ensures) (c .before .before .before .before .before .before .before .before .before .before .before .args .o) (c .before .before .before .before .before .before .before .before .before .before .before .args .s) (c .before .before .before .before .before .before .before .before .before .before .before .pre .1 .1) (c .before .if1 .taken) (c .refused .ensures)
+returns c =
+    let start = c .before .before .before .before .before .before .before .before .before .before .before in
+    held-refused (start .args .l) _ _ _ (start .pre .0) (start .pre .1 .0) (c .before .before .before .before .before .before .boundary-targets .ensures) (start .args .o) (start .args .s)
+    (start .pre .1 .1) (c .before .if1 .taken) (c .refused .ensures)
 
 packed-field-requires : tie.Need-packed-field-requires
-packed-field-requires c κs = (still-ordered (c .before .before .before .before .before .before .before .before .before .before .before .before .args .l) _ _ _ (c .before .before .before .before .before .before .before .before .before .before .before .before .pre .0) (c .before .before .before .before .before .before .before .before .before .before .before .before .pre .1 .0) (c .before .before .before .before .before .before .before .boundary-targets .ensures), (still-edged (c .before .before .before .before .before .before .before .before .before .before .before .before .args .l) _ _ _ (c .before .before .before .before .before .before .before .before .before .before .before .before .pre .0) (c .before .before .before .before .before .before .before .before .before .before .before .before .pre .1 .0) (c .before .before .before .before .before .before .before .boundary-targets .ensures), λ t. bounds (c .before .before .before .before .before .before .before .before .before .before .before .before .args .l) _ _ _ (c .before .before .before .before .before .before .before .before .before .before .before .before .pre .0) (c .before .before .before .before .before .before .before .before .before .before .before .before .pre .1 .0) (c .before .before .before .before .before .before .before .boundary-targets .ensures)))
+packed-field-requires c κs =
+    let start = c .before .before .before .before .before .before .before .before .before .before .before .before in
+    let back7 = c .before .before .before .before .before .before .before in (
+      still-ordered (start .args .l) _ _ _ (start .pre .0) (start .pre .1 .0) (back7 .boundary-targets .ensures),
+      (
+        still-edged (start .args .l) _ _ _ (start .pre .0) (start .pre .1 .0) (back7 .boundary-targets .ensures),
+        λ t. bounds (start .args .l) _ _ _ (start .pre .0) (start .pre .1 .0)
+            (back7 .boundary-targets .ensures),
+      ),
+    )
 
 same-length-3 : tie.Need-same-length-3
 same-length-3 c = search needs
@@ -29,7 +43,12 @@ same-length-4 : tie.Need-same-length-4
 same-length-4 c = search needs
 
 returns-2 : tie.Need-returns-2
-returns-2 c = held-finds (c .before .before .before .before .before .before .before .before .before .before .before .before .before .before .before .before .before .args .l) _ _ _ (c .before .before .before .before .before .before .before .before .before .before .before .before .before .before .before .before .before .pre .0) (c .before .before .before .before .before .before .before .before .before .before .before .before .before .before .before .before .before .pre .1 .0) (c .before .before .before .before .before .before .before .before .before .before .before .before .boundary-targets .ensures) (c .before .before .before .before .before .before .before .before .before .before .before .before .before .before .before .before .before .args .o) (c .before .before .before .before .before .before .before .before .before .before .before .before .before .before .before .before .before .args .s) (c .before .before .before .before .before .before .before .before .before .before .before .before .before .before .before .before .before .pre .1 .1) (c .before .before .before .before .before .before .before .if1 .left) (c .before .before .before .before .packed-field .ensures)
+returns-2 c =
+    let start = c .before .before .before .before .before .before .before .before .before .before .before .before .before .before .before .before .before in
+    let back12 = c .before .before .before .before .before .before .before .before .before .before .before .before in
+    let back7 = c .before .before .before .before .before .before .before in
+    held-finds (start .args .l) _ _ _ (start .pre .0) (start .pre .1 .0) (back12 .boundary-targets .ensures) (start .args .o) (start .args .s) (start .pre .1 .1) (back7 .if1 .left)
+    (c .before .before .before .before .packed-field .ensures)
 
 pub held-field-spec : {M : Type 1} → statement M
 held-field-spec =

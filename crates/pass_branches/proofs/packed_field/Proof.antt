@@ -8,7 +8,16 @@ pack-edges-requires : tie.Need-pack-edges-requires
 pack-edges-requires c κs = pack-requires (c .before .before .before .args .l) _ _ (c .before .before .before .pre .0) (c .before .before .before .pre .1 .0)
 
 field-at-requires : tie.Need-field-at-requires
-field-at-requires c κs = (packed-ordered (c .before .before .before .before .before .before .before .before .args .l) _ _ (c .before .before .before .before .before .before .before .before .pre .0) (c .before .before .before .before .before .before .before .before .pre .1 .0) (c .before .before .before .before .pack-edges .ensures), (packed-edges (c .before .before .before .before .before .before .before .before .args .l) _ _ (c .before .before .before .before .before .before .before .before .pre .0) (c .before .before .before .before .before .before .before .before .pre .1 .0) (c .before .before .before .before .pack-edges .ensures), packed-bounds (c .before .before .before .before .before .before .before .before .args .l) _ _ (c .before .before .before .before .before .before .before .before .pre .0) (c .before .before .before .before .before .before .before .before .pre .1 .0) (c .before .before .before .before .pack-edges .ensures) _ (c .before .before .before .before .before .before .before .before .args .o) (c .before .before .before .before .before .before .before .before .args .s) (c .before .before .before .before .before .before .before .before .pre .1 .1)))
+field-at-requires c κs =
+    let start = c .before .before .before .before .before .before .before .before in
+    let back4 = c .before .before .before .before in (
+      packed-ordered (start .args .l) _ _ (start .pre .0) (start .pre .1 .0) (back4 .pack-edges .ensures),
+      (
+        packed-edges (start .args .l) _ _ (start .pre .0) (start .pre .1 .0) (back4 .pack-edges .ensures),
+        packed-bounds (start .args .l) _ _ (start .pre .0) (start .pre .1 .0) (back4 .pack-edges .ensures) _
+            (start .args .o) (start .args .s) (start .pre .1 .1),
+      ),
+    )
 
 same-length : tie.Need-same-length
 same-length c = search needs
@@ -17,7 +26,10 @@ same-length-2 : tie.Need-same-length-2
 same-length-2 c = search needs
 
 returns : tie.Need-returns
-returns c = leaves-packed (c .before .before .before .before .before .before .before .before .before .before .before .args .l) _ _ (c .before .before .before .before .before .before .before .before .before .before .before .pre .0) (c .before .before .before .before .before .before .before .before .before .before .before .pre .1 .0) (c .before .before .before .before .before .before .before .pack-edges .ensures) _ (c .before .before .before .before .before .before .before .before .before .before .before .args .o) (c .before .before .before .before .before .before .before .before .before .before .before .args .s) (c .before .before .field-at .ensures)
+returns c =
+    let start = c .before .before .before .before .before .before .before .before .before .before .before in
+    let back7 = c .before .before .before .before .before .before .before in
+    leaves-packed (start .args .l) _ _ (start .pre .0) (start .pre .1 .0) (back7 .pack-edges .ensures) _ (start .args .o) (start .args .s) (c .before .before .field-at .ensures)
 
 pub packed-field-spec : {M : Type 1} → statement M
 packed-field-spec =

@@ -1,19 +1,28 @@
 -- `pass_branches::vector_field` meets its contract: each return is one case of the end; the laws are in proofs/Ends.
-use native.Mathlib.Omega.{arith}
-use Rattle.linear_cells.proofs.Loops.{apart}
-use Rattle.pass_solution.proofs.Chains.{not-done}
+use mathlib.Core.Path.{_∙_}
+use Rattle.pass_solution.proofs.Chains.{not-done, framed-length}
 use Rattle.pass_inverse_iteration.proofs.Judgements.{same-pencil}
-use Rattle.pass_branches.proofs.Copies.{entries-room, copied-length, copied-room, copied-engine, leaves-vector}
+use Rattle.pass_branches.proofs.Copies.{entries-room, angles-room, copied-length, copied-room, copied-engine, leaves-vector}
 use Rattle.pass_branches.proofs.Ends.{leaves-refused, leaves-angles}
 use borrow.Author.Needs.{needs}
 use Rattle.pass_branches.proofs.vector_field.Statement.{statement}
 use Rattle.pass_branches.proofs.vector_field.Tie as tie
 
 entries-requires : tie.Need-entries-requires
-entries-requires c κs = (c .before .before .before .before .before .pre .1 .1 .1 .ready .interleaved, entries-room _ _ _ _ _ (c .before .before .before .before .before .pre .0 .0 .0 .energy-room) (c .before .before .before .before .before .pre .1 .1 .0 .0))
+entries-requires c κs =
+    let start = c .before .before .before .before .before in
+    (start .pre .1 .1 .1 .ready .interleaved, entries-room _ _ _ _ _ (start .pre .0 .0 .0 .energy-room) (start .pre .1 .1 .0 .0))
 
 inverse-iteration-requires : tie.Need-inverse-iteration-requires
-inverse-iteration-requires c κs = ((same-pencil (copied-length _ _ _ _ _ _ _ _ _ (c .before .before .before .before .before .before .before .before .before .pre .0 .0 .0 .energy-room) (c .before .before .before .before .before .before .before .before .before .pre .1 .1 .0 .0) (c .before .before .before .before .before .before .before .before .before .pre .1 .1 .1) (c .before .before .before .entries .ensures)) _ _ _ (c .before .before .before .before .before .before .before .before .before .pre .0 .0 .0), c .before .before .before .before .before .before .before .before .before .pre .0 .0 .1), (c .before .before .before .before .before .before .before .before .before .pre .1 .0, copied-engine _ _ _ _ _ _ _ _ _ (c .before .before .before .before .before .before .before .before .before .pre .0 .0 .0 .energy-room) (c .before .before .before .before .before .before .before .before .before .pre .1 .1 .0 .0) (c .before .before .before .before .before .before .before .before .before .pre .1 .1 .1) (c .before .before .before .entries .ensures)))
+inverse-iteration-requires c κs =
+    let start = c .before .before .before .before .before .before .before .before .before in
+    let back3 = c .before .before .before in (
+      (
+        same-pencil (copied-length _ _ _ _ _ _ _ _ _ (start .pre .0 .0 .0 .energy-room) (start .pre .1 .1 .0 .0) (start .pre .1 .1 .1) (back3 .entries .ensures)) _ _ _ (start .pre .0 .0 .0),
+        start .pre .0 .0 .1,
+      ),
+      (start .pre .1 .0, copied-engine _ _ _ _ _ _ _ _ _ (start .pre .0 .0 .0 .energy-room) (start .pre .1 .1 .0 .0) (start .pre .1 .1 .1) (back3 .entries .ensures)),
+    )
 
 enum-told : tie.Need-enum-told
 enum-told c = search needs
@@ -25,22 +34,39 @@ same-length : tie.Need-same-length
 same-length c = search needs
 
 returns : tie.Need-returns
-returns c = leaves-vector _ _ _ _ _ _ _ _ _ (c .before .before .before .before .before .before .before .before .before .before .before .before .before .before .pre .0 .0 .0 .energy-room) (c .before .before .before .before .before .before .before .before .before .before .before .before .before .before .pre .1 .1 .0 .0) (c .before .before .before .before .before .before .before .before .before .before .before .before .before .before .pre .1 .1 .1) (c .before .before .before .before .before .before .before .before .entries .ensures) _ (c .before .before .before .before .before .before .before .before .before .before .before .before .before .before .args .o) (c .before .before .before .before .before .before .before .before .before .before .before .before .before .before .pre .1 .1 .0 .1) (leaves-refused _ _ _ _ (copied-room _ _ _ _ _ _ _ _ _ (c .before .before .before .before .before .before .before .before .before .before .before .before .before .before .pre .0 .0 .0 .energy-room) (c .before .before .before .before .before .before .before .before .before .before .before .before .before .before .pre .1 .1 .0 .0) (c .before .before .before .before .before .before .before .before .before .before .before .before .before .before .pre .1 .1 .1) (c .before .before .before .before .before .before .before .before .entries .ensures) .vector-room) (c .before .before .before .before .before .before .before .before .before .before .before .before .before .before .pre .0 .1) (c .before .before .before .before .inverse-iteration .ensures) (not-done (c .enum-told2 .given .1)))
+returns c =
+    let start = c .before .before .before .before .before .before .before .before .before .before .before .before .before .before in
+    let back8 = c .before .before .before .before .before .before .before .before in
+    leaves-vector _ _ _ _ _ _ _ _ _ (start .pre .0 .0 .0 .energy-room) (start .pre .1 .1 .0 .0) (start .pre .1 .1 .1) (back8 .entries .ensures) _ (start .args .o) (start .pre .1 .1 .0 .1)
+    (leaves-refused _ _ _ _ (copied-room _ _ _ _ _ _ _ _ _ (start .pre .0 .0 .0 .energy-room) (start .pre .1 .1 .0 .0) (start .pre .1 .1 .1) (back8 .entries .ensures) .vector-room) (start .pre .0 .1)
+    (c .before .before .before .before .inverse-iteration .ensures) (not-done (c .enum-told2 .given .1)))
 
 angles-from-requires : tie.Need-angles-from-requires
-angles-from-requires c κs = omega (arith, apart, c .before .before .before .before .before .before .before .before .before .before .before .before .before .before .before .pre .0 .0 .0 .energy-room .vector-room .vectors-in)
+angles-from-requires c κs =
+    let start = c .before .before .before .before .before .before .before .before .before .before .before .before .before .before .before in
+    let entries = c .before .before .before .before .before .before .before .before .before .entries .ensures in
+    angles-room _ (start .args .solver .vectors) _ (start .pre .0 .0 .0 .energy-room) (start .pre .0 .1)
+    (framed-length _ _ _ (c .before .before .before .before .before .inverse-iteration .ensures .frame)
+    ∙ copied-length _ _ _ _ _ _ _ _ _ (start .pre .0 .0 .0 .energy-room) (start .pre .1 .1 .0 .0) (start .pre .1 .1 .1) entries)
 
 same-length-2 : tie.Need-same-length-2
 same-length-2 c = search needs
 
 returns-2 : tie.Need-returns-2
-returns-2 c = leaves-vector _ _ _ _ _ _ _ _ _ (c .before .before .before .before .before .before .before .before .before .before .before .before .before .before .before .before .before .before .pre .0 .0 .0 .energy-room) (c .before .before .before .before .before .before .before .before .before .before .before .before .before .before .before .before .before .before .pre .1 .1 .0 .0) (c .before .before .before .before .before .before .before .before .before .before .before .before .before .before .before .before .before .before .pre .1 .1 .1) (c .before .before .before .before .before .before .before .before .before .before .before .before .entries .ensures) _ (c .before .before .before .before .before .before .before .before .before .before .before .before .before .before .before .before .before .before .args .o) (c .before .before .before .before .before .before .before .before .before .before .before .before .before .before .before .before .before .before .pre .1 .1 .0 .1) (leaves-angles _ _ _ _ (copied-room _ _ _ _ _ _ _ _ _ (c .before .before .before .before .before .before .before .before .before .before .before .before .before .before .before .before .before .before .pre .0 .0 .0 .energy-room) (c .before .before .before .before .before .before .before .before .before .before .before .before .before .before .before .before .before .before .pre .1 .1 .0 .0) (c .before .before .before .before .before .before .before .before .before .before .before .before .before .before .before .before .before .before .pre .1 .1 .1) (c .before .before .before .before .before .before .before .before .before .before .before .before .entries .ensures) .vector-room) (c .before .before .before .before .before .before .before .before .before .before .before .before .before .before .before .before .before .before .pre .0 .1) (c .before .before .before .before .before .before .before .before .inverse-iteration .ensures) (c .before .before .before .before .enum-told .given .1) (c .before .before .angles-from .ensures))
+returns-2 c =
+    let start = c .before .before .before .before .before .before .before .before .before .before .before .before .before .before .before .before .before .before in
+    let back12 = c .before .before .before .before .before .before .before .before .before .before .before .before in
+    let back8 = c .before .before .before .before .before .before .before .before in
+    leaves-vector _ _ _ _ _ _ _ _ _ (start .pre .0 .0 .0 .energy-room) (start .pre .1 .1 .0 .0) (start .pre .1 .1 .1) (back12 .entries .ensures) _ (start .args .o) (start .pre .1 .1 .0 .1)
+    (leaves-angles _ _ _ _ (copied-room _ _ _ _ _ _ _ _ _ (start .pre .0 .0 .0 .energy-room) (start .pre .1 .1 .0 .0) (start .pre .1 .1 .1) (back12 .entries .ensures) .vector-room) (start .pre .0 .1)
+    (back8 .inverse-iteration .ensures) (c .before .before .before .before .enum-told .given .1) (c .before .before .angles-from .ensures))
 
 pub vector-field-spec : {M : Type 1} → statement M
 vector-field-spec =
     tie.close
     (tie.spec
-    entries-requires inverse-iteration-requires
+    entries-requires
+    inverse-iteration-requires
     enum-told
     enum-told-2
     same-length

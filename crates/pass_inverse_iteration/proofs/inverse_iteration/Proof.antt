@@ -20,7 +20,9 @@ same-length : tie.Need-same-length
 same-length c = search needs
 
 returns : tie.Need-returns
-returns c = inverse-refused _ _ _ _ _ _ (c .before .before .before .before .before .before .before .before .before .before .args .o) (c .before .before .before .before .before .before .before .before .before .before .pre .0 .0) (c .before .before .before .before .begin .ensures) (not-done (c .enum-told2 .given .1))
+returns c =
+    let start = c .before .before .before .before .before .before .before .before .before .before in
+    inverse-refused _ _ _ _ _ _ (start .args .o) (start .pre .0 .0) (c .before .before .before .before .begin .ensures) (not-done (c .enum-told2 .given .1))
 
 average-requires : tie.Need-average-requires
 average-requires c κs = search needs
@@ -29,13 +31,20 @@ inner-most-requires : tie.Need-inner-most-requires
 inner-most-requires c κs = search needs
 
 iterate-requires : tie.Need-iterate-requires
-iterate-requires c κs = (same-pencil (search needs) _ _ _ (c .before .before .before .before .before .before .before .before .before .before .before .before .before .pre .0 .0), (c .before .before .before .before .before .before .before .before .before .before .before .before .before .pre .1 .0, framed-engine _ _ _ _ _ _ _ (c .before .before .before .before .before .before .before .before .before .before .before .before .before .pre .0 .0 .energy-room) (c .before .before .before .before .before .before .before .before .before .before .before .before .before .pre .1 .1) _ (sym (c .before .before .before .before .before .before .before .before .before .before .before .before .before .pre .0 .0 .one-size)) (c .before .before .before .before .before .before .before .begin .ensures .frame)))
+iterate-requires c κs =
+    let start = c .before .before .before .before .before .before .before .before .before .before .before .before .before in
+    let back7 = c .before .before .before .before .before .before .before in
+    (same-pencil (search needs) _ _ _ (start .pre .0 .0), (start .pre .1 .0, framed-engine _ _ _ _ _ _ _ (start .pre .0 .0 .energy-room) (start .pre .1 .1) _ (sym (start .pre .0 .0 .one-size)) (back7 .begin .ensures .frame)))
 
 same-length-2 : tie.Need-same-length-2
 same-length-2 c = search needs
 
 returns-2 : tie.Need-returns-2
-returns-2 c = inverse-iterated _ _ _ _ _ _ (c .before .before .before .before .before .before .before .before .before .before .before .before .before .before .before .before .args .o) (c .before .before .before .before .before .before .before .before .before .before .before .before .before .before .before .before .pre .0 .0) (c .before .before .before .before .before .before .before .before .before .before .begin .ensures) (c .before .before .before .before .before .before .enum-told .given .1) (c .before .before .before .before .before .average .ensures) (c .before .before .before .before .inner-most .ensures) (c .before .before .iterate .ensures)
+returns-2 c =
+    let start = c .before .before .before .before .before .before .before .before .before .before .before .before .before .before .before .before in
+    let back10 = c .before .before .before .before .before .before .before .before .before .before in
+    inverse-iterated _ _ _ _ _ _ (start .args .o) (start .pre .0 .0) (back10 .begin .ensures) (c .before .before .before .before .before .before .enum-told .given .1)
+    (c .before .before .before .before .before .average .ensures) (c .before .before .before .before .inner-most .ensures) (c .before .before .iterate .ensures)
 
 pub inverse-iteration-spec : {M : Type 1} → statement M
 inverse-iteration-spec =

@@ -19,7 +19,9 @@ loop-holds : tie.Need-loop-holds Inv-loop μ-loop
 loop-holds c = (search needs, search needs, reach-none _ _ _ _ _ _ _ _)
 
 iterate-once-requires : tie.Need-iterate-once-requires Inv-loop μ-loop
-iterate-once-requires c κs = (same-pencil (c .before .before .loop .inv .1) _ _ _ (c .before .before .before .before .before .before .before .pre .0), (c .before .before .before .before .before .before .before .pre .1 .0, framed-engine _ _ _ _ _ _ _ (c .before .before .before .before .before .before .before .pre .0 .energy-room) (c .before .before .before .before .before .before .before .pre .1 .1) _ refl (c .before .before .loop .inv .2 .frame)))
+iterate-once-requires c κs =
+    let start = c .before .before .before .before .before .before .before in
+    (same-pencil (c .before .before .loop .inv .1) _ _ _ (start .pre .0), (start .pre .1 .0, framed-engine _ _ _ _ _ _ _ (start .pre .0 .energy-room) (start .pre .1 .1) _ refl (c .before .before .loop .inv .2 .frame)))
 
 enum-known-p : tie.Need-enum-known-p Inv-loop μ-loop
 enum-known-p c = search needs
@@ -28,7 +30,11 @@ same-length : tie.Need-same-length Inv-loop μ-loop
 same-length c = search needs
 
 returns : tie.Need-returns Inv-loop μ-loop
-returns c = reach-ended _ _ _ _ _ _ _ _ (c .before .before .before .before .before .before .before .before .before .before .before .before .before .pre .0) _ (c .before .before .before .before .before .before .before .loop-test .taken) (c .before .before .before .before .before .before .before .before .loop .inv .2) (c .before .before .before .before .before .iterate-once .ensures) (c .before .p .given .1)
+returns c =
+    let start = c .before .before .before .before .before .before .before .before .before .before .before .before .before in
+    let back8 = c .before .before .before .before .before .before .before .before in
+    let back7 = c .before .before .before .before .before .before .before in
+    reach-ended _ _ _ _ _ _ _ _ (start .pre .0) _ (back7 .loop-test .taken) (back8 .loop .inv .2) (c .before .before .before .before .before .iterate-once .ensures) (c .before .p .given .1)
 
 enum-told : tie.Need-enum-told Inv-loop μ-loop
 enum-told c = search needs
@@ -40,7 +46,14 @@ loop-less : tie.Need-loop-less Inv-loop μ-loop
 loop-less c = search needs
 
 loop-again : tie.Need-loop-again Inv-loop μ-loop
-loop-again c = (search needs, search needs, reach-again _ _ _ _ _ _ _ _ (c .before .before .before .before .before .before .before .before .before .before .before .before .pre .0) _ (c .before .before .before .before .before .before .loop-test .taken) (c .before .before .before .before .before .before .before .loop .inv .2) (c .before .before .before .before .iterate-once .ensures) (c .enum-told .given .1))
+loop-again c =
+    let start = c .before .before .before .before .before .before .before .before .before .before .before .before in
+    let back7 = c .before .before .before .before .before .before .before in (
+      search needs,
+      search needs,
+      reach-again _ _ _ _ _ _ _ _ (start .pre .0) _ (c .before .before .before .before .before .before .loop-test .taken) (back7 .loop .inv .2)
+          (c .before .before .before .before .iterate-once .ensures) (c .enum-told .given .1),
+    )
 
 gave-up-requires : tie.Need-gave-up-requires Inv-loop μ-loop
 gave-up-requires c κs = search needs

@@ -19,16 +19,23 @@ same-length : tie.Need-same-length
 same-length c = search needs
 
 returns : tie.Need-returns
-returns c = iteration-refused _ _ _ _ _ _ _ (c .before .before .before .before .before .before .before .before .before .before .pre .0) (c .before .before .before .before .next .ensures) (not-done (c .enum-told2 .given .1))
+returns c =
+    let start = c .before .before .before .before .before .before .before .before .before .before in
+    iteration-refused _ _ _ _ _ _ _ (start .pre .0) (c .before .before .before .before .next .ensures) (not-done (c .enum-told2 .given .1))
 
 judge-requires : tie.Need-judge-requires
-judge-requires c κs = (same-pencil (search needs) _ _ _ (c .before .before .before .before .before .before .before .before .before .before .before .pre .0), c .before .before .before .before .before .before .before .before .before .before .before .pre .1 .0)
+judge-requires c κs =
+    let start = c .before .before .before .before .before .before .before .before .before .before .before in
+    (same-pencil (search needs) _ _ _ (start .pre .0), start .pre .1 .0)
 
 same-length-2 : tie.Need-same-length-2
 same-length-2 c = search needs
 
 returns-2 : tie.Need-returns-2
-returns-2 c = iteration-judged _ _ _ _ _ _ _ (c .before .before .before .before .before .before .before .before .before .before .before .before .before .before .pre .0) (c .before .before .before .before .before .before .before .before .next .ensures) (c .before .before .before .before .enum-told .given .1) (c .before .before .judge .ensures)
+returns-2 c =
+    let start = c .before .before .before .before .before .before .before .before .before .before .before .before .before .before in
+    let back8 = c .before .before .before .before .before .before .before .before in
+    iteration-judged _ _ _ _ _ _ _ (start .pre .0) (back8 .next .ensures) (c .before .before .before .before .enum-told .given .1) (c .before .before .judge .ensures)
 
 pub iterate-once-spec : {M : Type 1} → statement M
 iterate-once-spec =

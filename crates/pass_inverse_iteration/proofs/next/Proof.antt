@@ -12,7 +12,9 @@ apply-requires : tie.Need-apply-requires
 apply-requires c κs = (omega (arith, apart), c .before .before .before .before .before .pre .1 .0 .mass-graph)
 
 solve-requires : tie.Need-solve-requires
-solve-requires c κs = (same-room (search needs) _ _ (c .before .before .before .before .before .before .before .before .before .pre .0 .energy-room), (c .before .before .before .before .before .before .before .before .before .pre .1 .0 .energy-graph, next-engine _ _ _ _ _ _ (c .before .before .before .before .before .before .before .before .before .args .o) (c .before .before .before .before .before .before .before .before .before .pre .0) (c .before .before .before .apply .ensures) _ _ (c .before .before .before .before .before .before .before .before .before .pre .1 .1)))
+solve-requires c κs =
+    let start = c .before .before .before .before .before .before .before .before .before in
+    (same-room (search needs) _ _ (start .pre .0 .energy-room), (start .pre .1 .0 .energy-graph, next-engine _ _ _ _ _ _ (start .args .o) (start .pre .0) (c .before .before .before .apply .ensures) _ _ (start .pre .1 .1)))
 
 enum-told : tie.Need-enum-told
 enum-told c = search needs
@@ -24,16 +26,25 @@ same-length : tie.Need-same-length
 same-length c = search needs
 
 returns : tie.Need-returns
-returns c = next-refused _ _ _ _ _ _ _ (c .before .before .before .before .before .before .before .before .before .before .before .before .before .before .pre .0) (c .before .before .before .before .before .before .before .before .apply .ensures) (c .before .before .before .before .solve .ensures) (not-done (c .enum-told2 .given .1))
+returns c =
+    let start = c .before .before .before .before .before .before .before .before .before .before .before .before .before .before in
+    let back8 = c .before .before .before .before .before .before .before .before in
+    next-refused _ _ _ _ _ _ _ (start .pre .0) (back8 .apply .ensures) (c .before .before .before .before .solve .ensures) (not-done (c .enum-told2 .given .1))
 
 normalize-requires : tie.Need-normalize-requires
-normalize-requires c κs = (same-room (search needs) _ _ (c .before .before .before .before .before .before .before .before .before .before .before .before .before .before .before .pre .0 .mass-room), c .before .before .before .before .before .before .before .before .before .before .before .before .before .before .before .pre .1 .0 .mass-graph)
+normalize-requires c κs =
+    let start = c .before .before .before .before .before .before .before .before .before .before .before .before .before .before .before in
+    (same-room (search needs) _ _ (start .pre .0 .mass-room), start .pre .1 .0 .mass-graph)
 
 same-length-2 : tie.Need-same-length-2
 same-length-2 c = search needs
 
 returns-2 : tie.Need-returns-2
-returns-2 c = next-normalized _ _ _ _ _ _ _ (c .before .before .before .before .before .before .before .before .before .before .before .before .before .before .before .before .before .before .pre .0) (c .before .before .before .before .before .before .before .before .before .before .before .before .apply .ensures) (c .before .before .before .before .before .before .before .before .solve .ensures) (c .before .before .before .before .enum-told .given .1) (c .before .before .normalize .ensures)
+returns-2 c =
+    let start = c .before .before .before .before .before .before .before .before .before .before .before .before .before .before .before .before .before .before in
+    let back12 = c .before .before .before .before .before .before .before .before .before .before .before .before in
+    let back8 = c .before .before .before .before .before .before .before .before in
+    next-normalized _ _ _ _ _ _ _ (start .pre .0) (back12 .apply .ensures) (back8 .solve .ensures) (c .before .before .before .before .enum-told .given .1) (c .before .before .normalize .ensures)
 
 pub next-spec : {M : Type 1} → statement M
 next-spec =

@@ -7,7 +7,9 @@ use Rattle.pass_setup.proofs.set_up.Statement.{statement}
 use Rattle.pass_setup.proofs.set_up.Tie as tie
 
 geometries-requires : tie.Need-geometries-requires
-geometries-requires c κs = (omega (arith, c .before .before .before .before .pre .0), c .before .before .before .before .pre .1)
+geometries-requires c κs =
+    let start = c .before .before .before .before in
+    (omega (arith, start .pre .0), start .pre .1)
 
 refused-requires : tie.Need-refused-requires
 refused-requires c κs = search needs
@@ -19,10 +21,18 @@ same-length-2 : tie.Need-same-length-2
 same-length-2 c = search needs
 
 returns : tie.Need-returns
-returns c = row-19 (c .before .before .before .before .before .before .before .before .before .before .before .before .args .l) (c .before .before .before .before .before .before .before .before .before .before .before .before .args .work .now) (c .before .before .before .before .before .before .before .before .before .before .before .before .args .words .now) (c .before .before .before .before .before .before .before .before .before .before .before .before .pre .0) (c .before .before .before .before .before .before .before .before .before .before .before .before .pre .1) (c .before .before .before .before .before .before .before .geometries .ensures) (c .before .if1 .taken) (c .refused .ensures)
+returns c =
+    let start = c .before .before .before .before .before .before .before .before .before .before .before .before in
+    let back7 = c .before .before .before .before .before .before .before in
+    row-19 (start .args .l) (start .args .work .now) (start .args .words .now) (start .pre .0) (start .pre .1) (back7 .geometries .ensures) (c .before .if1 .taken) (c .refused .ensures)
 
 take-gradients-requires : tie.Need-take-gradients-requires
-take-gradients-requires c κs = (ordered-now (stays (c .before .before .before .before .before .before .before .before .before .before .before .before .before .args .l) (c .before .before .before .before .before .before .before .before .before .before .before .before .before .args .work .now) (c .before .before .before .before .before .before .before .before .before .before .before .before .before .args .words .now) (c .before .before .before .before .before .before .before .before .before .before .before .before .before .pre .0) (c .before .before .before .before .before .before .before .before .before .before .before .before .before .pre .1) (c .before .before .before .before .before .before .before .before .geometries .ensures)) (c .before .before .before .before .before .before .before .before .before .before .before .before .before .pre .0), turned (c .before .before .before .before .before .before .before .before .before .before .before .before .before .args .l) (c .before .before .before .before .before .before .before .before .before .before .before .before .before .args .work .now) (c .before .before .before .before .before .before .before .before .before .before .before .before .before .args .words .now) (c .before .before .before .before .before .before .before .before .before .before .before .before .before .pre .0) (c .before .before .before .before .before .before .before .before .before .before .before .before .before .pre .1) (c .before .before .before .before .before .before .before .before .geometries .ensures) (omega arith))
+take-gradients-requires c κs =
+    let start = c .before .before .before .before .before .before .before .before .before .before .before .before .before in
+    let back8 = c .before .before .before .before .before .before .before .before in (
+      ordered-now (stays (start .args .l) (start .args .work .now) (start .args .words .now) (start .pre .0) (start .pre .1) (back8 .geometries .ensures)) (start .pre .0),
+      turned (start .args .l) (start .args .work .now) (start .args .words .now) (start .pre .0) (start .pre .1) (back8 .geometries .ensures) (omega arith),
+    )
 
 same-length-3 : tie.Need-same-length-3
 same-length-3 c = search needs
@@ -31,7 +41,10 @@ same-length-4 : tie.Need-same-length-4
 same-length-4 c = search needs
 
 returns-2 : tie.Need-returns-2
-returns-2 c = set-up-then (stays (c .before .before .before .before .before .before .before .before .before .before .before .before .before .before .before .before .before .before .args .l) (c .before .before .before .before .before .before .before .before .before .before .before .before .before .before .before .before .before .before .args .work .now) (c .before .before .before .before .before .before .before .before .before .before .before .before .before .before .before .before .before .before .args .words .now) (c .before .before .before .before .before .before .before .before .before .before .before .before .before .before .before .before .before .before .pre .0) (c .before .before .before .before .before .before .before .before .before .before .before .before .before .before .before .before .before .before .pre .1) (c .before .before .before .before .before .before .before .before .before .before .before .before .before .geometries .ensures)) (c .before .before .before .before .take-gradients .ensures)
+returns-2 c =
+    let start = c .before .before .before .before .before .before .before .before .before .before .before .before .before .before .before .before .before .before in
+    let back13 = c .before .before .before .before .before .before .before .before .before .before .before .before .before in
+    set-up-then (stays (start .args .l) (start .args .work .now) (start .args .words .now) (start .pre .0) (start .pre .1) (back13 .geometries .ensures)) (c .before .before .before .before .take-gradients .ensures)
 
 pub set-up-spec : {M : Type 1} → statement M
 set-up-spec =
