@@ -11,6 +11,7 @@ use Rattle.linear_cells.specs.Cell.{regionC, putC}
 use Rattle.linear_hermitian.specs.declared.Hermitian.{Hermitian}
 use Rattle.linear_hermitian.specs.Hermitian.{applied}
 use Rattle.linear_hermitian.specs.Work.{matrix}
+use Rattle.linear_adjacency.specs.Incidence.{areEdges}
 use Rattle.linear_packing.specs.declared.Packing.{Packing}
 use Rattle.linear_packing.specs.declared.Source.{Source}
 use Rattle.linear_packing.specs.Slots.{entriesOf}
@@ -22,21 +23,9 @@ use Rattle.linear_conjugate_gradient.specs.Work.{read, lay}
 use Rattle.linear_layers.specs.declared.Checked.{Checked}
 use Rattle.linear_layers.specs.declared.Checked.the-variants.{Refused, Solved, Normal}
 
--- f 0, .., f (n - 1) are all true
-unfoldable pub allTo : (ℕ → Bool) → ℕ → Bool
-allTo f zero = true
-allTo f (suc n) = allTo f n && f n
-
--- an edge of two different ends below n
-unfoldable pub edgeGood : ℕ → ℕ → ℕ → Bool
-edgeGood n a b = ltb a n && (ltb b n && not (eqb a b))
-
-unfoldable pub edgeAt : ℕ → List ℕ → List ℕ → ℕ → Bool
-edgeAt n from to k = edgeGood n (getD from k 0) (getD to k 0)
-
--- the work slice has room for n rows, and the edges are such edges
+-- the work slice has room for n rows, and every edge has two different ends among them (`is_good`)
 unfoldable pub good : ℕ → ℕ → List ℕ → List ℕ → Bool
-good len n from to = leb (10 * n + 6 * length from) len && (eqb (length to) (length from) && allTo (edgeAt n from to) (length from))
+good len n from to = leb (10 * n + 6 * length from) len && areEdges n from to
 
 -- there is room for the packed copy of n rows and m edges, and each of its numbers is a u32 (`has_room`)
 unfoldable pub roomy : ℕ → ℕ → ℕ → Bool

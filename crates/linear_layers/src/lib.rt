@@ -1,6 +1,5 @@
 // The layers with every test made that they leave to their callers, some under C calling rules: for comparison and timing
 // beside the Rust. No part of the product.
-use linear_cells::wide;
 use linear_conjugate_gradient::Answer;
 use linear_conjugate_gradient::Normalized;
 use linear_conjugate_gradient::Vectors;
@@ -15,7 +14,7 @@ ghost use Prim.Native.Nat.{_+_, _*_, _^_, _≤_, _<_};
 ghost use lib.ListN.{length};
 ghost use Rattle.linear_cells.specs.Region.{put};
 ghost use Rattle.linear_hermitian.specs.Work.{Graph};
-ghost use Rattle.linear_layers.specs.Checked.{allTo, edgeGood, edgeAt, good, roomy, matrixFor, vectorsFor, packingFor, sourceFor, numbersFor};
+ghost use Rattle.linear_layers.specs.Checked.{good, roomy, matrixFor, vectorsFor, packingFor, sourceFor, numbersFor};
 ghost use Rattle.linear_layers.specs.Checked.{Runs, SolveChecked, SolveTold, NormalChecked};
 
 pub enum Checked {
@@ -23,30 +22,6 @@ pub enum Checked {
     Refused,
     Solved(Answer),
     Normal(Normalized),
-}
-
-fn edge_good(n: usize, a: usize, b: usize) -> bool
-    ensures { λ r. ⌜ r ≡ edgeGood n a b ⌝ }
-{
-    if a >= n {
-        return false;
-    }
-    if b >= n {
-        return false;
-    }
-    a != b
-}
-
-fn edges_good(n: usize, from: &[u32], to: &[u32]) -> bool
-    requires { ⌜ length (now to) ≡ length (now from) ⌝ }
-    ensures { λ r. ⌜ r ≡ allTo (edgeAt n (now (from .entry)) (now (to .entry))) (length (now (from .entry))) ⌝ }
-{
-    for k in 0..from.len() {
-        if !edge_good(n, wide(from[k]), wide(to[k])) {
-            return false;
-        }
-    }
-    true
 }
 
 fn is_good(work: &[f64], n: usize, from: &[u32], to: &[u32]) -> bool
@@ -61,10 +36,7 @@ fn is_good(work: &[f64], n: usize, from: &[u32], to: &[u32]) -> bool
     if work.len() < 10 * n + 6 * from.len() {
         return false;
     }
-    if to.len() != from.len() {
-        return false;
-    }
-    edges_good(n, from, to)
+    linear_adjacency::lent::are_edges(n, from, to)
 }
 
 fn matrix_for(n: usize, m: usize) -> Hermitian

@@ -1,6 +1,6 @@
 -- `linear_layers::is_good` meets its contract: each return opens the definition and rewrites it by the tests and the calls on its way; the laws are in proofs/Tests.
 use native.Mathlib.Omega.{arith}
-use Rattle.linear_layers.proofs.Tests.{good-short, good-unpaired, good-edges}
+use Rattle.linear_layers.proofs.Tests.{good-short, good-edges}
 use borrow.Author.Needs.{needs}
 use Rattle.linear_layers.proofs.is_good.Statement.{statement}
 use Rattle.linear_layers.proofs.is_good.Tie as tie
@@ -23,14 +23,11 @@ add-if3 c = search needs
 returns-3 : tie.Need-returns-3
 returns-3 c = good-short _ _ _ _ (c .if3 .taken)
 
+are-edges-requires : tie.Need-are-edges-requires
+are-edges-requires c κs = search needs
+
 returns-4 : tie.Need-returns-4
-returns-4 c = good-unpaired _ _ _ _ (c .if4 .taken)
-
-edges-good-requires : tie.Need-edges-good-requires
-edges-good-requires c κs = search needs
-
-returns-5 : tie.Need-returns-5
-returns-5 c = good-edges _ _ _ _ (c .before .before .if3 .left) (c .before .if4 .left) (c .edges-good .ensures)
+returns-4 c = good-edges _ _ _ _ (c .before .if3 .left) (c .are-edges .ensures)
 
 pub is-good-spec : {M : Type 1} → statement M
 is-good-spec =
@@ -42,6 +39,5 @@ is-good-spec =
     mul-if3-2
     add-if3
     returns-3
-    returns-4
-    edges-good-requires
-    returns-5)
+    are-edges-requires
+    returns-4)

@@ -1,5 +1,5 @@
 -- `linear_layers::layers_conjugate_gradient` meets its contract: each return opens the definition and rewrites it by the tests and the calls on its way; the laws are in proofs/Tests.
-use Rattle.linear_layers.proofs.Tests.{not-true, not-false}
+use Rattle.linear_adjacency.proofs.Tests.{not-true, not-false}
 use Rattle.linear_layers.proofs.Tests.{told-refused, told-roomless, told-solved, run-needs}
 use borrow.Author.Needs.{needs}
 use Rattle.linear_layers.proofs.layers_conjugate_gradient.Statement.{statement}

@@ -1,5 +1,5 @@
 -- `linear_layers::normalize` meets its contract: each return opens the definition and rewrites it by the tests and the calls on its way; the laws are in proofs/Tests.
-use Rattle.linear_layers.proofs.Tests.{not-true, not-false}
+use Rattle.linear_adjacency.proofs.Tests.{not-true, not-false}
 use lib.Ieee.{nan}
 use native.Mathlib.Omega.{arith}
 use Rattle.linear_layers.proofs.Tests.{normalize-refused, normalize-normal, small, normalize-needs}

@@ -1,5 +1,5 @@
 -- `linear_layers::solve` meets its contract: each return opens the definition and rewrites it by the tests and the calls on its way; the laws are in proofs/Tests.
-use Rattle.linear_layers.proofs.Tests.{not-true, not-false}
+use Rattle.linear_adjacency.proofs.Tests.{not-true, not-false}
 use Rattle.linear_layers.proofs.Tests.{solve-refused, solve-roomless, solve-solved, run-needs}
 use borrow.Author.Needs.{needs}
 use Rattle.linear_layers.proofs.solve.Statement.{statement}
