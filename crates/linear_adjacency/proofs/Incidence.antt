@@ -2,15 +2,14 @@
 use mathlib.Core.Path.{_≡_, refl, sym, ap, _∙_}
 use mathlib.Core.Bool.{Bool, true, false, cond}
 use mathlib.Core.List.{List, [], _∷_, _++_}
-use Prim.Native.Nat.{ℕ, zero, suc, _+_, _*_, _-_, _≤_, _<_}
+use Prim.Native.Nat.{ℕ, zero, suc, _+_, _-_, _≤_, _<_}
 use native.Mathlib.Decide.{ℕ-discrete, decLe}
 use native.Mathlib.Nat.{not-suc-le-zero, zero-add}
 use native.Mathlib.Omega.{arith}
 use borrow.Author.Tests.{eq-eqb, ne-eqb}
-use lib.Dec.{eqb}
 use lib.ListN.{length, getD, length-append, List·getD-append}
 use lib.Seq.{getD-append-seam}
-use Rattle.linear_cells.specs.Region.{region, put}
+use Rattle.linear_cells.specs.Region.{put}
 use Rattle.linear_adjacency.specs.Adjacency.{meets, edgesAt, degree, startOf, Ends, adjacency, Listed}
 use Rattle.linear_adjacency.specs.Incidence.{listIn, times, Incidence, areEdges, hasRoom, listable, VertexLists}
 use Rattle.linear_adjacency.proofs.Lists.{start-none, start-more, edges-below, listed-at}

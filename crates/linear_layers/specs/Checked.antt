@@ -1,10 +1,10 @@
 -- What the layers answer where every test that they leave to their callers is made first.
 use mathlib.Core.Path.{_≡_}
-use mathlib.Core.Bool.{Bool, true, false, not, _&&_}
+use mathlib.Core.Bool.{Bool, true, false, _&&_}
 use mathlib.Core.List.{List}
-use Prim.Native.Nat.{ℕ, zero, suc, _+_, _*_, _/_, _^_}
-use lib.Dec.{ltb, leb, eqb}
-use lib.ListN.{length, getD}
+use Prim.Native.Nat.{ℕ, _+_, _*_, _/_, _^_}
+use lib.Dec.{ltb, leb}
+use lib.ListN.{length}
 use lib.Ieee.{Float}
 use Rattle.linear_cells.specs.Region.{put}
 use Rattle.linear_cells.specs.Cell.{regionC, putC}

@@ -1,25 +1,23 @@
 -- The claim on the product by vertex (specs/Claim.antt). Assumes nothing.
 use mathlib.Core.Path.{_≡_, refl, sym, ap, _∙_}
-use mathlib.Core.Bool.{Bool, true, false, cond, _||_}
+use mathlib.Core.Bool.{Bool, true, false, cond}
 use mathlib.Core.List.{List, [], _∷_}
-use Prim.Native.Nat.{ℕ, zero, suc, _+_, _*_, _-_, _≤_, _<_}
-use native.Mathlib.Decide.{ℕ-discrete}
+use Prim.Native.Nat.{ℕ, suc, _+_, _-_, _<_}
 use native.Mathlib.Omega.{arith}
 use borrow.Author.Tests.{lt-ltb}
 use lib.Dec.{eqb}
 use lib.ListN.{length, getD}
 use Rattle.complex.specs.declared.Complex.{Complex}
 use Rattle.complex.specs.Complex.{cnan}
-use Rattle.linear_cells.specs.Region.{tab}
 use Rattle.linear_cells.proofs.Loops.{getD-tab}
 use Rattle.linear_hermitian.specs.Hermitian.{Matrix, applied}
-use Rattle.linear_adjacency.specs.Adjacency.{edgesAt, degree, Ends, Listed}
-use Rattle.linear_adjacency.specs.Incidence.{listIn, VertexLists}
+use Rattle.linear_adjacency.specs.Adjacency.{edgesAt, degree, Listed}
+use Rattle.linear_adjacency.specs.Incidence.{listIn}
 use Rattle.linear_adjacency.proofs.Lists.{start-more, start-below, edges-below}
 use Rattle.linear_adjacency.proofs.Incidence.{vertex-lists, list-is, begins}
 use Rattle.linear_rows.specs.declared.lent.Product.the-variants.{At}
 use Rattle.linear_rows.specs.Rows.{otherEnd, plusEdges, diagonalAt, rowTimes, byVertex}
-use Rattle.linear_rows.specs.Vertex.{isInside, allInside, hasList, productOver, vertexProduct}
+use Rattle.linear_rows.specs.Vertex.{allInside, hasList, productOver, vertexProduct}
 use Rattle.linear_rows.specs.Claim.{Fitting, SameProduct}
 use Rattle.linear_rows.proofs.Scatter.{by-vertex}
 use Rattle.linear_rows.proofs.Vertex.{inside-all, list-all}

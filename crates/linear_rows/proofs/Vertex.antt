@@ -1,17 +1,17 @@
 -- The product at one vertex on lent slices: the tests and the loop of its code, over lists; and what the slices hold where the tests pass. Assumes nothing.
 use mathlib.Core.Path.{_≡_, refl, sym, ap, _∙_}
-use mathlib.Core.Bool.{Bool, true, false, cond, _&&_}
+use mathlib.Core.Bool.{Bool, true, false, _&&_}
 use mathlib.Core.List.{List, [], _∷_, _++_}
 use Prim.Native.Nat.{ℕ, zero, suc, _+_, _*_, _-_, _/_, _≤_, _<_}
 use native.Mathlib.Decide.{decLe}
 use native.Mathlib.Omega.{arith}
 use borrow.Author.Tests.{ltb-true, lt-ltb, le-ltb, leb-true, le-leb, lt-leb, eq-eqb, ne-eqb}
-use lib.Dec.{ltb, leb, eqb}
+use lib.Dec.{ltb, leb}
 use lib.ListN.{length, getD}
 use lib.Ieee.{Float, nan}
 use Rattle.complex.specs.declared.Complex.{Complex}
 use Rattle.complex.specs.Complex.{cnan, cadd, cmul, cconj, cscale}
-use Rattle.linear_cells.specs.Region.{tab, region}
+use Rattle.linear_cells.specs.Region.{region}
 use Rattle.linear_cells.proofs.Loops.{length-tab, getD-tab}
 use Rattle.linear_hermitian.specs.Hermitian.{Matrix}
 use Rattle.linear_adjacency.specs.Incidence.{listIn}
