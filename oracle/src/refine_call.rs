@@ -62,7 +62,8 @@ fn filled<T: Copy>(mut front: Vec<T>, length: usize, mark: T) -> Vec<T> {
     front
 }
 
-fn as_told(got: &Refinement, (points, tris, sizes, flagged, cut): Refined) -> bool {
+/// Whether slices that were full of marks hold the reference's answer, and marks behind it.
+pub fn as_told(got: &Refinement, (points, tris, sizes, flagged, cut): Refined) -> bool {
     let counts = [points.len(), tris.len(), flagged, cut.len(), MARK_U32 as usize].map(|k| k as u64);
     let corners: Vec<u32> = tris.iter().flatten().map(|&v| v as u32).collect();
     let ends: Vec<u32> = cut.iter().flat_map(|&(a, b)| [a as u32, b as u32]).collect();
