@@ -46,6 +46,13 @@ pub mod access {
         pairs(&hermitian(s).apply(&complex(&s.rhs)))
     }
 
+    fn time_apply(s: &System) -> f64 {
+        let (matrix, x) = (hermitian(s), complex(&s.rhs));
+        let now = std::time::Instant::now();
+        let _ = std::hint::black_box(matrix.apply(&x));
+        now.elapsed().as_secs_f64()
+    }
+
     fn conjugate_gradient(s: &System) -> Result<(Vec<Pair>, usize), String> {
         super::conjugate_gradient(&hermitian(s), &complex(&s.rhs), s.tolerance, s.most).map(|(x, n)| (pairs(&x), n))
     }
@@ -154,6 +161,7 @@ pub mod access {
         refine_once,
         extend_guidance,
         apply,
+        time_apply,
         conjugate_gradient,
         time_conjugate_gradient,
         normalize_in_mass,

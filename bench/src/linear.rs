@@ -1,7 +1,7 @@
 //! The linear solver on the floors' own systems.
 
 use bench::{
-    systems::iteration,
+    systems::{iteration, product},
     time::{Table, MICROSECONDS},
     words::Asked,
 };
@@ -25,5 +25,12 @@ pub fn linear(asked: &Asked) {
         asked.rounds,
     );
     systems(asked, |kind, name, s| iteration(&mut table, kind, name, s, TURNS));
+    table.end();
+    let mut table = Table::new(
+        "Linear: one product, godf_vertex_product at each vertex beside apply",
+        MICROSECONDS,
+        asked.rounds,
+    );
+    systems(asked, |kind, name, s| product(&mut table, kind, name, s));
     table.end();
 }

@@ -1,7 +1,12 @@
-//! Linear systems on both sides: the Rust's conjugate_gradient, and layers_conjugate_gradient of liblinear_layers.a.
+//! Linear systems on both sides: the Rust's conjugate_gradient, and layers_conjugate_gradient of liblinear_layers.a; the Rust's product,
+//! and godf_vertex_product of libgodf.a.
 
 use crate::time::{seconds, Run, Table};
-use oracle::{reference::System, PLATFORM};
+use oracle::{
+    godf::{vertex_lists, vertex_product, Factors},
+    reference::System,
+    PLATFORM,
+};
 
 #[allow(improper_ctypes)]
 extern "C" {
@@ -117,4 +122,31 @@ pub fn iteration(table: &mut Table, kind: &str, name: &str, s: &System, turns: u
         rest: (PLATFORM.time_conjugate_gradient)(&none),
     };
     table.row_of_runs(kind, &name, turns, ours, theirs);
+}
+
+fn factors(s: &System) -> Factors {
+    let ends = |k: fn(&(usize, usize)) -> usize| -> Vec<u32> { s.ends.iter().map(|e| k(e) as u32).collect() };
+    let (n, from, to) = (s.diagonal.len(), ends(|e| e.0), ends(|e| e.1));
+    let mut lists = vec![0; n + 1 + 2 * from.len()];
+    assert_eq!(vertex_lists(n, &from, &to, &mut lists), 0, "lists of a floor's edges");
+    Factors {
+        diagonal: s.diagonal.clone(),
+        off: s.off.concat(),
+        from,
+        to,
+        lists,
+        x: s.rhs.concat(),
+    }
+}
+
+/// A row for a whole product, a call for each vertex on one thread. The lists are built before.
+pub fn product(table: &mut Table, kind: &str, name: &str, s: &System) {
+    let factors = factors(s);
+    let equal = |(v, z): (usize, &[f64; 2])| vertex_product(&factors, v).1.map(f64::to_bits) == z.map(f64::to_bits);
+    assert!(
+        (PLATFORM.apply)(s).iter().enumerate().all(equal),
+        "a product of ours has other bits than the Rust's"
+    );
+    let all = || (0..s.diagonal.len()).for_each(|v| drop(std::hint::black_box(vertex_product(&factors, v))));
+    table.row(kind, name, 1, || seconds(all), || (PLATFORM.time_apply)(s));
 }

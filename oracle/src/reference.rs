@@ -46,6 +46,8 @@ pub struct Reference {
     pub extend_guidance: fn(&[f64], &[(usize, usize)], usize) -> Vec<f64>,
     /// The matrix times the right-hand side.
     pub apply: fn(&System) -> Vec<Pair>,
+    /// The seconds of one product, without the making of the matrix.
+    pub time_apply: fn(&System) -> f64,
     pub conjugate_gradient: fn(&System) -> Result<(Vec<Pair>, usize), String>,
     /// The seconds of one call, without the making of the matrix.
     pub time_conjugate_gradient: fn(&System) -> f64,
