@@ -29,7 +29,9 @@ same-length-2 : tie.Need-same-length-2
 same-length-2 c = search needs
 
 returns-2 : tie.Need-returns-2
-returns-2 c = normalize-normal _ _ _ _ nan 0 (c .before .before .before .before .before .before .before .is-good .ensures) (not-false _ (c .before .before .before .before .before .before .if1 .left)) (c .before .before .before .before .before .matrix-for .ensures) (c .before .before .before .before .vectors-for .ensures) (c .before .before .normalize-in-mass .ensures)
+returns-2 c =
+    normalize-normal _ _ _ _ nan 0 (c .before .before .before .before .before .before .before .is-good .ensures) (not-false _ (c .before .before .before .before .before .before .if1 .left))
+    (c .before .before .before .before .before .matrix-for .ensures) (c .before .before .before .before .vectors-for .ensures) (c .before .before .normalize-in-mass .ensures)
 
 pub normalize-spec : {M : Type 1} → statement M
 normalize-spec =
