@@ -147,6 +147,10 @@ pub fn product(table: &mut Table, kind: &str, name: &str, s: &System) {
         (PLATFORM.apply)(s).iter().enumerate().all(equal),
         "a product of ours has other bits than the Rust's"
     );
-    let all = || (0..s.diagonal.len()).for_each(|v| drop(std::hint::black_box(vertex_product(&factors, v))));
+    let all = || {
+        for v in 0..s.diagonal.len() {
+            std::hint::black_box(vertex_product(&factors, v));
+        }
+    };
     table.row(kind, name, 1, || seconds(all), || (PLATFORM.time_apply)(s));
 }
