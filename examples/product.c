@@ -64,7 +64,7 @@ static void *multiply(void *of) {
     return NULL;
 }
 
-/* The product, by so many threads; 0 where a vertex is refused or a thread cannot be started. */
+/* The product, spread over `threads` threads. Returns 0 where a vertex is refused or a thread cannot be started. */
 static int spread(size_t threads, double *y) {
     pthread_t thread[THREADS];
     struct share share[THREADS];
