@@ -96,27 +96,27 @@ module _ (len n m : ℕ) where
   unfolding roomy
   roomy-rows h = rw (le-ltb n (2 ^ 32) h)
 
-  pub roomy-edges : 2 ^ 31 ≤ m → false ≡ roomy len n m
+  pub roomy-edges : 2 ^ 30 ≤ m → false ≡ roomy len n m
   unfolding roomy
-  roomy-edges h = rw (le-ltb m (2 ^ 31) h) (sym (and-false (ltb n (2 ^ 32))))
+  roomy-edges h = rw (le-ltb m (2 ^ 30) h) (sym (and-false (ltb n (2 ^ 32))))
 
-  pub roomy-words : n < 2 ^ 32 → m < 2 ^ 31 → leb (n + 1 + 6 * m + n / 2) len ≡ roomy len n m
+  pub roomy-words : n < 2 ^ 32 → m < 2 ^ 30 → leb (n + 1 + 6 * m + n / 2) len ≡ roomy len n m
   unfolding roomy
-  roomy-words h g = rw (lt-ltb n (2 ^ 32) h, lt-ltb m (2 ^ 31) g)
+  roomy-words h g = rw (lt-ltb n (2 ^ 32) h, lt-ltb m (2 ^ 30) g)
 
   module _ (r : roomy len n m ≡ true) where
-    roomy-parts : (ltb n (2 ^ 32) ≡ true) × (ltb m (2 ^ 31) ≡ true) × (leb (n + 1 + 6 * m + n / 2) len ≡ true)
+    roomy-parts : (ltb n (2 ^ 32) ≡ true) × (ltb m (2 ^ 30) ≡ true) × (leb (n + 1 + 6 * m + n / 2) len ≡ true)
     unfolding roomy
     roomy-parts =
-        let p = and-true (ltb n (2 ^ 32)) (ltb m (2 ^ 31) && leb (n + 1 + 6 * m + n / 2) len) r in
-        let q = and-true (ltb m (2 ^ 31)) (leb (n + 1 + 6 * m + n / 2) len) (p .1) in
+        let p = and-true (ltb n (2 ^ 32)) (ltb m (2 ^ 30) && leb (n + 1 + 6 * m + n / 2) len) r in
+        let q = and-true (ltb m (2 ^ 30)) (leb (n + 1 + 6 * m + n / 2) len) (p .1) in
         (p .0, q .0, q .1)
 
     few-rows : n < 2 ^ 32
     few-rows = ltb-true n (2 ^ 32) (roomy-parts .0)
 
-    few-edges : m < 2 ^ 31
-    few-edges = ltb-true m (2 ^ 31) (roomy-parts .1)
+    few-edges : m < 2 ^ 30
+    few-edges = ltb-true m (2 ^ 30) (roomy-parts .1)
 
     pub counted : (n < 2 ^ 32) × (m < 2 ^ 32)
     counted = (few-rows, omega (arith, few-edges))

@@ -74,7 +74,7 @@ fn has_room(numbers: &[u32], n: usize, m: usize) -> bool
     if n >= 0x1_0000_0000 {
         return false;
     }
-    if m >= 0x8000_0000 {
+    if m >= 0x4000_0000 {
         return false;
     }
     n + 1 + 6 * m + n / 2 <= numbers.len()

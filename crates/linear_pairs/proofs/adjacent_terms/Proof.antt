@@ -3,7 +3,7 @@ use mathlib.Core.Path.{_≡_}
 use Prim.Native.Nat.{_+_, _*_, _≤_, _-_}
 use native.Mathlib.Omega.{arith}
 use Rattle.linear_pairs.specs.Sums.{pairTerms}
-use Rattle.linear_pairs.proofs.Sums.{term-in, pair-terms-none, pair-terms-again, pair-terms-done}
+use Rattle.linear_pairs.proofs.Sums.{term-in, adjacent-terms-none, adjacent-terms-again, adjacent-terms-done}
 use borrow.Author.Needs.{needs}
 use Rattle.linear_pairs.proofs.adjacent_terms.Statement.{statement}
 use Rattle.linear_pairs.proofs.adjacent_terms.Tie as tie
@@ -15,7 +15,7 @@ abbrev μ-loop : tie.MeasureT-loop
 μ-loop work u t x k m sums₀ c₀ sums c = m - c
 
 loop-holds : tie.Need-loop-holds Inv-loop μ-loop
-loop-holds c = (omega arith, pair-terms-none _ _ _ _ _ _)
+loop-holds c = (omega arith, adjacent-terms-none _ _ _ _ _ _)
 
 mul-adjacent-term : tie.Need-mul-adjacent-term Inv-loop μ-loop
 mul-adjacent-term c = search needs
@@ -35,10 +35,10 @@ loop-less : tie.Need-loop-less Inv-loop μ-loop
 loop-less c = search needs
 
 loop-again : tie.Need-loop-again Inv-loop μ-loop
-loop-again c = (omega arith, pair-terms-again _ _ _ _ _ _ _ (c .before .before .loop .inv .1) (c .adjacent-term .ensures))
+loop-again c = (omega arith, adjacent-terms-again _ _ _ _ _ _ _ (c .before .before .loop .inv .1) (c .adjacent-term .ensures))
 
 returns : tie.Need-returns Inv-loop μ-loop
-returns c = pair-terms-done _ _ _ _ _ _ (omega arith) (omega arith) (c .before .loop .inv .1)
+returns c = adjacent-terms-done _ _ _ _ _ _ (omega arith) (omega arith) (c .before .loop .inv .1)
 
 pub adjacent-terms-spec : {M : Type 1} → statement M
 adjacent-terms-spec =
