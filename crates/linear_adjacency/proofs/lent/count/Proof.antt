@@ -1,4 +1,4 @@
--- `linear_adjacency::lent::count` meets its contract: the loop keeps what `Inv-loop` says, and what is left to do falls at each iteration; the laws are in proofs/Loops.
+-- `linear_adjacency::lent::count` meets its contract: the loop keeps what `Inv-loop` says, and what is left to do falls at each iteration; the laws are in proofs/Counting.
 use mathlib.Core.Path.{_≡_, _∙_, ap}
 use Prim.Native.Nat.{_≤_, _-_}
 use native.Mathlib.Omega.{arith}
@@ -6,7 +6,7 @@ use lib.ListN.{length}
 use Rattle.linear_cells.specs.Region.{put}
 use Rattle.linear_cells.proofs.Regions.{length-put}
 use Rattle.linear_adjacency.specs.Build.{degrees}
-use Rattle.linear_adjacency.proofs.Loops.{count-none, count-in, count-again, count-done}
+use Rattle.linear_adjacency.proofs.Counting.{count-none, count-in, count-again, count-done}
 use borrow.Author.Needs.{needs}
 use Rattle.linear_adjacency.proofs.lent.count.Statement.{statement}
 use Rattle.linear_adjacency.proofs.lent.count.Tie as tie

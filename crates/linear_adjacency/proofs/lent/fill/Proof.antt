@@ -1,9 +1,9 @@
--- `linear_adjacency::lent::fill` meets its contract: the loop keeps what `Inv-loop` says, and what is left to do falls at each iteration; the laws are in proofs/Loops.
+-- `linear_adjacency::lent::fill` meets its contract: the loop keeps what `Inv-loop` says, and what is left to do falls at each iteration; the laws are in proofs/Filling.
 use mathlib.Core.Path.{_≡_, _∙_, ap}
 use Prim.Native.Nat.{_≤_}
 use native.Mathlib.Omega.{arith}
 use lib.ListN.{length}
-use Rattle.linear_adjacency.proofs.Loops.{fillTo, length-fillTo, fill-none, fill-both, fill-again, fill-done}
+use Rattle.linear_adjacency.proofs.Filling.{fillTo, length-fillTo, fill-none, fill-both, fill-again, fill-done}
 use borrow.Author.Needs.{needs}
 use Rattle.linear_adjacency.proofs.lent.fill.Statement.{statement}
 use Rattle.linear_adjacency.proofs.lent.fill.Tie as tie
