@@ -1,11 +1,10 @@
 // The second part of a pass: from the two matrices to the field, by the branch that the options choose. It refuses by rows 23 and 24.
 // specs/Branches.antt says what each branch finds, and specs/Work.antt where it stands. `flag` has a flag for each point, 1 where it lies on the boundary,
 // and `from` and `to` the ends of the edges. The linear solver multiplies by a packed copy of its matrix. `pack_edges` makes what depends
-// on the edges alone, once in a pass; the entries are made once for each system.
-use linear_conjugate_gradient::Vectors;
+// on the edges alone, once in a pass; module `solver` makes the entries, once for each system.
+mod solver;
+
 use linear_hermitian::Hermitian;
-use linear_packing::Packing;
-use linear_packing::Source;
 use pass_boundary::Listing;
 use pass_boundary::Planes;
 use pass_inverse_iteration::Outer;
@@ -14,16 +13,16 @@ use pass_options::BoundaryMode;
 use pass_options::Options;
 use pass_refusal::Stage;
 use pass_soft::Terms;
+use solver::Solver;
+use solver::solve_system;
+use solver::vector_field;
 ghost use mathlib.Core.Path.{_≡_};
 ghost use mathlib.Core.Bool.{true};
-ghost use Prim.Native.Nat.{_+_, _≤_};
 ghost use lib.ListN.{length};
 ghost use Rattle.linear_cells.specs.Cell.{regionC};
-ghost use Rattle.linear_hermitian.specs.Work.{Graph};
-ghost use Rattle.linear_conjugate_gradient.specs.Work.{SolverRoom};
 ghost use Rattle.linear_adjacency.specs.Adjacency.{Ends};
 ghost use Rattle.linear_packing.specs.Pack.{PackRoom, packedIn};
-ghost use Rattle.pass_inverse_iteration.specs.Work.{PencilRoom, PlanesBelow, Graphs};
+ghost use Rattle.pass_inverse_iteration.specs.Work.{Graphs};
 ghost use Rattle.pass_constraints.specs.Constraints.{boundaryData};
 ghost use Rattle.pass_systems.specs.Work.{TargetRoom};
 ghost use Rattle.pass_options.specs.declared.BoundaryMode.the-variants.{Tangent};
@@ -32,7 +31,7 @@ ghost use Rattle.pass_layout.specs.Matrices.{packingAt, sourceAt, Countable};
 ghost use Rattle.pass_layout.specs.Work.{fromIn, toIn, Edged};
 ghost use Rattle.pass_branches.specs.Branches.{acts};
 ghost use Rattle.pass_branches.specs.Work.{soughtIn, Finds, BranchRoom, CopyRoom, CopyBehind, Copies, Packs, termsAt, noneActs};
-ghost use Rattle.pass_branches.specs.Work.{LeavesLinear, LeavesSoft, LeavesVector, LeavesFree, LeavesWeak, LeavesTangent, LeavesBy, LeavesAt, LeavesPacked, Bounds};
+ghost use Rattle.pass_branches.specs.Work.{LeavesSoft, LeavesFree, LeavesWeak, LeavesTangent, LeavesBy, LeavesAt, LeavesPacked, Bounds};
 
 // What else the field depends on: whether guidance is given, and its weight; the trace of the energy matrix before its shift; how many outer iterations
 // there may be.
@@ -41,39 +40,6 @@ pub struct Search {
     pub weight: f64,
     pub trace: f64,
     pub iterations: usize,
-}
-
-// Where the linear solver works: its vectors, the packed copy of its matrix, and what the copy is made from.
-pub struct Solver {
-    pub vectors: Vectors,
-    pub copy: Packing,
-    pub source: Source,
-}
-
-// The angles of the solution of the system of the matrix at h and the right-hand side in the solver's residual.
-fn solve_system(
-    w: &mut [f64],
-    h: Hermitian,
-    solver: Solver,
-    angles: usize,
-    iterations: usize,
-    from: &[u32],
-    to: &[u32],
-    u: &[u32],
-) -> Stage
-    requires { ⌜ SolverRoom (length (now w)) h (solver .vectors) × (angles + h .size ≤ solver .vectors .x) ⌝ }
-    requires { ⌜ Graph h (now from) (now to) ⌝ }
-    requires { ⌜ CopyRoom h (solver .vectors) angles (solver .copy) (solver .source) × Copies (now u) (now from) (now to) (solver .copy) (solver .source) ⌝ }
-    ensures { λ r. ⌜ LeavesLinear (now (w .entry)) (now (w .exit)) h (solver .vectors) angles iterations (now (from .entry)) (now (to .entry)) r ⌝ }
-{
-    let most = pass_solution::linear_most(h.size, iterations);
-    let copy = solver.copy;
-    linear_packing::entries(w, u, h, copy, solver.source);
-    let s = pass_solution::solve(w, h, solver.vectors, from, to, u, copy, most);
-    let Stage::Done = s else {
-        return s;
-    };
-    pass_field::angles_from(w, solver.vectors.x, angles, h.size)
 }
 
 // The soft terms alone.
@@ -157,42 +123,6 @@ fn tangent_field(
 {
     pass_systems::tangent_system(w, h, mass, solver.vectors, targets, flag, from, to, t);
     solve_system(w, h, solver, angles, o.iterations, from, to, u)
-}
-
-// The eigenvector of the smallest eigenvalue.
-fn vector_field(
-    w: &mut [f64],
-    h: Hermitian,
-    mass: Hermitian,
-    solver: Solver,
-    angles: usize,
-    o: Outer,
-    from: &[u32],
-    to: &[u32],
-    u: &[u32],
-) -> Stage
-    requires { ⌜ (PencilRoom (length (now w)) mass h (solver .vectors) × PlanesBelow (h .size) (solver .vectors) o) × (angles + h .size ≤ solver .vectors .x) ⌝ }
-    requires { ⌜ Graphs mass h (now from) (now to) ⌝ }
-    requires { ⌜ (CopyRoom h (solver .vectors) angles (solver .copy) (solver .source) × CopyBehind mass (h .size) o (solver .copy))
-        × Copies (now u) (now from) (now to) (solver .copy) (solver .source) ⌝ }
-    ensures { λ r. ⌜ LeavesVector (now (w .entry)) (now (w .exit)) h mass angles (now (from .entry)) (now (to .entry)) o r ⌝ }
-{
-    linear_packing::entries(w, u, h, solver.copy, solver.source);
-    let s = pass_inverse_iteration::inverse_iteration(
-        w,
-        mass,
-        h,
-        solver.vectors,
-        from,
-        to,
-        u,
-        solver.copy,
-        o,
-    );
-    let Stage::Done = s else {
-        return s;
-    };
-    pass_field::angles_from(w, solver.vectors.x, angles, h.size)
 }
 
 // Whether no soft term acts.

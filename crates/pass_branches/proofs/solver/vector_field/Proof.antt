@@ -1,12 +1,12 @@
--- `pass_branches::vector_field` meets its contract: each return is one case of the end; the laws are in proofs/Ends.
+-- `pass_branches::solver::vector_field` meets its contract: each return is one case of the end; the laws are in proofs/Ends.
 use mathlib.Core.Path.{_∙_}
 use Rattle.pass_solution.proofs.Chains.{not-done, framed-length}
 use Rattle.pass_inverse_iteration.proofs.Judgements.{same-pencil}
 use Rattle.pass_branches.proofs.Copies.{entries-room, angles-room, copied-length, copied-room, copied-engine, leaves-vector}
 use Rattle.pass_branches.proofs.Ends.{leaves-refused, leaves-angles}
 use borrow.Author.Needs.{needs}
-use Rattle.pass_branches.proofs.vector_field.Statement.{statement}
-use Rattle.pass_branches.proofs.vector_field.Tie as tie
+use Rattle.pass_branches.proofs.solver.vector_field.Statement.{statement}
+use Rattle.pass_branches.proofs.solver.vector_field.Tie as tie
 
 entries-requires : tie.Need-entries-requires
 entries-requires c κs =

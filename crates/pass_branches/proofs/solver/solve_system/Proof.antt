@@ -1,12 +1,12 @@
--- `pass_branches::solve_system` meets its contract: each return is one case of the end; the laws are in proofs/Ends.
+-- `pass_branches::solver::solve_system` meets its contract: each return is one case of the end; the laws are in proofs/Ends.
 use native.Mathlib.Omega.{arith}
 use Rattle.linear_cells.proofs.Loops.{apart}
 use Rattle.pass_solution.proofs.Chains.{not-done}
 use Rattle.pass_branches.proofs.Copies.{entries-room, copied-room, copied-engine, leaves-linear}
 use Rattle.pass_branches.proofs.Ends.{linear-refused, linear-angles}
 use borrow.Author.Needs.{needs}
-use Rattle.pass_branches.proofs.solve_system.Statement.{statement}
-use Rattle.pass_branches.proofs.solve_system.Tie as tie
+use Rattle.pass_branches.proofs.solver.solve_system.Statement.{statement}
+use Rattle.pass_branches.proofs.solver.solve_system.Tie as tie
 
 linear-most-requires : tie.Need-linear-most-requires
 linear-most-requires c κs = search needs
