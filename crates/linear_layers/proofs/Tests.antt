@@ -31,6 +31,7 @@ use Rattle.linear_conjugate_gradient.specs.declared.Answer.{Answer}
 use Rattle.linear_conjugate_gradient.specs.declared.Normalized.{Normalized}
 use Rattle.linear_conjugate_gradient.specs.Solve.{solved}
 use Rattle.linear_conjugate_gradient.specs.Work.{read, lay, SolverRoom, Engine, Solved, InMass}
+use Rattle.linear_layers.specs.declared.Checked.{Checked}
 use Rattle.linear_layers.specs.declared.Checked.the-variants as checked
 use Rattle.linear_layers.specs.Checked.{good, roomy, matrixFor, vectorsFor, packingFor, sourceFor, endsFor, numbersFor, entriesFor, outcome, Runs, tested}
 use Rattle.linear_layers.specs.Checked.{solvedWork, solvedNumbers, solvedAnswer, SolveChecked, SolveTold, normalWork, normalAnswer, NormalChecked}
@@ -306,10 +307,6 @@ module _ (w : List Float) (n : ℕ) (from to u : List ℕ) (tolerance : Float) (
   unfolding solvedWork solvedNumbers solvedAnswer
   solve-refused t = record { work = rw (not-good t); numbers = rw (not-good t); result = rw (not-good t) }
 
-  pub told-refused : b ≡ false → SolveTold w w n from to u u tolerance most false
-  unfolding solvedWork solvedNumbers
-  told-refused t = record { work = rw (not-good t); numbers = rw (not-good t); result = sym (not-good t) }
-
   module _ (t : b ≡ true) {d : Bool} (f : d ≡ roomy (length u) n (length from)) where
     not-roomy : d ≡ false → tested (length w) n from to (length u) ≡ false
     unfolding tested
@@ -323,10 +320,6 @@ module _ (w : List Float) (n : ℕ) (from to u : List ℕ) (tolerance : Float) (
     unfolding solvedWork solvedNumbers solvedAnswer
     solve-roomless q = record { work = rw (not-roomy q); numbers = rw (not-roomy q); result = rw (not-roomy q) }
 
-    pub told-roomless : d ≡ false → SolveTold w w n from to u u tolerance most false
-    unfolding solvedWork solvedNumbers
-    told-roomless q = record { work = rw (not-roomy q); numbers = rw (not-roomy q); result = sym (not-roomy q) }
-
     pub run-needs : d ≡ true → (good (length w) n from to ≡ true) × (roomy (length u) n (length from) ≡ true)
     run-needs q = (sym e ∙ t, sym f ∙ q)
 
@@ -335,9 +328,23 @@ module _ (w : List Float) (n : ℕ) (from to u : List ℕ) (tolerance : Float) (
       unfolding solvedWork solvedNumbers solvedAnswer
       solve-solved = record { work = rw (all-tested q) (z .work); numbers = rw (all-tested q) (z .numbers); result = rw (all-tested q) (ap checked.Solved (z .result)) }
 
-      pub told-solved : SolveTold w w₁ n from to u u₁ tolerance most true
-      unfolding solvedWork solvedNumbers
-      told-solved = record { work = rw (all-tested q) (z .work); numbers = rw (all-tested q) (z .numbers); result = sym (all-tested q) }
+-- the tests are passed just where there is a solution
+module _ (w : List Float) (n : ℕ) (from to u : List ℕ) (tolerance : Float) (most : ℕ) {w₁ : List Float} {u₁ : List ℕ} {r : Checked} (z : SolveChecked w w₁ n from to u u₁ tolerance most r) where
+  pub told-solved : {a : Answer} → r ≡ checked.Solved a → SolveTold w w₁ n from to u u₁ tolerance most true
+  unfolding solvedAnswer
+  told-solved e = record { work = z .work; numbers = z .numbers; result = passed (tested (length w) n from to (length u)) (z .result) }
+    where
+      passed : (b : Bool) → r ≡ solvedAnswer b w n from to tolerance most → true ≡ b
+      passed true f = refl
+      passed false f = let y : _≡_ {A = ℕ} 0 1 = cc in absurd (omega arith)
+
+  pub told-else : ((a : Answer) → r ≡ checked.Solved a → ⊥) → SolveTold w w₁ n from to u u₁ tolerance most false
+  unfolding solvedAnswer
+  told-else other = record { work = z .work; numbers = z .numbers; result = failed (tested (length w) n from to (length u)) (z .result) }
+    where
+      failed : (b : Bool) → r ≡ solvedAnswer b w n from to tolerance most → false ≡ b
+      failed true f = absurd (other _ f)
+      failed false f = refl
 
 module _ (w : List Float) (n : ℕ) (from to : List ℕ) (tolerance : Float) (most : ℕ) {b : Bool} (e : b ≡ good (length w) n from to) where
   pub normalize-refused : b ≡ false → NormalChecked w w n from to checked.Refused

@@ -188,14 +188,10 @@ pub extern "C" fn layers_conjugate_gradient(
 ) -> bool
     ensures { λ r. ⌜ SolveTold (now (work .entry)) (now (work .exit)) n (now (from .entry)) (now (to .entry)) (now (numbers .entry)) (now (numbers .exit)) tolerance most r ⌝ }
 {
-    if !is_good(work, n, from, to) {
-        return false;
+    match solve(work, n, from, to, numbers, tolerance, most) {
+        Checked::Solved(_) => true,
+        _ => false,
     }
-    if !has_room(numbers, n, from.len()) {
-        return false;
-    }
-    run(work, n, from, to, numbers, tolerance, most);
-    true
 }
 
 // The same slice; the vector is the iterate's.
