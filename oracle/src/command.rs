@@ -21,6 +21,7 @@ const USAGE: &str = "usage:
   pass CANDIDATE COUNT SEED               the same calls with threshold 0: one pass each
   try CANDIDATE < FILE                    one printed case
   notice COUNT SEED                       wrong copies and spoilt answers as candidates: is each noticed?
+  notice products COUNT SEED              spoilt lists and products: is each noticed?
   refine COUNT SEED                       godf_refine beside refine_once
   products COUNT SEED                     godf_vertex_lists and godf_vertex_product beside the reference's product
   tell COUNT SEED                         what the generator's calls come to
@@ -90,6 +91,7 @@ pub fn run(copies: &'static [Copy]) {
         ["pass", name, count, seed] => solves::compare(name, named(name), solves::passes(number(count), number(seed))),
         ["try", name] => solves::attempt(named(name).as_ref(), &read_case()),
         ["notice", count, seed] => solves::notice(copies, number(count), number(seed)),
+        ["notice", "products", count, seed] => products::notice(number(count), number(seed)),
         ["refine", count, seed] => refine_call::compare(number(count), number(seed)),
         ["products", count, seed] => products::compare(number(count), number(seed)),
         ["tell", count, seed] => {

@@ -14,6 +14,7 @@ pub mod linear;
 pub mod outcome;
 pub mod platform_differences;
 mod product_calls;
+mod product_candidates;
 pub mod products;
 pub mod random;
 pub mod reasons;

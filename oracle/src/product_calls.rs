@@ -148,7 +148,7 @@ impl ListsCall {
     }
 
     /// The least room.
-    fn least(&self) -> u128 {
+    pub fn least(&self) -> u128 {
         self.n as u128 + 1 + 2 * self.from.len() as u128
     }
 
@@ -177,6 +177,7 @@ impl ListsCall {
 }
 
 /// A call of godf_vertex_product.
+#[derive(Clone)]
 pub struct ProductCall {
     pub of: Factors,
     pub vertex: usize,
@@ -189,6 +190,12 @@ fn pair(of: &[f64], at: usize) -> Option<Pair> {
 
 fn times(a: Pair, b: Pair) -> Pair {
     [a[0] * b[0] - a[1] * b[1], a[0] * b[1] + a[1] * b[0]]
+}
+
+/// The sum of the terms of a product, from the first to the last.
+pub fn sum(terms: &[Pair]) -> Pair {
+    let sum = terms.iter().copied().reduce(|a, b| [a[0] + b[0], a[1] + b[1]]);
+    sum.expect("the diagonal's term")
 }
 
 impl ProductCall {
@@ -208,26 +215,35 @@ impl ProductCall {
         (begin <= end && run.end <= self.of.lists.len()).then_some(run)
     }
 
-    /// What an edge adds at the vertex.
-    fn term(&self, edge: usize) -> Option<Pair> {
+    /// What an edge adds at the vertex is the product of these two.
+    fn pairs(&self, edge: usize) -> Option<[Pair; 2]> {
         let (a, b) = (*self.of.from.get(edge)? as usize, *self.of.to.get(edge)? as usize);
         let [re, im] = pair(&self.of.off, edge)?;
         if a == self.vertex {
-            Some(times([re, im], pair(&self.of.x, b)?))
+            Some([[re, im], pair(&self.of.x, b)?])
         } else {
-            Some(times([re, -im], pair(&self.of.x, a)?))
+            Some([[re, -im], pair(&self.of.x, a)?])
         }
+    }
+
+    /// What adds up to the product: the diagonal's term, and each edge's by this multiplication. None where the call is refused.
+    pub fn terms_by(&self, times: fn(Pair, Pair) -> Pair) -> Option<Vec<Pair>> {
+        let diagonal = self.of.diagonal.get(self.vertex)?;
+        let mut terms = vec![pair(&self.of.x, self.vertex)?.map(|part| part * diagonal)];
+        for &edge in &self.of.lists[self.run()?] {
+            let [entry, x] = self.pairs(edge as usize)?;
+            terms.push(times(entry, x));
+        }
+        Some(terms)
+    }
+
+    pub fn terms(&self) -> Option<Vec<Pair>> {
+        self.terms_by(times)
     }
 
     /// What is to be written. None where the call is refused.
     pub fn expected(&self) -> Option<Pair> {
-        let diagonal = self.of.diagonal.get(self.vertex)?;
-        let mut sum = pair(&self.of.x, self.vertex)?.map(|part| part * diagonal);
-        for &edge in &self.of.lists[self.run()?] {
-            let term = self.term(edge as usize)?;
-            sum = [sum[0] + term[0], sum[1] + term[1]];
-        }
-        Some(sum)
+        self.terms().map(|terms| sum(&terms))
     }
 
     /// The edges at the vertex.

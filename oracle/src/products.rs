@@ -1,10 +1,12 @@
 //! godf_vertex_lists and godf_vertex_product, through C, beside the reference's own product of a Hermitian matrix and a vector: every
-//! list number, every vertex by its bits, and calls with a fault, or just without one, beside a model of include/godf.h.
+//! list number, every vertex by its bits, and calls with a fault, or just without one, beside a model of include/godf.h. The same
+//! comparison is made of answers spoilt on purpose, which must be noticed.
 
 use crate::{
-    godf::{vertex_lists, vertex_product, Factors, MARK, MARK_U32},
+    godf::{Factors, MARK},
     outcome::same,
     product_calls::{factors, Fault, ListsCall, ProductCall, LISTS_FAULTS, PRODUCT_FAULTS},
+    product_candidates::{filled, Candidate, GODF, RIGHT, SPOILT},
     random::Random,
     reference::{Pair, System},
     BOUND,
@@ -108,25 +110,17 @@ impl Faults {
     }
 }
 
-/// The numbers written, if any, and marks to the end.
-fn filled(front: Option<Vec<u32>>, room: usize) -> Vec<u32> {
-    let mut all = front.unwrap_or_default();
-    all.resize(room, MARK_U32);
-    all
-}
-
 /// Makes a call of godf_vertex_lists: what it is lent, afterwards, and whether that and the answer are as expected.
-fn lists_of(call: &ListsCall) -> (Vec<u32>, bool) {
-    let mut lists = vec![MARK_U32; call.room];
-    let code = vertex_lists(call.n, &call.from, &call.to, &mut lists);
+fn lists_of(candidate: &Candidate, call: &ListsCall) -> (Vec<u32>, bool) {
+    let (code, lists) = (candidate.lists)(call);
     let expected = call.expected();
     let equal = code == u32::from(expected.is_none()) && lists == filled(expected, call.room);
     (lists, equal)
 }
 
 /// Whether a call of godf_vertex_product gives what is expected, or keeps the marks where nothing is.
-fn as_expected(of: &Factors, vertex: usize, expected: Option<Pair>) -> bool {
-    let (code, written) = vertex_product(of, vertex);
+fn as_expected(candidate: &Candidate, call: &ProductCall, expected: Option<Pair>) -> bool {
+    let (code, written) = (candidate.product)(call);
     let [re, im] = expected.unwrap_or([MARK; 2]);
     code == u32::from(expected.is_none()) && same(written[0], re) && same(written[1], im)
 }
@@ -159,8 +153,9 @@ fn some_vertex(r: &mut Random, of: &Factors) -> usize {
     }
 }
 
-/// All that was compared.
+/// All that was compared of a candidate.
 struct Compared {
+    candidate: Candidate,
     lists: Count,
     products: Count,
     vertices: Count,
@@ -170,72 +165,115 @@ struct Compared {
 }
 
 impl Compared {
+    fn of(candidate: Candidate, count: u64, seed: u64) -> Self {
+        let mut r = Random::new(seed);
+        let mut compared = Self {
+            candidate,
+            lists: Count::default(),
+            products: Count::default(),
+            vertices: Count::default(),
+            met: Met::default(),
+            lists_faults: Faults::of("lists", &LISTS_FAULTS),
+            product_faults: Faults::of("product", &PRODUCT_FAULTS),
+        };
+        for i in 0..count as usize {
+            let of = factors(&mut r);
+            let lists = ListsCall::of(&mut r, &of);
+            let mut call = ProductCall { of, vertex: 0 };
+            compared.sound(&lists, &mut call);
+            compared.spoilt_lists(&mut r, i % LISTS_FAULTS.len(), lists);
+            if !call.of.diagonal.is_empty() {
+                call.vertex = some_vertex(&mut r, &call.of);
+                compared.spoilt_product(&mut r, i % PRODUCT_FAULTS.len(), call);
+            }
+        }
+        compared
+    }
+
     /// The lists of a matrix, and every vertex of its product with a vector. It keeps the lists as the model has them.
-    fn sound(&mut self, call: &ListsCall, of: &mut Factors) {
-        let (built, equal) = lists_of(call);
+    fn sound(&mut self, lists: &ListsCall, call: &mut ProductCall) {
+        let (built, equal) = lists_of(&self.candidate, lists);
         self.lists.add(equal);
-        of.lists = built;
-        let expected = product(of);
-        self.met.note(&expected, &of.from, &of.to);
+        call.of.lists = built;
+        let expected = product(&call.of);
+        self.met.note(&expected, &call.of.from, &call.of.to);
         let before = self.vertices.differ;
         for (vertex, &at) in expected.iter().enumerate() {
-            self.vertices.add(as_expected(of, vertex, Some(at)));
+            call.vertex = vertex;
+            self.vertices.add(as_expected(&self.candidate, call, Some(at)));
         }
         self.products.add(self.vertices.differ == before);
-        of.lists = filled(call.expected(), call.room);
+        call.of.lists = filled(lists.expected(), lists.room);
     }
 
     fn spoilt_lists(&mut self, r: &mut Random, fault: usize, mut call: ListsCall) {
         LISTS_FAULTS[fault].1(r, &mut call);
         let refused = call.expected().is_none();
-        self.lists_faults.add(fault, refused, lists_of(&call).1);
+        self.lists_faults
+            .add(fault, refused, lists_of(&self.candidate, &call).1);
     }
 
     fn spoilt_product(&mut self, r: &mut Random, fault: usize, mut call: ProductCall) {
         PRODUCT_FAULTS[fault].1(r, &mut call);
         let expected = call.expected();
-        let equal = as_expected(&call.of, call.vertex, expected);
+        let equal = as_expected(&self.candidate, &call, expected);
         self.product_faults.add(fault, expected.is_none(), equal);
     }
 
+    /// The counts, each with its name.
+    fn counts(&self) -> [(&'static str, &Count); 5] {
+        [
+            ("lists", &self.lists),
+            ("products", &self.products),
+            ("vertices of products", &self.vertices),
+            ("calls for lists, some refused", &self.lists_faults.count),
+            ("calls for products, some refused", &self.product_faults.count),
+        ]
+    }
+
     fn tell(&self) {
-        self.lists.tell("lists");
-        self.products.tell("products");
-        self.vertices.tell("vertices of products");
-        self.lists_faults.count.tell("calls for lists, some refused");
-        self.product_faults.count.tell("calls for products, some refused");
+        for (what, count) in self.counts() {
+            count.tell(what);
+        }
         self.met.tell();
         self.lists_faults.tell();
         self.product_faults.tell();
     }
 
     fn good(&self) -> bool {
-        let faults = [&self.lists_faults.count, &self.product_faults.count];
-        let counts = [&self.lists, &self.products, &self.vertices];
-        counts.iter().chain(&faults).all(|count| count.differ == 0)
+        self.counts().iter().all(|(_, count)| count.differ == 0)
+    }
+
+    /// What differs, and how many of each.
+    fn differing(&self) -> String {
+        if self.good() {
+            return "nothing".to_string();
+        }
+        let counts = self.counts();
+        let some = counts.iter().filter(|(_, count)| count.differ > 0);
+        let parts = some.map(|(what, count)| format!("{} of {} {what}", count.differ, count.compared));
+        parts.collect::<Vec<_>>().join("; ")
     }
 }
 
 pub fn compare(count: u64, seed: u64) -> bool {
-    let mut r = Random::new(seed);
-    let mut compared = Compared {
-        lists: Count::default(),
-        products: Count::default(),
-        vertices: Count::default(),
-        met: Met::default(),
-        lists_faults: Faults::of("lists", &LISTS_FAULTS),
-        product_faults: Faults::of("product", &PRODUCT_FAULTS),
-    };
-    for i in 0..count as usize {
-        let mut of = factors(&mut r);
-        let call = ListsCall::of(&mut r, &of);
-        compared.sound(&call, &mut of);
-        compared.spoilt_lists(&mut r, i % LISTS_FAULTS.len(), call);
-        if !of.diagonal.is_empty() {
-            let vertex = some_vertex(&mut r, &of);
-            compared.spoilt_product(&mut r, i % PRODUCT_FAULTS.len(), ProductCall { of, vertex });
-        }
-    }
+    let compared = Compared::of(GODF, count, seed);
     compared.tell();
     compared.good()
+}
+
+/// Every spoilt answer on the same calls: how many differ. False where one is not noticed, or where what they spoil differs itself.
+pub fn notice(count: u64, seed: u64) -> bool {
+    let right = RIGHT.map(|(name, candidate)| (name, candidate, true));
+    let spoilt = SPOILT.map(|(name, candidate)| (name, candidate, false));
+    let mut good = true;
+    for (name, candidate, is_right) in right.into_iter().chain(spoilt) {
+        let compared = Compared::of(candidate, count, seed);
+        println!("{name} differs in {}", compared.differing());
+        if compared.good() != is_right {
+            println!("  NOT as it should be");
+            good = false;
+        }
+    }
+    good
 }
