@@ -1,44 +1,50 @@
 -- `linear_pairs::adjacent_terms` meets its contract: the loop keeps what `Inv-loop` says, and what is left to do falls at each iteration; the laws are in proofs/Sums.
 use mathlib.Core.Path.{_≡_}
-use Prim.Native.Nat.{_+_, _*_, _≤_, _-_}
+use Prim.Native.Nat.{_+_, _*_, _-_, _/_, _%_, _≤_}
 use native.Mathlib.Omega.{arith}
 use Rattle.linear_pairs.specs.Sums.{pairTerms}
-use Rattle.linear_pairs.proofs.Sums.{term-in, adjacent-terms-none, adjacent-terms-again, adjacent-terms-done}
+use Rattle.linear_pairs.proofs.Sums.{term-in, adjacent-at, pair-terms-none, pair-terms-again, pair-terms-done}
 use borrow.Author.Needs.{needs}
 use Rattle.linear_pairs.proofs.adjacent_terms.Statement.{statement}
 use Rattle.linear_pairs.proofs.adjacent_terms.Tie as tie
 
+-- an even number of slots is taken, from k up to j
 abbrev Inv-loop : tie.InvT-loop
-Inv-loop work u t x k m sums₀ c₀ sums c = (c ≤ m) × (sums ≡ pairTerms work u t x k c sums₀)
+Inv-loop work u copy x k m end sums₀ j₀ sums j = (end ≡ k + 2 * m) × (k ≤ j) × (j ≤ end) × ((j - k) % 2 ≡ 0) × (sums ≡ pairTerms work u copy x k ((j - k) / 2) sums₀)
 
 abbrev μ-loop : tie.MeasureT-loop
-μ-loop work u t x k m sums₀ c₀ sums c = m - c
+μ-loop work u copy x k m end sums₀ j₀ sums j = end - j
+
+mul-end : tie.Need-mul-end Inv-loop μ-loop
+mul-end c = search needs
+
+add-end : tie.Need-add-end Inv-loop μ-loop
+add-end c = search needs
 
 loop-holds : tie.Need-loop-holds Inv-loop μ-loop
-loop-holds c = (omega arith, adjacent-terms-none _ _ _ _ _ _)
-
-mul-adjacent-term : tie.Need-mul-adjacent-term Inv-loop μ-loop
-mul-adjacent-term c = search needs
-
-add-adjacent-term : tie.Need-add-adjacent-term Inv-loop μ-loop
-add-adjacent-term c = search needs
+loop-holds c = (omega arith, omega arith, omega arith, omega arith, pair-terms-none _ _ _ _ _ _)
 
 adjacent-term-requires : tie.Need-adjacent-term-requires Inv-loop μ-loop
 adjacent-term-requires c κs =
     let start = c .before .before .before .before in
-    ((term-in (start .pre .0) (start .args .k + 2 * c .before .loop .c) (omega arith), term-in (start .pre .0) (start .args .k + 2 * c .before .loop .c + 1) (omega arith)), start .pre .1 .1 (c .before .loop .c) (omega arith))
+    let loop = c .before .loop in (
+      (term-in (start .pre .0) (loop .j) (omega arith), term-in (start .pre .0) (loop .j + 1) (omega arith)),
+      adjacent-at (start .args .u .now) (start .args .copy .neighbours) (start .args .k) (start .args .m) (loop .j) (start .pre .1 .1) (loop .inv .1) (omega arith) (loop .inv .3),
+    )
 
-add-c : tie.Need-add-c Inv-loop μ-loop
-add-c c = search needs
+add-j : tie.Need-add-j Inv-loop μ-loop
+add-j c = omega (arith, c .before .before .before .before .before .pre .1 .0)
 
 loop-less : tie.Need-loop-less Inv-loop μ-loop
-loop-less c = search needs
+loop-less c = omega arith
 
 loop-again : tie.Need-loop-again Inv-loop μ-loop
-loop-again c = (omega arith, adjacent-terms-again _ _ _ _ _ _ _ (c .before .before .loop .inv .1) (c .adjacent-term .ensures))
+loop-again c =
+    let back2 = c .before .before in
+    (back2 .loop .inv .0, omega arith, omega arith, omega arith, pair-terms-again _ _ _ _ _ (back2 .loop .j) _ (back2 .loop .inv .1) (back2 .loop .inv .3) (back2 .loop .inv .4) (c .adjacent-term .ensures))
 
 returns : tie.Need-returns Inv-loop μ-loop
-returns c = adjacent-terms-done _ _ _ _ _ _ (omega arith) (omega arith) (c .before .loop .inv .1)
+returns c = pair-terms-done _ _ _ _ _ _ _ (omega arith) (omega arith) (c .before .loop .inv .4)
 
 pub adjacent-terms-spec : {M : Type 1} → statement M
 adjacent-terms-spec =
@@ -46,11 +52,11 @@ adjacent-terms-spec =
     (tie.spec
     Inv-loop
     μ-loop
+    mul-end
+    add-end
     loop-holds
-    mul-adjacent-term
-    add-adjacent-term
     adjacent-term-requires
-    add-c
+    add-j
     loop-less
     loop-again
     returns)
