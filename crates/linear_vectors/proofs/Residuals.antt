@@ -22,7 +22,7 @@ use Rattle.linear_hermitian.proofs.Product.{length-scaled}
 use Rattle.linear_vectors.specs.declared.residual.Sums.{Sums}
 use Rattle.linear_vectors.specs.Vectors.{zipOf, subScaled}
 use Rattle.linear_vectors.specs.Residual.{productsAt, productsOf}
-use Rattle.linear_vectors.specs.ResidualWork.{ReduceRoom, Reduced, termAt, putTerm, termStep, putPair, pairStep, noSums, addC, addStep, Lag, lag, lagStep}
+use Rattle.linear_vectors.specs.ResidualWork.{ReduceRoom, Reduced, termAt, putTerm, termStep, putPair, pairStep, noSums, addC, addStep, Lag, lag, lagAt, lagStep}
 use Rattle.linear_vectors.proofs.Zip.{length-zipOf, getD-zipOf, getD-scaled, zipTo, length-zipTo, zip-none, zip-todo, zip-done, zip-cell, zipTo-all}
 
 pub length-productsOf : (d : List Float) (r : List Complex) → length (productsOf d r) ≡ length r
@@ -210,7 +210,7 @@ module _ (w : List Float) (r q inverse n : ℕ) (alpha : Float) where
         more a c = omega arith
 
     lag-from : (c : ℕ) → 2 * c + 2 ≤ n → iter (lagStep r q inverse n alpha) c (lag (doneTo 2) (sumsAt 0)) ≡ lag (doneTo (2 * c + 2)) (sumsAt (2 * c))
-    unfolding iter lagStep
+    unfolding iter lagAt lagStep
     lag-from zero l = refl
     lag-from (suc c) l =
         rw (

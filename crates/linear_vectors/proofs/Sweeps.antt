@@ -1,7 +1,7 @@
 -- The loops of `reduce` as they stand: so many iterations from the entry's slice, and from the sums given. Assumes nothing.
 use mathlib.Core.Path.{_≡_, sym, ap, _∙_}
 use mathlib.Core.List.{List}
-use Prim.Native.Nat.{ℕ, _+_, _*_, _≤_}
+use Prim.Native.Nat.{ℕ, _+_, _*_, _/_, _%_, _≤_}
 use native.Mathlib.Omega.{arith}
 use lib.Ieee.{Float}
 use Rattle.linear_cells.specs.Iter.{iter}
@@ -9,7 +9,7 @@ use Rattle.linear_cells.specs.Cell.{setC}
 use Rattle.linear_cells.proofs.Loops.{iter-none, iter-more}
 use Rattle.linear_vectors.specs.declared.residual.Sums.{Sums}
 use Rattle.linear_vectors.specs.declared.residual.Term.{Term}
-use Rattle.linear_vectors.specs.ResidualWork.{termAt, putTerm, termStep, putPair, pairStep, noSums, addC, addStep, Lag, lag, lagStep}
+use Rattle.linear_vectors.specs.ResidualWork.{termAt, putTerm, termStep, putPair, pairStep, noSums, addC, addStep, Lag, lag, lagAt, lagStep}
 
 -- two places
 pub pair-at-all : (w : List Float) (r q inverse n : ℕ) (alpha : Float) (i : ℕ) {w₁ w₂ : List Float} {t u : Term} → t ≡ termAt w r q inverse n alpha i → u ≡ termAt w r q inverse n alpha (i + 1)
@@ -58,19 +58,23 @@ module _ (w : List Float) (r q inverse n : ℕ) (alpha : Float) where
   unfoldable pub lagTo : ℕ → Lag
   lagTo k = iter (lagStep r q inverse n alpha) k (lag w noSums)
 
+  -- by the place i that comes next: i / 2 pairs are put
   pub lag-none : lag w noSums ≡ lagTo 0
   unfolding lagTo
   lag-none = sym (iter-none _ (lag w noSums))
 
-  pub lag-again : (k : ℕ) {w₁ w₂ : List Float} {s t : Sums} → lag w₁ s ≡ lagTo k → lag w₂ t ≡ lagStep r q inverse n alpha k (lag w₁ s) → lag w₂ t ≡ lagTo (k + 1)
-  unfolding lagTo
-  lag-again k e₁ e₂ = e₂ ∙ ap (lagStep r q inverse n alpha k) e₁ ∙ sym (iter-more (lagStep r q inverse n alpha) k (lag w noSums))
+  pub lag-again : (i : ℕ) {w₁ w₂ : List Float} {s t : Sums} → i % 2 ≡ 0 → lag w₁ s ≡ lagTo (i / 2) → lag w₂ t ≡ lagAt r q inverse n alpha i (lag w₁ s) → lag w₂ t ≡ lagTo ((i + 2) / 2)
+  unfolding lagTo lagStep
+  lag-again i even e₁ e₂ =
+      let z : (i + 2) / 2 ≡ i / 2 + 1 = omega arith in
+      let k : 2 * (i / 2) ≡ i = omega arith in
+      rw (z, iter-more, k) (e₂ ∙ ap (lagAt r q inverse n alpha i) e₁)
 
-  pub lag-done : {w₁ : List Float} {s : Sums} {k c : ℕ} → k ≤ c → c ≤ k → lag w₁ s ≡ lagTo k → lag w₁ s ≡ iter (lagStep r q inverse n alpha) c (lag w noSums)
+  pub lag-done : {w₁ : List Float} {s : Sums} {i : ℕ} (c : ℕ) → 2 * c ≤ i → i ≤ 2 * c → lag w₁ s ≡ lagTo (i / 2) → lag w₁ s ≡ iter (lagStep r q inverse n alpha) c (lag w noSums)
   unfolding lagTo
-  lag-done g h e = ended (lagStep r q inverse n alpha) (lag w noSums) g h e
+  lag-done {i = i} c g h e = let z : i / 2 ≡ c = omega arith in e ∙ rw z
 
-  pub lag-at-all : (k : ℕ) (s : Sums) {w₁ : List Float} {t u : Sums} → w₁ ≡ pairStep r q inverse n alpha (2 * k + 2) w → t ≡ addC w₁ q n (2 * k) s → u ≡ addC w₁ q n (2 * k + 1) t
-      → lag w₁ u ≡ lagStep r q inverse n alpha k (lag w s)
-  unfolding lagStep
-  lag-at-all k s e₁ et eu = rw (eu, et, e₁)
+  pub lag-at-all : (i : ℕ) (s : Sums) {w₁ : List Float} {t u : Sums} → w₁ ≡ pairStep r q inverse n alpha (i + 2) w → t ≡ addC w₁ q n i s → u ≡ addC w₁ q n (i + 1) t
+      → lag w₁ u ≡ lagAt r q inverse n alpha i (lag w s)
+  unfolding lagAt
+  lag-at-all i s e₁ et eu = rw (eu, et, e₁)

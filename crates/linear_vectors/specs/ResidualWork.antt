@@ -66,7 +66,7 @@ addC w q n i s = record { square = s .square ⊕ getC w q n i .re; next = s .nex
 unfoldable pub addStep : List Float → ℕ → ℕ → ℕ → ℕ → Sums → Sums
 addStep w q n first k s = addC w q n (first + k) s
 
--- pair k + 1 is put, and then the terms of pair k are added
+-- places i + 2 and i + 3 are put, and then the terms at i and i + 1 are added: pair by pair, for i = 2 k
 pub record Lag : Type 0 where
   pub work : List Float
   pub sums : Sums
@@ -77,8 +77,11 @@ lag w s = record { work = w; sums = s }
 unfoldable pub pairStep : ℕ → ℕ → ℕ → ℕ → Float → ℕ → List Float → List Float
 pairStep r q inverse n alpha i w = putPair w r q n i (termAt w r q inverse n alpha i) (termAt w r q inverse n alpha (i + 1))
 
-unfoldable pub lagStep : ℕ → ℕ → ℕ → ℕ → Float → ℕ → Lag → Lag
-lagStep r q inverse n alpha k a =
+unfoldable pub lagAt : ℕ → ℕ → ℕ → ℕ → Float → ℕ → Lag → Lag
+lagAt r q inverse n alpha i a =
     lag
-    (pairStep r q inverse n alpha (2 * k + 2) (a .work))
-    (addC (pairStep r q inverse n alpha (2 * k + 2) (a .work)) q n (2 * k + 1) (addC (pairStep r q inverse n alpha (2 * k + 2) (a .work)) q n (2 * k) (a .sums)))
+    (pairStep r q inverse n alpha (i + 2) (a .work))
+    (addC (pairStep r q inverse n alpha (i + 2) (a .work)) q n (i + 1) (addC (pairStep r q inverse n alpha (i + 2) (a .work)) q n i (a .sums)))
+
+unfoldable pub lagStep : ℕ → ℕ → ℕ → ℕ → Float → ℕ → Lag → Lag
+lagStep r q inverse n alpha k a = lagAt r q inverse n alpha (2 * k) a

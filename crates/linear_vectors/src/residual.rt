@@ -12,7 +12,7 @@ ghost use Rattle.linear_cells.specs.Iter.{iter};
 ghost use Rattle.linear_cells.specs.Cell.{setC};
 ghost use Rattle.linear_vectors.specs.Vectors.{subScaled};
 ghost use Rattle.linear_vectors.specs.Residual.{productsAt};
-ghost use Rattle.linear_vectors.specs.ResidualWork.{ReduceRoom, Reduced, TermIn, termAt, putTerm, termStep, pairStep, addC, addStep, lag, lagStep, noSums};
+ghost use Rattle.linear_vectors.specs.ResidualWork.{ReduceRoom, Reduced, TermIn, termAt, putTerm, termStep, pairStep, addC, addStep, lag, lagAt, lagStep, noSums};
 
 // A residual's product with itself, and with the preconditioned residual.
 pub struct Sums {
@@ -135,7 +135,7 @@ fn add_cells(work: &[f64], q: usize, n: usize, first: usize, count: usize, s: Su
     t
 }
 
-// Pair k + 1 is reduced, and the products of pair k are added.
+// Places i + 2 and i + 3 are reduced, and the products at i and i + 1 are added.
 fn lag_at(
     work: &mut [f64],
     r: usize,
@@ -143,19 +143,19 @@ fn lag_at(
     inverse: usize,
     n: usize,
     alpha: f64,
-    k: usize,
+    i: usize,
     s: Sums,
 ) -> Sums
-    requires { ⌜ TermIn (length (now work)) r q inverse n (2 * k + 3) ⌝ }
-    ensures { λ t. ⌜ lag (now (work .exit)) t ≡ lagStep r q inverse n alpha k (lag (now (work .entry)) s) ⌝ }
+    requires { ⌜ TermIn (length (now work)) r q inverse n (i + 3) ⌝ }
+    ensures { λ t. ⌜ lag (now (work .exit)) t ≡ lagAt r q inverse n alpha i (lag (now (work .entry)) s) ⌝ }
 {
-    let i = 2 * k;
     pair_at(work, r, q, inverse, n, alpha, i + 2);
     let t = add_cell(work, q, n, i, s);
     add_cell(work, q, n, i + 1, t)
 }
 
-// Pairs 1 to `count`, with the sums one pair behind: so that the chain of additions waits for no store.
+// Pairs 1 to `count`, with the sums one pair behind: so that the chain of additions waits for no store. The loop counts by the place, which the
+// compiler then keeps in one register as the index of all that is loaded and stored.
 fn lagged(
     work: &mut [f64],
     r: usize,
@@ -168,12 +168,15 @@ fn lagged(
     requires { ⌜ ReduceRoom (length (now work)) r q inverse n × (2 * count + 2 ≤ n) ⌝ }
     ensures { λ t. ⌜ lag (now (work .exit)) t ≡ iter (lagStep r q inverse n alpha) count (lag (now (work .entry)) noSums) ⌝ }
 {
+    let end = 2 * count;
     let mut s = Sums {
         square: 0.0,
         next: 0.0,
     };
-    for k in 0..count {
-        s = lag_at(work, r, q, inverse, n, alpha, k, s);
+    let mut i = 0;
+    while i < end {
+        s = lag_at(work, r, q, inverse, n, alpha, i, s);
+        i = i + 2;
     }
     s
 }

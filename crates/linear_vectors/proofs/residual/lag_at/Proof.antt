@@ -4,9 +4,6 @@ use borrow.Author.Needs.{needs}
 use Rattle.linear_vectors.proofs.residual.lag_at.Statement.{statement}
 use Rattle.linear_vectors.proofs.residual.lag_at.Tie as tie
 
-mul-i : tie.Need-mul-i
-mul-i c = search needs
-
 add-pair-at : tie.Need-add-pair-at
 add-pair-at c = search needs
 
@@ -32,7 +29,6 @@ pub lag-at-spec : {M : Type 1} → statement M
 lag-at-spec =
     tie.close
     (tie.spec
-    mul-i
     add-pair-at
     pair-at-requires
     add-cell-requires

@@ -1,7 +1,7 @@
 -- `linear_vectors::residual::lagged` meets its contract: the loop keeps what `Inv-loop` says, and what is left to do falls at each iteration; the laws are in proofs/Sweeps.
 use Rattle.linear_vectors.proofs.Sweeps.{lagTo, lag-none, lag-again, lag-done}
 use mathlib.Core.Path.{_≡_}
-use Prim.Native.Nat.{_≤_, _-_}
+use Prim.Native.Nat.{_*_, _-_, _/_, _%_, _≤_}
 use lib.ListN.{length}
 use native.Mathlib.Omega.{arith}
 use Rattle.linear_vectors.specs.ResidualWork.{lag}
@@ -9,23 +9,27 @@ use borrow.Author.Needs.{needs}
 use Rattle.linear_vectors.proofs.residual.lagged.Statement.{statement}
 use Rattle.linear_vectors.proofs.residual.lagged.Tie as tie
 
+-- an even number of places is added up
 abbrev Inv-loop : tie.InvT-loop
-Inv-loop work₀ r q inverse n alpha count s₀ k₀ work s k = (k ≤ count) × (length work ≡ length work₀) × (lag work s ≡ lagTo work₀ r q inverse n alpha k)
+Inv-loop work₀ r q inverse n alpha count end s₀ i₀ work s i = (end ≡ 2 * count) × (i ≤ end) × (i % 2 ≡ 0) × (length work ≡ length work₀) × (lag work s ≡ lagTo work₀ r q inverse n alpha (i / 2))
 
 abbrev μ-loop : tie.MeasureT-loop
-μ-loop work₀ r q inverse n alpha count s₀ k₀ work s k = count - k
+μ-loop work₀ r q inverse n alpha count end s₀ i₀ work s i = end - i
+
+mul-end : tie.Need-mul-end Inv-loop μ-loop
+mul-end c = search needs
 
 loop-holds : tie.Need-loop-holds Inv-loop μ-loop
-loop-holds c = search (lag-none, needs)
+loop-holds c = (omega arith, omega arith, omega arith, omega arith, lag-none _ _ _ _ _ _)
 
 lag-at-requires : tie.Need-lag-at-requires Inv-loop μ-loop
 lag-at-requires c κs = omega arith
 
-add-k : tie.Need-add-k Inv-loop μ-loop
-add-k c = search needs
+add-i : tie.Need-add-i Inv-loop μ-loop
+add-i c = search needs
 
 loop-less : tie.Need-loop-less Inv-loop μ-loop
-loop-less c = search needs
+loop-less c = omega arith
 
 loop-again : tie.Need-loop-again Inv-loop μ-loop
 loop-again c = search (lag-again, needs)
@@ -42,9 +46,10 @@ lagged-spec =
     (tie.spec
     Inv-loop
     μ-loop
+    mul-end
     loop-holds
     lag-at-requires
-    add-k
+    add-i
     loop-less
     loop-again
     same-length
