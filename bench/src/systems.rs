@@ -50,7 +50,7 @@ impl Lent {
             work,
             from: ends(|e| e.0),
             to: ends(|e| e.1),
-            numbers: vec![0; n + 1 + 6 * m + n / 2],
+            numbers: vec![0; 2 * n + 1 + 6 * m],
             n,
         }
     }

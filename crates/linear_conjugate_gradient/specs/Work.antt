@@ -56,7 +56,7 @@ pub record EngineRoom (words : ℕ) (h : Hermitian) (l : Vectors) (t : Packing) 
   pub entries-below : t .entries + 2 * t .slots ≤ l .x
   pub starts-in : t .starts + (t .size + 1) ≤ words
   pub neighbours-in : t .neighbours + t .slots ≤ words
-  pub marks-in : t .marks + t .size / 2 ≤ words
+  pub marks-in : t .marks + t .size ≤ words
 
 -- the packed copy of the matrix stands in w and u
 pub record Engine (w : List Float) (h : Hermitian) (l : Vectors) (from to u : List ℕ) (t : Packing) : Type 0 where

@@ -101,16 +101,16 @@ module _ (len n m : ℕ) where
   unfolding roomy
   roomy-edges h = rw (le-ltb m (2 ^ 30) h) (sym (and-false (ltb n (2 ^ 32))))
 
-  pub roomy-words : n < 2 ^ 32 → m < 2 ^ 30 → leb (n + 1 + 6 * m + n / 2) len ≡ roomy len n m
+  pub roomy-words : n < 2 ^ 32 → m < 2 ^ 30 → leb (2 * n + 1 + 6 * m) len ≡ roomy len n m
   unfolding roomy
   roomy-words h g = rw (lt-ltb n (2 ^ 32) h, lt-ltb m (2 ^ 30) g)
 
   module _ (r : roomy len n m ≡ true) where
-    roomy-parts : (ltb n (2 ^ 32) ≡ true) × (ltb m (2 ^ 30) ≡ true) × (leb (n + 1 + 6 * m + n / 2) len ≡ true)
+    roomy-parts : (ltb n (2 ^ 32) ≡ true) × (ltb m (2 ^ 30) ≡ true) × (leb (2 * n + 1 + 6 * m) len ≡ true)
     unfolding roomy
     roomy-parts =
-        let p = and-true (ltb n (2 ^ 32)) (ltb m (2 ^ 30) && leb (n + 1 + 6 * m + n / 2) len) r in
-        let q = and-true (ltb m (2 ^ 30)) (leb (n + 1 + 6 * m + n / 2) len) (p .1) in
+        let p = and-true (ltb n (2 ^ 32)) (ltb m (2 ^ 30) && leb (2 * n + 1 + 6 * m) len) r in
+        let q = and-true (ltb m (2 ^ 30)) (leb (2 * n + 1 + 6 * m) len) (p .1) in
         (p .0, q .0, q .1)
 
     few-rows : n < 2 ^ 32
@@ -122,8 +122,8 @@ module _ (len n m : ℕ) where
     pub counted : (n < 2 ^ 32) × (m < 2 ^ 32)
     counted = (few-rows, omega (arith, few-edges))
 
-    pub words-in : n + 1 + 6 * m + n / 2 ≤ len
-    words-in = borrow.Author.Tests.leb-true (n + 1 + 6 * m + n / 2) len (roomy-parts .2)
+    pub words-in : 2 * n + 1 + 6 * m ≤ len
+    words-in = borrow.Author.Tests.leb-true (2 * n + 1 + 6 * m) len (roomy-parts .2)
 
     pub pack-room : PackRoom len (packingFor n m) (sourceFor n m)
     pack-room = record {
@@ -135,7 +135,7 @@ module _ (len n m : ℕ) where
       halves-in = omega arith;
       from-in = omega arith;
       to-in = omega arith;
-      marks-in = words-in;
+      marks-in = omega (arith, words-in);
       small = omega (arith, few-rows, few-edges);
     }
 

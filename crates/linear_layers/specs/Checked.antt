@@ -29,7 +29,7 @@ good len n from to = leb (10 * n + 6 * length from) len && areEdges n from to
 
 -- there is room for the packed copy of n rows and m edges, and each of its numbers is a u32 (`has_room`)
 unfoldable pub roomy : ℕ → ℕ → ℕ → Bool
-roomy len n m = ltb n (2 ^ 32) && (ltb m (2 ^ 30) && leb (n + 1 + 6 * m + n / 2) len)
+roomy len n m = ltb n (2 ^ 32) && (ltb m (2 ^ 30) && leb (2 * n + 1 + 6 * m) len)
 
 -- the diagonal, the entries off it, those of the packed copy, and the vectors, one after another from 0
 unfoldable pub matrixFor : ℕ → ℕ → Hermitian

@@ -77,7 +77,7 @@ fn has_room(numbers: &[u32], n: usize, m: usize) -> bool
     if m >= 0x4000_0000 {
         return false;
     }
-    n + 1 + 6 * m + n / 2 <= numbers.len()
+    2 * n + 1 + 6 * m <= numbers.len()
 }
 
 // Where the packed copy stands, and what it is made from.

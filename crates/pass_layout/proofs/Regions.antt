@@ -1,7 +1,9 @@
 -- The regions of a pass that fits come one after the other, and its floor is what the cells before its areas and before its counter-clockwise corners
 -- hold: it stays while nothing there is written. Assumes nothing.
-use Prim.Native.Nat.{ℕ, _+_, _*_, _≤_, _<_}
+use Prim.Native.Nat.{ℕ, _+_, _*_, _/_, _%_, _≤_, _<_}
+use native.Mathlib.Decide.{ℕ-discrete}
 use native.Mathlib.Omega.{arith}
+use borrow.Author.Tests.{lt-ltb, le-ltb}
 use mathlib.Core.Path.{_≡_, refl}
 use mathlib.Core.List.{List}
 use lib.ListN.{getD}
@@ -12,9 +14,37 @@ use Rattle.linear_packing.specs.Pack.{PackRoom}
 use Rattle.edges.proofs.Numbering.{tris-same}
 use Rattle.pass_layout.specs.declared.Base.{Base}
 use Rattle.pass_layout.specs.declared.Layout.{Layout}
-use Rattle.pass_layout.specs.Layout.{layoutOf, Fits, Ordered}
+use Rattle.pass_layout.specs.Layout.{strideOf, layoutOf, Fits, Ordered}
 use Rattle.pass_layout.specs.Matrices.{packingAt, sourceAt, Countable}
 use Rattle.pass_layout.specs.Work.{floorIn}
+
+-- the two branches of the stride
+pub stride-none : (n : ℕ) → n < 512 → 2 * n ≡ strideOf n
+unfolding strideOf
+stride-none n l = rw (lt-ltb n 512 l)
+
+pub stride-gap : (n : ℕ) → 512 ≤ n → 2 * n + (104 + 510 * n) % 512 ≡ strideOf n
+unfolding strideOf
+stride-gap n l = rw (le-ltb n 512 l)
+
+-- two successive vectors do not overlap, and the gap between them is shorter than half of a vector
+pub stride-long : (n : ℕ) → 2 * n ≤ strideOf n
+stride-long n = long (ℕ-discrete (n / 512) 0)
+  where
+    long : Dec (n / 512 ≡ 0) → 2 * n ≤ strideOf n
+    long (yes z) = omega (arith, stride-none n (omega arith))
+    long (no f) = omega (arith, stride-gap n (omega (arith, f)))
+
+pub stride-short : (n : ℕ) → strideOf n ≤ 3 * n
+stride-short n = short (ℕ-discrete (n / 512) 0)
+  where
+    short : Dec (n / 512 ≡ 0) → strideOf n ≤ 3 * n
+    short (yes z) = omega (arith, stride-none n (omega arith))
+    short (no f) = omega (arith, stride-gap n (omega (arith, f)))
+
+-- what the gap is for
+pub stride-apart : (n : ℕ) → 512 ≤ n → strideOf n % 512 ≡ 104
+stride-apart n l = omega (arith, stride-gap n l)
 
 pub fits-ordered : (at : Base) {reals words : ℕ} → Fits at reals words → Ordered (layoutOf at) reals words
 unfolding layoutOf
@@ -35,11 +65,11 @@ fits-ordered at f = record {
   energy-off-in = omega arith;
   packed-in = omega arith;
   targets-in = omega arith;
-  iterate-in = omega arith;
-  residual-in = omega arith;
-  direction-in = omega arith;
-  applied-in = omega arith;
-  inverse-in = omega (arith, f .reals-fit);
+  iterate-in = omega (arith, stride-long (at .points));
+  residual-in = omega (arith, stride-long (at .points));
+  direction-in = omega (arith, stride-long (at .points));
+  applied-in = omega (arith, stride-long (at .points));
+  inverse-in = omega (arith, f .reals-fit, stride-short (at .points));
   given-in = omega arith;
   wound-in = omega arith;
   numbers-in = omega arith;

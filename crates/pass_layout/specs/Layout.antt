@@ -1,19 +1,26 @@
 -- Where the regions of a pass stand, and that they come one after the other within the room that document 01 lends. Definitions only.
 -- b and c are where the pass begins in the f64 and in the u32 work, n its points and t its triangles. A floor of t triangles has at most 3 t edges.
-use Prim.Native.Nat.{ℕ, _+_, _*_, _/_, _^_, _≤_, _<_}
+use Prim.Native.Nat.{ℕ, _+_, _*_, _%_, _^_, _≤_, _<_}
+use mathlib.Core.Bool.{cond}
+use lib.Dec.{ltb}
 use Rattle.pass_layout.specs.declared.Base.{Base}
 use Rattle.pass_layout.specs.declared.Layout.{Layout}
 
 -- how much of each slice a pass takes
 abbrev pub realsOf : ℕ → ℕ → ℕ
-realsOf n t = 21 * n + 31 * t
+realsOf n t = 25 * n + 31 * t
 
 abbrev pub wordsOf : ℕ → ℕ → ℕ
-wordsOf n t = 30 * t + 2 * n + 1 + n / 2
+wordsOf n t = 30 * t + 3 * n + 1
 
 -- a bucket for each point, and one more, so that there is one
 abbrev pub bucketsOf : ℕ → ℕ
 bucketsOf n = n + 1
+
+-- from where a vector of the linear solver begins to where the next one does (`stride_of`): from a page of 512 (PAGE) numbers on, the next begins 104 (APART)
+-- numbers further on in its page
+unfoldable pub strideOf : ℕ → ℕ
+strideOf n = cond (ltb n 512) (2 * n) (2 * n + (104 + 510 * n) % 512)
 
 unfoldable pub layoutOf : Base → Layout
 layoutOf at =
@@ -39,10 +46,10 @@ layoutOf at =
       packed = b + 10 * n + 19 * t;
       targets = b + 10 * n + 31 * t;
       iterate = b + 12 * n + 31 * t;
-      residual = b + 14 * n + 31 * t;
-      direction = b + 16 * n + 31 * t;
-      applied = b + 18 * n + 31 * t;
-      inverse = b + 20 * n + 31 * t;
+      residual = b + 12 * n + 31 * t + strideOf n;
+      direction = b + 12 * n + 31 * t + 2 * strideOf n;
+      applied = b + 12 * n + 31 * t + 3 * strideOf n;
+      inverse = b + 12 * n + 31 * t + 4 * strideOf n;
       given = c;
       wound = c + 3 * t;
       numbers = c + 6 * t;
@@ -104,5 +111,5 @@ pub record Ordered (l : Layout) (reals words : ℕ) : Type 0 where
   pub to-in : l .to + 3 * l .triangles ≤ l .counts
   pub counts-in : l .counts + 3 * l .triangles ≤ l .flags
   pub flags-in : l .flags + l .points ≤ l .marks
-  pub marks-in : l .marks + l .points / 2 ≤ words
+  pub marks-in : l .marks + l .points ≤ words
   pub low-marks : l .marks < 2 ^ 60

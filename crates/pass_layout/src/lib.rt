@@ -5,8 +5,8 @@ use linear_hermitian::Hermitian;
 use linear_packing::Packing;
 use linear_packing::Source;
 ghost use mathlib.Core.Path.{_≡_};
-ghost use Prim.Native.Nat.{_+_, _*_};
-ghost use Rattle.pass_layout.specs.Layout.{Small, layoutOf};
+ghost use Prim.Native.Nat.{_+_, _*_, _^_, _<_};
+ghost use Rattle.pass_layout.specs.Layout.{Small, strideOf, layoutOf};
 ghost use Rattle.pass_layout.specs.Matrices.{massAt, energyAt, vectorsAt, packingAt, sourceAt, Countable};
 
 // Where a pass begins in the f64 and in the u32 work, and how many points and triangles its floor has.
@@ -60,6 +60,23 @@ pub struct Layout {
     pub marks: usize,
 }
 
+// How many f64 numbers a page of memory holds, and how many of them two successive vectors of the linear solver begin apart, pages left out. Vectors
+// that begin at one place of a page compete for the same lines of the first cache, and would at 128 by 128 points, where each part of a vector fills whole pages.
+const PAGE: usize = 512;
+
+const APART: usize = 104;
+
+// From where a vector of the linear solver begins to where the next one does. Vectors of less than a page need no gap.
+fn stride_of(n: usize) -> usize
+    requires { ⌜ n < 2 ^ 24 ⌝ }
+    ensures { λ r. ⌜ r ≡ strideOf n ⌝ }
+{
+    if n < PAGE {
+        return 2 * n;
+    }
+    2 * n + (APART + (PAGE - 2) * n) % PAGE
+}
+
 pub fn layout_at(at: Base) -> Layout
     requires { ⌜ Small at ⌝ }
     ensures { λ r. ⌜ r ≡ layoutOf at ⌝ }
@@ -70,6 +87,8 @@ pub fn layout_at(at: Base) -> Layout
     let t = at.triangles;
     let buckets = n + 1;
     let behind = c + 21 * t + buckets;
+    let vectors = b + 12 * n + 31 * t;
+    let stride = stride_of(n);
     Layout {
         points: n,
         triangles: t,
@@ -87,11 +106,11 @@ pub fn layout_at(at: Base) -> Layout
         energy_off: b + 10 * n + 13 * t,
         packed: b + 10 * n + 19 * t,
         targets: b + 10 * n + 31 * t,
-        iterate: b + 12 * n + 31 * t,
-        residual: b + 14 * n + 31 * t,
-        direction: b + 16 * n + 31 * t,
-        applied: b + 18 * n + 31 * t,
-        inverse: b + 20 * n + 31 * t,
+        iterate: vectors,
+        residual: vectors + stride,
+        direction: vectors + 2 * stride,
+        applied: vectors + 3 * stride,
+        inverse: vectors + 4 * stride,
         given: c,
         wound: c + 3 * t,
         numbers: c + 6 * t,

@@ -1,7 +1,9 @@
 -- `pass_layout::layout_at` meets its contract: no sum overflows, and the fields are those of the definition, one by one.
+use native.Mathlib.Omega.{arith}
 use borrow.Author.Needs.{needs}
 use mathlib.Core.Path.{refl}
 use Rattle.pass_layout.specs.Layout.{layoutOf}
+use Rattle.pass_layout.proofs.Regions.{stride-short}
 use Rattle.pass_layout.proofs.layout_at.Statement.{statement}
 use Rattle.pass_layout.proofs.layout_at.Tie as tie
 
@@ -17,20 +19,29 @@ add-behind c = search needs
 add-behind-2 : tie.Need-add-behind-2
 add-behind-2 c = search needs
 
-add-t8 : tie.Need-add-t8
-add-t8 c = search needs
+mul-vectors : tie.Need-mul-vectors
+mul-vectors c = search needs
 
-mul-t9 : tie.Need-mul-t9
-mul-t9 c = search needs
+add-vectors : tie.Need-add-vectors
+add-vectors c = search needs
+
+mul-vectors-2 : tie.Need-mul-vectors-2
+mul-vectors-2 c = search needs
+
+add-vectors-2 : tie.Need-add-vectors-2
+add-vectors-2 c = search needs
+
+stride-of-requires : tie.Need-stride-of-requires
+stride-of-requires c κs = search needs
 
 add-t10 : tie.Need-add-t10
 add-t10 c = search needs
 
-mul-t11 : tie.Need-mul-t11
-mul-t11 c = search needs
+mul-t12 : tie.Need-mul-t12
+mul-t12 c = search needs
 
-add-t12 : tie.Need-add-t12
-add-t12 c = search needs
+add-t11 : tie.Need-add-t11
+add-t11 c = search needs
 
 mul-t13 : tie.Need-mul-t13
 mul-t13 c = search needs
@@ -50,20 +61,20 @@ mul-t17 c = search needs
 add-t18 : tie.Need-add-t18
 add-t18 c = search needs
 
-add-t19 : tie.Need-add-t19
-add-t19 c = search needs
+mul-t19 : tie.Need-mul-t19
+mul-t19 c = search needs
 
-mul-t20 : tie.Need-mul-t20
-mul-t20 c = search needs
+add-t20 : tie.Need-add-t20
+add-t20 c = search needs
 
 add-t21 : tie.Need-add-t21
 add-t21 c = search needs
 
-add-t22 : tie.Need-add-t22
-add-t22 c = search needs
+mul-t22 : tie.Need-mul-t22
+mul-t22 c = search needs
 
-mul-t23 : tie.Need-mul-t23
-mul-t23 c = search needs
+add-t23 : tie.Need-add-t23
+add-t23 c = search needs
 
 add-t24 : tie.Need-add-t24
 add-t24 c = search needs
@@ -140,108 +151,75 @@ mul-t47 c = search needs
 add-t48 : tie.Need-add-t48
 add-t48 c = search needs
 
-mul-t49 : tie.Need-mul-t49
-mul-t49 c = search needs
+add-t49 : tie.Need-add-t49
+add-t49 c = omega (arith, c .stride-of .ensures, stride-short (c .before .args .at .points), c .before .pre .reals-small, c .before .pre .points-small, c .before .pre .triangles-small)
 
-add-t50 : tie.Need-add-t50
-add-t50 c = search needs
+mul-t50 : tie.Need-mul-t50
+mul-t50 c = omega (arith, c .stride-of .ensures, stride-short (c .before .args .at .points), c .before .pre .reals-small, c .before .pre .points-small, c .before .pre .triangles-small)
 
-mul-t51 : tie.Need-mul-t51
-mul-t51 c = search needs
+add-t51 : tie.Need-add-t51
+add-t51 c = omega (arith, c .stride-of .ensures, stride-short (c .before .args .at .points), c .before .pre .reals-small, c .before .pre .points-small, c .before .pre .triangles-small)
 
-add-t52 : tie.Need-add-t52
-add-t52 c = search needs
+mul-t52 : tie.Need-mul-t52
+mul-t52 c = omega (arith, c .stride-of .ensures, stride-short (c .before .args .at .points), c .before .pre .reals-small, c .before .pre .points-small, c .before .pre .triangles-small)
 
-mul-t53 : tie.Need-mul-t53
-mul-t53 c = search needs
+add-t53 : tie.Need-add-t53
+add-t53 c = omega (arith, c .stride-of .ensures, stride-short (c .before .args .at .points), c .before .pre .reals-small, c .before .pre .points-small, c .before .pre .triangles-small)
 
-add-t54 : tie.Need-add-t54
-add-t54 c = search needs
+mul-t54 : tie.Need-mul-t54
+mul-t54 c = omega (arith, c .stride-of .ensures, stride-short (c .before .args .at .points), c .before .pre .reals-small, c .before .pre .points-small, c .before .pre .triangles-small)
 
-mul-t55 : tie.Need-mul-t55
-mul-t55 c = search needs
+add-t55 : tie.Need-add-t55
+add-t55 c = omega (arith, c .stride-of .ensures, stride-short (c .before .args .at .points), c .before .pre .reals-small, c .before .pre .points-small, c .before .pre .triangles-small)
 
-add-t56 : tie.Need-add-t56
-add-t56 c = search needs
+mul-t56 : tie.Need-mul-t56
+mul-t56 c = search needs
 
-mul-t57 : tie.Need-mul-t57
-mul-t57 c = search needs
+add-t57 : tie.Need-add-t57
+add-t57 c = search needs
 
-add-t58 : tie.Need-add-t58
-add-t58 c = search needs
+mul-t58 : tie.Need-mul-t58
+mul-t58 c = search needs
 
-mul-t59 : tie.Need-mul-t59
-mul-t59 c = search needs
+add-t59 : tie.Need-add-t59
+add-t59 c = search needs
 
-add-t60 : tie.Need-add-t60
-add-t60 c = search needs
+mul-t60 : tie.Need-mul-t60
+mul-t60 c = search needs
 
-mul-t61 : tie.Need-mul-t61
-mul-t61 c = search needs
+add-t61 : tie.Need-add-t61
+add-t61 c = search needs
 
-add-t62 : tie.Need-add-t62
-add-t62 c = search needs
+mul-t62 : tie.Need-mul-t62
+mul-t62 c = search needs
 
-mul-t63 : tie.Need-mul-t63
-mul-t63 c = search needs
+add-t63 : tie.Need-add-t63
+add-t63 c = search needs
 
-add-t64 : tie.Need-add-t64
-add-t64 c = search needs
+mul-t64 : tie.Need-mul-t64
+mul-t64 c = search needs
 
-mul-t65 : tie.Need-mul-t65
-mul-t65 c = search needs
+add-t65 : tie.Need-add-t65
+add-t65 c = search needs
 
-add-t66 : tie.Need-add-t66
-add-t66 c = search needs
+mul-t66 : tie.Need-mul-t66
+mul-t66 c = search needs
 
-mul-t67 : tie.Need-mul-t67
-mul-t67 c = search needs
+add-t67 : tie.Need-add-t67
+add-t67 c = search needs
 
-add-t68 : tie.Need-add-t68
-add-t68 c = search needs
+mul-t68 : tie.Need-mul-t68
+mul-t68 c = search needs
 
-mul-t69 : tie.Need-mul-t69
-mul-t69 c = search needs
+add-t69 : tie.Need-add-t69
+add-t69 c = search needs
 
 add-t70 : tie.Need-add-t70
 add-t70 c = search needs
 
-mul-t71 : tie.Need-mul-t71
-mul-t71 c = search needs
-
-add-t72 : tie.Need-add-t72
-add-t72 c = search needs
-
-mul-t73 : tie.Need-mul-t73
-mul-t73 c = search needs
-
-add-t74 : tie.Need-add-t74
-add-t74 c = search needs
-
-mul-t75 : tie.Need-mul-t75
-mul-t75 c = search needs
-
-add-t76 : tie.Need-add-t76
-add-t76 c = search needs
-
-mul-t77 : tie.Need-mul-t77
-mul-t77 c = search needs
-
-add-t78 : tie.Need-add-t78
-add-t78 c = search needs
-
-mul-t79 : tie.Need-mul-t79
-mul-t79 c = search needs
-
-add-t80 : tie.Need-add-t80
-add-t80 c = search needs
-
-add-t81 : tie.Need-add-t81
-add-t81 c = search needs
-
 returns : tie.Need-returns
 unfolding layoutOf
-returns c = refl
+returns c = rw (c .stride-of .ensures) refl
 
 pub layout-at-spec : {M : Type 1} → statement M
 layout-at-spec =
@@ -251,22 +229,25 @@ layout-at-spec =
     mul-behind
     add-behind
     add-behind-2
-    add-t8
-    mul-t9
+    mul-vectors
+    add-vectors
+    mul-vectors-2
+    add-vectors-2
+    stride-of-requires
     add-t10
-    mul-t11
-    add-t12
+    mul-t12
+    add-t11
     mul-t13
     add-t14
     mul-t15
     add-t16
     mul-t17
     add-t18
-    add-t19
-    mul-t20
+    mul-t19
+    add-t20
     add-t21
-    add-t22
-    mul-t23
+    mul-t22
+    add-t23
     add-t24
     mul-t25
     add-t26
@@ -292,37 +273,26 @@ layout-at-spec =
     add-t46
     mul-t47
     add-t48
-    mul-t49
-    add-t50
-    mul-t51
-    add-t52
-    mul-t53
-    add-t54
-    mul-t55
-    add-t56
-    mul-t57
-    add-t58
-    mul-t59
-    add-t60
-    mul-t61
-    add-t62
-    mul-t63
-    add-t64
-    mul-t65
-    add-t66
-    mul-t67
-    add-t68
-    mul-t69
+    add-t49
+    mul-t50
+    add-t51
+    mul-t52
+    add-t53
+    mul-t54
+    add-t55
+    mul-t56
+    add-t57
+    mul-t58
+    add-t59
+    mul-t60
+    add-t61
+    mul-t62
+    add-t63
+    mul-t64
+    add-t65
+    mul-t66
+    add-t67
+    mul-t68
+    add-t69
     add-t70
-    mul-t71
-    add-t72
-    mul-t73
-    add-t74
-    mul-t75
-    add-t76
-    mul-t77
-    add-t78
-    mul-t79
-    add-t80
-    add-t81
     returns)
