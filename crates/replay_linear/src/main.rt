@@ -195,7 +195,8 @@ fn solved(work: &mut [f64], from: &[u32], to: &[u32], row: &[u8], n: usize, m: u
     let x = n + 6 * m;
     load_all(work, row, n, m, x + 2 * n);
     let most = rows::count(row, 4, 6000);
-    let mut numbers = [0u32; 265];
+    // What linear_layers asks for at 16 rows and 40 edges: 2 n + 1 + 6 m.
+    let mut numbers = [0u32; 273];
     let c = solve(
         work,
         n,
