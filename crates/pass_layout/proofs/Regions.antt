@@ -1,6 +1,6 @@
 -- The regions of a pass that fits come one after the other, and its floor is what the cells before its areas and before its counter-clockwise corners
 -- hold: it stays while nothing there is written. Assumes nothing.
-use Prim.Native.Nat.{ℕ, _+_, _*_, _/_, _%_, _≤_, _<_}
+use Prim.Native.Nat.{ℕ, _+_, _*_, _/_, _%_, _^_, _≤_, _<_}
 use native.Mathlib.Decide.{ℕ-discrete}
 use native.Mathlib.Omega.{arith}
 use borrow.Author.Tests.{lt-ltb, le-ltb}
@@ -14,7 +14,7 @@ use Rattle.linear_packing.specs.Pack.{PackRoom}
 use Rattle.edges.proofs.Numbering.{tris-same}
 use Rattle.pass_layout.specs.declared.Base.{Base}
 use Rattle.pass_layout.specs.declared.Layout.{Layout}
-use Rattle.pass_layout.specs.Layout.{strideOf, layoutOf, Fits, Ordered}
+use Rattle.pass_layout.specs.Layout.{Small, strideOf, layoutOf, Fits, Ordered}
 use Rattle.pass_layout.specs.Matrices.{packingAt, sourceAt, Countable}
 use Rattle.pass_layout.specs.Work.{floorIn}
 
@@ -27,22 +27,19 @@ pub stride-gap : (n : ℕ) → 512 ≤ n → 2 * n + (104 + 510 * n) % 512 ≡ s
 unfolding strideOf
 stride-gap n l = rw (le-ltb n 512 l)
 
--- two successive vectors do not overlap, and the gap between them is shorter than half of a vector
-pub stride-long : (n : ℕ) → 2 * n ≤ strideOf n
-stride-long n = long (ℕ-discrete (n / 512) 0)
+-- two successive vectors do not overlap, and the gap between them is at most half as long as a vector
+pub stride-between : (n : ℕ) → (2 * n ≤ strideOf n) × (strideOf n ≤ 3 * n)
+stride-between n = between (ℕ-discrete (n / 512) 0)
   where
-    long : Dec (n / 512 ≡ 0) → 2 * n ≤ strideOf n
-    long (yes z) = omega (arith, stride-none n (omega arith))
-    long (no f) = omega (arith, stride-gap n (omega (arith, f)))
+    between : Dec (n / 512 ≡ 0) → (2 * n ≤ strideOf n) × (strideOf n ≤ 3 * n)
+    between (yes z) = let e : 2 * n ≡ strideOf n = stride-none n (omega arith) in (omega arith, omega arith)
+    between (no f) = let e : 2 * n + (104 + 510 * n) % 512 ≡ strideOf n = stride-gap n (omega (arith, f)) in (omega arith, omega (arith, f))
 
-pub stride-short : (n : ℕ) → strideOf n ≤ 3 * n
-stride-short n = short (ℕ-discrete (n / 512) 0)
-  where
-    short : Dec (n / 512 ≡ 0) → strideOf n ≤ 3 * n
-    short (yes z) = omega (arith, stride-none n (omega arith))
-    short (no f) = omega (arith, stride-gap n (omega (arith, f)))
+-- no place of a vector overflows
+pub vectors-fit : (at : Base) → Small at → {stride : ℕ} → stride ≡ strideOf (at .points) → at .reals + 12 * at .points + 31 * at .triangles + 4 * stride < 2 ^ 40
+vectors-fit at p e = omega (arith, stride-between (at .points) .1, p .reals-small, p .points-small, p .triangles-small)
 
--- what the gap is for
+-- what the gap is for: the second of two successive vectors begins 104 numbers further on in its page
 pub stride-apart : (n : ℕ) → 512 ≤ n → strideOf n % 512 ≡ 104
 stride-apart n l = omega (arith, stride-gap n l)
 
@@ -65,11 +62,11 @@ fits-ordered at f = record {
   energy-off-in = omega arith;
   packed-in = omega arith;
   targets-in = omega arith;
-  iterate-in = omega (arith, stride-long (at .points));
-  residual-in = omega (arith, stride-long (at .points));
-  direction-in = omega (arith, stride-long (at .points));
-  applied-in = omega (arith, stride-long (at .points));
-  inverse-in = omega (arith, f .reals-fit, stride-short (at .points));
+  iterate-in = omega (arith, stride-between (at .points) .0);
+  residual-in = omega (arith, stride-between (at .points) .0);
+  direction-in = omega (arith, stride-between (at .points) .0);
+  applied-in = omega (arith, stride-between (at .points) .0);
+  inverse-in = omega (arith, f .reals-fit, stride-between (at .points) .1);
   given-in = omega arith;
   wound-in = omega arith;
   numbers-in = omega arith;

@@ -6,7 +6,7 @@ use lib.Dec.{ltb}
 use Rattle.pass_layout.specs.declared.Base.{Base}
 use Rattle.pass_layout.specs.declared.Layout.{Layout}
 
--- how much of each slice a pass takes
+-- how much of each slice a pass takes, at most
 abbrev pub realsOf : ℕ → ℕ → ℕ
 realsOf n t = 25 * n + 31 * t
 

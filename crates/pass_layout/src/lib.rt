@@ -60,10 +60,10 @@ pub struct Layout {
     pub marks: usize,
 }
 
-// How many f64 numbers a page of memory holds, and how many of them two successive vectors of the linear solver begin apart, pages left out. Vectors
-// that begin at one place of a page compete for the same lines of the first cache, and would at 128 by 128 points, where each part of a vector fills whole pages.
+// How many f64 numbers a page of memory holds.
 const PAGE: usize = 512;
-
+// How much further on in its page a vector of the linear solver begins than the one before it. Vectors that begin at one place of a page compete for the
+// same lines of the first cache; without gaps they would at 128 by 128 points, where each part of a vector fills whole pages.
 const APART: usize = 104;
 
 // From where a vector of the linear solver begins to where the next one does. Vectors of less than a page need no gap.

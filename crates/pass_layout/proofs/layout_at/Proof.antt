@@ -3,7 +3,7 @@ use native.Mathlib.Omega.{arith}
 use borrow.Author.Needs.{needs}
 use mathlib.Core.Path.{refl}
 use Rattle.pass_layout.specs.Layout.{layoutOf}
-use Rattle.pass_layout.proofs.Regions.{stride-short}
+use Rattle.pass_layout.proofs.Regions.{vectors-fit}
 use Rattle.pass_layout.proofs.layout_at.Statement.{statement}
 use Rattle.pass_layout.proofs.layout_at.Tie as tie
 
@@ -152,25 +152,25 @@ add-t48 : tie.Need-add-t48
 add-t48 c = search needs
 
 add-t49 : tie.Need-add-t49
-add-t49 c = omega (arith, c .stride-of .ensures, stride-short (c .before .args .at .points), c .before .pre .reals-small, c .before .pre .points-small, c .before .pre .triangles-small)
+add-t49 c = omega (arith, vectors-fit (c .before .args .at) (c .before .pre) (c .stride-of .ensures))
 
 mul-t50 : tie.Need-mul-t50
-mul-t50 c = omega (arith, c .stride-of .ensures, stride-short (c .before .args .at .points), c .before .pre .reals-small, c .before .pre .points-small, c .before .pre .triangles-small)
+mul-t50 c = omega (arith, vectors-fit (c .before .args .at) (c .before .pre) (c .stride-of .ensures))
 
 add-t51 : tie.Need-add-t51
-add-t51 c = omega (arith, c .stride-of .ensures, stride-short (c .before .args .at .points), c .before .pre .reals-small, c .before .pre .points-small, c .before .pre .triangles-small)
+add-t51 c = omega (arith, vectors-fit (c .before .args .at) (c .before .pre) (c .stride-of .ensures))
 
 mul-t52 : tie.Need-mul-t52
-mul-t52 c = omega (arith, c .stride-of .ensures, stride-short (c .before .args .at .points), c .before .pre .reals-small, c .before .pre .points-small, c .before .pre .triangles-small)
+mul-t52 c = omega (arith, vectors-fit (c .before .args .at) (c .before .pre) (c .stride-of .ensures))
 
 add-t53 : tie.Need-add-t53
-add-t53 c = omega (arith, c .stride-of .ensures, stride-short (c .before .args .at .points), c .before .pre .reals-small, c .before .pre .points-small, c .before .pre .triangles-small)
+add-t53 c = omega (arith, vectors-fit (c .before .args .at) (c .before .pre) (c .stride-of .ensures))
 
 mul-t54 : tie.Need-mul-t54
-mul-t54 c = omega (arith, c .stride-of .ensures, stride-short (c .before .args .at .points), c .before .pre .reals-small, c .before .pre .points-small, c .before .pre .triangles-small)
+mul-t54 c = omega (arith, vectors-fit (c .before .args .at) (c .before .pre) (c .stride-of .ensures))
 
 add-t55 : tie.Need-add-t55
-add-t55 c = omega (arith, c .stride-of .ensures, stride-short (c .before .args .at .points), c .before .pre .reals-small, c .before .pre .points-small, c .before .pre .triangles-small)
+add-t55 c = omega (arith, vectors-fit (c .before .args .at) (c .before .pre) (c .stride-of .ensures))
 
 mul-t56 : tie.Need-mul-t56
 mul-t56 c = search needs
