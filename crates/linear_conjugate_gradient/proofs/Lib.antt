@@ -4,5 +4,4 @@ pub mod Passes
 pub mod Iterations
 pub mod Runs
 pub mod Mass
-pub mod Lengths
-pub mod Fresh
+pub mod Method

@@ -17,7 +17,8 @@ use Rattle.linear_hermitian.proofs.Product.{length-applied}
 use Rattle.linear_vectors.specs.Vectors.{scaledBy}
 use Rattle.linear_conjugate_gradient.specs.declared.Normalized.the-variants as normalized
 use Rattle.linear_conjugate_gradient.specs.declared.Reason.the-variants.{MassOfIterate}
-use Rattle.linear_conjugate_gradient.specs.Solve.{massOf, normalizedAnswer, normalizedVector}
+use Rattle.linear_conjugate_gradient.specs.Method.{massSquared}
+use Rattle.linear_conjugate_gradient.specs.Solve.{normalizedAnswer, normalizedVector}
 use Rattle.linear_conjugate_gradient.specs.Work.{InMass}
 
 module _ (w : List Float) (x y : ℕ) (h : Hermitian) (m : Matrix) (ok : ApplyRoom (length w) h x y) {w₁ : List Float}
@@ -34,17 +35,17 @@ module _ (w : List Float) (x y : ℕ) (h : Hermitian) (m : Matrix) (ok : ApplyRo
   x-stays : regionC w₁ x n ≡ regionC w x n
   x-stays = ap (λ t. regionC t x n) e₁ ∙ regionC-else w y v length-v x n (ok .edges-room .y-x)
 
-  squared-is : d ≡ massOf m (regionC w x n)
-  unfolding massOf
+  squared-is : d ≡ massSquared m (regionC w x n)
+  unfolding massSquared
   squared-is = ed ∙ rw (x-stays, e₁, regionC-putC w y v length-v (ok .edges-room .y-in))
 
-  mass-not-positive : notPositive (massOf m (regionC w x n)) ≡ b
+  mass-not-positive : notPositive (massSquared m (regionC w x n)) ≡ b
   mass-not-positive = ap (λ t. notPositive t) (sym squared-is) ∙ sym eb
 
   pub normalize-not : b ≡ true → InMass w w₁ x y (h .size) m (normalized.GaveUp MassOfIterate)
   unfolding normalizedAnswer normalizedVector
   normalize-not t =
-      let q : notPositive (massOf m (regionC w x n)) ≡ true = mass-not-positive ∙ t in
+      let q : notPositive (massSquared m (regionC w x n)) ≡ true = mass-not-positive ∙ t in
       record {
         work = rw q (sym (ap (λ u. putC (putC w y v) x u) (sym x-stays ∙ ap (λ t. regionC t x n) e₁) ∙ putC-regionC (putC w y v) x n ∙ sym e₁));
         result = rw q;
@@ -54,6 +55,6 @@ module _ (w : List Float) (x y : ℕ) (h : Hermitian) (m : Matrix) (ok : ApplyRo
       → InMass w w₂ x y (h .size) m normalized.Done
   unfolding normalizedAnswer normalizedVector
   normalize-done t {r} {k} er ek e₂ =
-      let q : notPositive (massOf m (regionC w x n)) ≡ false = mass-not-positive ∙ t in
-      let kk : k ≡ recipOf (rootOf (massOf m (regionC w x n))) = ek ∙ ap (λ u. recipOf u) (er ∙ ap rootOf squared-is) in
+      let q : notPositive (massSquared m (regionC w x n)) ≡ false = mass-not-positive ∙ t in
+      let kk : k ≡ recipOf (rootOf (massSquared m (regionC w x n))) = ek ∙ ap (λ u. recipOf u) (er ∙ ap rootOf squared-is) in
       record { work = e₂ ∙ rw (x-stays, e₁, kk, q); result = rw q }

@@ -22,7 +22,8 @@ use Rattle.linear_conjugate_gradient.specs.declared.Progress.the-variant
 use Rattle.linear_conjugate_gradient.specs.declared.Reason.the-variants.{RightHandNorm, Diagonal, FirstResidual, CountSpent}
 use Rattle.linear_conjugate_gradient.specs.declared.Answer.{Answer}
 use Rattle.linear_conjugate_gradient.specs.declared.Answer.the-variants.{GaveUp}
-use Rattle.linear_conjugate_gradient.specs.Solve.{State, Outcome, firstNotPositive, begun, residualDot, iterationOf, answerOf, after, run, started, solved}
+use Rattle.linear_conjugate_gradient.specs.Method.{firstNotPositive}
+use Rattle.linear_conjugate_gradient.specs.Solve.{State, Outcome, begun, residualDot, iterationOf, answerOf, after, run, started, solved}
 use Rattle.linear_conjugate_gradient.specs.Work.{read, lay, SolverRoom, Begun, Ended, Solved}
 use Rattle.linear_conjugate_gradient.proofs.Lays.{Sized, read-sized, lay-read, get-all, get-matrix, lay-then}
 use Rattle.linear_conjugate_gradient.proofs.Iterations.{begun-sized, iteration-sized}

@@ -10,7 +10,7 @@ use lib.ListN.{length, getD}
 use Rattle.float.specs.Double.{notPositive}
 use Rattle.linear_cells.specs.Region.{region}
 use Rattle.linear_cells.proofs.Regions.{length-region, getD-region}
-use Rattle.linear_conjugate_gradient.specs.Solve.{firstNotPositive}
+use Rattle.linear_conjugate_gradient.specs.Method.{firstNotPositive}
 
 -- ---- the first value that is not positive
 

@@ -3,10 +3,11 @@ use Prim.Native.Nat.{ℕ}
 use Rattle.linear_conjugate_gradient.specs.declared.Reason.{Reason}
 use Rattle.linear_conjugate_gradient.specs.declared.Reason.the-variants.{RightHandNorm, Diagonal, FirstResidual, Denominator, LostDefiniteness, CountSpent, MassOfIterate}
 
--- no refusal of this layer has another number
+-- the row of the table: no refusal of this layer has another
 abbrev pub number : Reason → ℕ
 number r = 24
 
+-- document 01's reasons of row 24, by their numbers
 unfoldable pub reason : Reason → ℕ
 reason RightHandNorm = 3
 reason (Diagonal i) = 4

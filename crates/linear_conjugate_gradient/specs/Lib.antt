@@ -1,4 +1,5 @@
+pub mod Found
+pub mod Method
 pub mod Solve
 pub mod Answer
-pub mod Found
 pub mod Work

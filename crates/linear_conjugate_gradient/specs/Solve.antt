@@ -1,8 +1,8 @@
--- The Rust's `conjugate_gradient` and `normalize_in_mass`, over lists of complex numbers, with every operation in its order. Definitions only.
--- Each also says what it leaves in every vector, whatever it answers.
+-- The memory form of conjugate gradients, which the contracts use: Method.antt's steps, with the answer as the code's enum and with what stands in every
+-- vector at the end, whatever the answer. proofs/Method.antt proves that what it finds is `conjugateGradient` of Method.antt. Definitions only.
 use Prim.Native.Nat.{ℕ, zero, suc}
 use mathlib.Core.Bool.{cond}
-use mathlib.Core.List.{List, [], _∷_}
+use mathlib.Core.List.{List}
 use lib.Dec.{ltb}
 use lib.ListN.{length, replicate}
 use lib.Ieee.{Float, le}
@@ -13,6 +13,7 @@ use Rattle.complex.specs.Complex.{czero}
 use Rattle.linear_hermitian.specs.Hermitian.{Matrix, dotOf, normOf, scaled, applied}
 use Rattle.linear_vectors.specs.Vectors.{zipOf, addScaled, subScaled, recipsOf, scaledBy}
 use Rattle.linear_vectors.specs.Residual.{productsOf}
+use Rattle.linear_conjugate_gradient.specs.Method.{firstNotPositive}
 use Rattle.linear_conjugate_gradient.specs.declared.Reason.the-variants.{RightHandNorm, Diagonal, FirstResidual, Denominator, LostDefiniteness, CountSpent, MassOfIterate}
 use Rattle.linear_conjugate_gradient.specs.declared.Answer.{Answer}
 use Rattle.linear_conjugate_gradient.specs.declared.Answer.the-variants.{Iterate, GaveUp}
@@ -21,13 +22,9 @@ use Rattle.linear_conjugate_gradient.specs.declared.Normalized.the-varia
 use Rattle.linear_conjugate_gradient.specs.declared.Progress.{Progress}
 use Rattle.linear_conjugate_gradient.specs.declared.Progress.the-variants.{Going, Converged, Broken}
 
--- the first index whose value is not positive, or the length where there is none
-unfoldable pub firstNotPositive : List Float → ℕ
-firstNotPositive [] = 0
-firstNotPositive (v ∷ d) = cond (notPositive v) 0 (suc (firstNotPositive d))
-
 -- ---- the vectors: the iterate, the residual, the direction, the matrix times the direction, and the inverse diagonal
 
+-- every vector that the code keeps
 pub record State : Type 0 where
   pub x : List Complex
   pub r : List Complex
@@ -35,10 +32,11 @@ pub record State : Type 0 where
   pub q : List Complex
   pub inverse : List Float
 
--- the residual times the inverse diagonal, and its product with the residual
+-- the residual times the inverse diagonal
 unfoldable pub preconditioned : State → List Complex
 preconditioned s = scaled (s .inverse) (s .r)
 
+-- its product with the residual
 unfoldable pub residualDot : State → Float
 residualDot s = dotOf (preconditioned s) (s .r) .re
 
@@ -58,6 +56,7 @@ begun diagonal s = record {
 unfoldable pub multiplied : Matrix → State → State
 multiplied m s = record { x = s .x; r = s .r; p = s .p; q = applied m (s .p); inverse = s .inverse }
 
+-- the direction's product with the matrix times it
 unfoldable pub denominator : State → Float
 denominator s = dotOf (s .p) (s .q) .re
 
@@ -84,6 +83,7 @@ pub record Iteration : Type 0 where
   pub result : Progress
   pub state : State
 
+-- both together
 abbrev pub iteration : Progress → State → Iteration
 iteration t s = record { result = t; state = s }
 
@@ -100,15 +100,18 @@ stepped limit dot s =
     cond (notPositive (denominator s)) (iteration (Broken Denominator) s)
     (judged limit dot (advanced (dot ⊘ denominator s) (reduced (dot ⊘ denominator s) s)))
 
+-- a whole iteration, from the residual dot before it
 unfoldable pub iterationOf : Matrix → Float → Float → State → Iteration
 iterationOf m limit dot s = stepped limit dot (multiplied m s)
 
 -- ---- the method
 
+-- the answer, and the vectors at the end
 pub record Outcome : Type 0 where
   pub answer : Answer
   pub state : State
 
+-- both together
 abbrev pub outcome : Answer → State → Outcome
 outcome a s = record { answer = a; state = s }
 
@@ -133,6 +136,7 @@ run m limit (suc k) i dot s = after (iterationOf m limit dot s .result) (iterati
 unfoldable pub started : Matrix → Float → ℕ → State → Outcome
 started m limit k s = cond (notPositive (residualDot s)) (outcome (GaveUp FirstResidual) s) (run m limit k 0 (residualDot s) s)
 
+-- the right-hand side's norm and the diagonal are tested, and then the method begins
 unfoldable pub solved : Matrix → Float → ℕ → State → Outcome
 solved m tolerance k s =
     cond (notPositive (normOf (s .r))) (outcome (GaveUp RightHandNorm) s)
@@ -141,10 +145,7 @@ solved m tolerance k s =
 
 -- ---- normalize_in_mass
 
--- x^H M x
-unfoldable pub massOf : Matrix → List Complex → Float
-massOf m x = dotOf x (applied m x) .re
-
+-- by the square of the mass norm: reason 9 where it is not positive
 unfoldable pub normalizedAnswer : Float → Normalized
 normalizedAnswer squared = cond (notPositive squared) (normalized.GaveUp MassOfIterate) normalized.Done
 

@@ -1,7 +1,7 @@
 -- How a work slice holds the vectors, and what the functions require of it.
 use mathlib.Core.Path.{_≡_}
 use mathlib.Core.List.{List, [], _∷_}
-use Prim.Native.Nat.{ℕ, _+_, _*_, _/_, _≤_}
+use Prim.Native.Nat.{ℕ, _+_, _*_, _≤_}
 use lib.ListN.{length}
 use lib.Ieee.{Float, nan}
 use Rattle.linear_cells.specs.Region.{region}
@@ -17,16 +17,20 @@ use Rattle.linear_conjugate_gradient.specs.declared.Vectors.{Vectors}
 use Rattle.linear_conjugate_gradient.specs.declared.Progress.{Progress}
 use Rattle.linear_conjugate_gradient.specs.declared.Answer.{Answer}
 use Rattle.linear_conjugate_gradient.specs.declared.Normalized.{Normalized}
-use Rattle.linear_conjugate_gradient.specs.Solve.{State, Iteration, Outcome, begun, residualDot, multiplied, denominator, reduced, massOf, normalizedAnswer, normalizedVector}
+use Rattle.linear_conjugate_gradient.specs.Method.{massSquared}
+use Rattle.linear_conjugate_gradient.specs.Solve.{State, Iteration, Outcome, begun, residualDot, multiplied, denominator, reduced, normalizedAnswer, normalizedVector}
 
 -- ---- the layout
 
+-- where each vector begins, and how many numbers it takes
 abbrev pub bases : ℕ → Vectors → List Row
 bases n l = row (l .x) (2 * n) ∷ row (l .residual) (2 * n) ∷ row (l .direction) (2 * n) ∷ row (l .applied) (2 * n) ∷ row (l .inverse) n ∷ []
 
+-- the numbers of each vector, a complex one split
 abbrev pub vectors : State → List (List Float)
 vectors s = flat (s .x) ∷ flat (s .r) ∷ flat (s .p) ∷ flat (s .q) ∷ s .inverse ∷ []
 
+-- the vectors that stand in w
 unfoldable pub read : List Float → ℕ → Vectors → State
 read w n l = record {
   x = regionC w (l .x) n;
@@ -65,10 +69,12 @@ pub record Engine (w : List Float) (h : Hermitian) (l : Vectors) (from to u : Li
 
 -- ---- what the functions leave and return
 
+-- `begin`: the vectors before the first iteration, and the first residual dot
 pub record Begun (w w′ : List Float) (h : Hermitian) (l : Vectors) (r : Float) : Type 0 where
   pub work : w′ ≡ lay w (h .size) l (begun (region nan w (h .diagonal) (h .size)) (read w (h .size) l))
   pub result : r ≡ residualDot (begun (region nan w (h .diagonal) (h .size)) (read w (h .size) l))
 
+-- `multiply`: the matrix times the direction, and the denominator
 pub record Multiplied (w w′ : List Float) (h : Hermitian) (l : Vectors) (from to : List ℕ) (r : Float) : Type 0 where
   pub work : w′ ≡ lay w (h .size) l (multiplied (matrix w h from to) (read w (h .size) l))
   pub result : r ≡ denominator (multiplied (matrix w h from to) (read w (h .size) l))
@@ -79,15 +85,17 @@ pub record Updated (w w′ : List Float) (n : ℕ) (l : Vectors) (alpha : Float)
   pub square : r .square ≡ dotOf (reduced alpha (read w n l) .r) (reduced alpha (read w n l) .r) .re
   pub next : r .next ≡ residualDot (reduced alpha (read w n l))
 
+-- `step` and `iterate_once`: the vectors after an iteration, and how it ends
 pub record Ended (w w′ : List Float) (n : ℕ) (l : Vectors) (t : Iteration) (r : Progress) : Type 0 where
   pub work : w′ ≡ lay w n l (t .state)
   pub result : r ≡ t .result
 
+-- `iterate` and `conjugate_gradient`: the vectors at the end, and the answer
 pub record Solved (w w′ : List Float) (n : ℕ) (l : Vectors) (o : Outcome) (r : Answer) : Type 0 where
   pub work : w′ ≡ lay w n l (o .state)
   pub result : r ≡ o .answer
 
 -- normalize_in_mass: y is left with the mass matrix times x
 pub record InMass (w w′ : List Float) (x y n : ℕ) (m : Matrix) (r : Normalized) : Type 0 where
-  pub work : w′ ≡ putC (putC w y (applied m (regionC w x n))) x (normalizedVector (massOf m (regionC w x n)) (regionC w x n))
-  pub result : r ≡ normalizedAnswer (massOf m (regionC w x n))
+  pub work : w′ ≡ putC (putC w y (applied m (regionC w x n))) x (normalizedVector (massSquared m (regionC w x n)) (regionC w x n))
+  pub result : r ≡ normalizedAnswer (massSquared m (regionC w x n))

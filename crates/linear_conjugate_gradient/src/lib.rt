@@ -12,7 +12,8 @@ ghost use Rattle.float.specs.Double.{lit, maxOf};
 ghost use Rattle.root.specs.Root.{rootOf};
 ghost use Rattle.linear_cells.specs.Region.{region};
 ghost use Rattle.linear_hermitian.specs.Work.{matrix, Graph, ApplyRoom};
-ghost use Rattle.linear_conjugate_gradient.specs.Solve.{firstNotPositive, reduced, advanced, directed, judged, iterationOf, answerOf, run, solved};
+ghost use Rattle.linear_conjugate_gradient.specs.Method.{firstNotPositive};
+ghost use Rattle.linear_conjugate_gradient.specs.Solve.{reduced, advanced, directed, judged, iterationOf, answerOf, run, solved};
 ghost use Rattle.linear_conjugate_gradient.specs.Work.{read, lay, VectorRoom, SolverRoom, Engine, Begun, Multiplied, Updated, Ended, Solved, InMass};
 
 // Why the solver gave up: number 24's reasons 3 to 9, in their order.

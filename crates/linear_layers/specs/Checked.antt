@@ -18,7 +18,8 @@ use Rattle.linear_packing.specs.Slots.{entriesOf}
 use Rattle.linear_packing.specs.Pack.{packedIn}
 use Rattle.linear_conjugate_gradient.specs.declared.Vectors.{Vectors}
 use Rattle.linear_conjugate_gradient.specs.declared.Answer.{Answer}
-use Rattle.linear_conjugate_gradient.specs.Solve.{Outcome, solved, massOf, normalizedAnswer, normalizedVector}
+use Rattle.linear_conjugate_gradient.specs.Method.{massSquared}
+use Rattle.linear_conjugate_gradient.specs.Solve.{Outcome, solved, normalizedAnswer, normalizedVector}
 use Rattle.linear_conjugate_gradient.specs.Work.{read, lay}
 use Rattle.linear_layers.specs.declared.Checked.{Checked}
 use Rattle.linear_layers.specs.declared.Checked.the-variants.{Refused, Solved, Normal}
@@ -105,11 +106,11 @@ unfoldable pub normalWork : Bool → List Float → ℕ → List ℕ → List �
 normalWork true w n from to =
     let l = vectorsFor n (length from) in
     let m = matrix w (matrixFor n (length from)) from to in
-    putC (putC w (l .direction) (applied m (regionC w (l .x) n))) (l .x) (normalizedVector (massOf m (regionC w (l .x) n)) (regionC w (l .x) n))
+    putC (putC w (l .direction) (applied m (regionC w (l .x) n))) (l .x) (normalizedVector (massSquared m (regionC w (l .x) n)) (regionC w (l .x) n))
 normalWork false w n from to = w
 
 unfoldable pub normalAnswer : Bool → List Float → ℕ → List ℕ → List ℕ → Checked
-normalAnswer true w n from to = Normal (normalizedAnswer (massOf (matrix w (matrixFor n (length from)) from to) (regionC w (vectorsFor n (length from) .x) n)))
+normalAnswer true w n from to = Normal (normalizedAnswer (massSquared (matrix w (matrixFor n (length from)) from to) (regionC w (vectorsFor n (length from) .x) n)))
 normalAnswer false w n from to = Refused
 
 pub record NormalChecked (w w′ : List Float) (n : ℕ) (from to : List ℕ) (r : Checked) : Type 0 where

@@ -19,20 +19,22 @@ use Rattle.linear_vectors.specs.declared.residual.Sums.{Sums}
 use Rattle.linear_vectors.specs.ResidualWork.{Reduced}
 use Rattle.linear_vectors.proofs.Residuals.{length-productsOf}
 use Rattle.linear_conjugate_gradient.specs.declared.Vectors.{Vectors}
-use Rattle.linear_conjugate_gradient.specs.Solve.{State, massOf}
+use Rattle.linear_conjugate_gradient.specs.Method.{massSquared}
+use Rattle.linear_conjugate_gradient.specs.Solve.{State}
 use Rattle.linear_conjugate_gradient.specs.Work.{read, lay, VectorRoom}
-use Rattle.linear_conjugate_gradient.proofs.Lays.{Sized, read-sized, lay-read, get-x, get-p, get-q, get-all, get-matrix, put-p, put-q, lay-then}
+use Rattle.linear_conjugate_gradient.proofs.Lays.{Sized, read-sized, lay-read, get-x, get-p, get-q, get-matrix, put-p, put-q, lay-then}
 use Rattle.pass_refusal.specs.declared.Stage.{Stage}
 use Rattle.pass_refusal.specs.declared.Stage.the-variants.{Done, Refused}
 use Rattle.pass_refusal.specs.Refusal.{gaveUp}
 use Rattle.linear_conjugate_gradient.specs.Found.{vector, gave}
-use Rattle.pass_solution.specs.Work.{stageOf}
-use Rattle.pass_solution.proofs.Stages.{framed}
+use Rattle.pass_solution.specs.Work.{foundStage}
+use Rattle.pass_solution.proofs.Stages.{framed, left-in}
 use Rattle.pass_inverse_iteration.specs.declared.Limits.{Limits}
 use Rattle.pass_inverse_iteration.specs.declared.Quotient.{Quotient}
 use Rattle.pass_inverse_iteration.specs.declared.Progress.the-variants.{Going, Ended}
-use Rattle.pass_inverse_iteration.specs.Inverse.{Pencil, outerTolerance, estimateOf, residualBy, relativeOf, judged}
-use Rattle.pass_inverse_iteration.specs.Work.{PencilRoom, pencil, quoted, Quotients, leftOver, subtracted, Relative, progressOf, carried, Judges}
+use Rattle.pass_inverse_iteration.specs.Inverse.{Pencil, outerTolerance, estimateOf, residualBy, relativeOf}
+use Rattle.pass_inverse_iteration.specs.Memory.{judged, quoted, leftOver, subtracted, judgedLeft}
+use Rattle.pass_inverse_iteration.specs.Work.{PencilRoom, pencil, Quotients, Relative, progressOf, carried, Judges}
 
 -- ---- a slice as long has the same room
 
@@ -75,7 +77,7 @@ module _ (w : List Float) (mass energy : Hermitian) (l : Vectors) (from to : Lis
       → q .numerator ≡ dotOf (regionC w₂ (l .x) n) (regionC w₂ (l .applied) n) .re
       → q .denominator ≡ dotOf (regionC w₂ (l .x) n) (regionC w₂ (l .direction) n) .re
       → Quotients w w₂ mass energy l from to q
-  unfolding quoted massOf read
+  unfolding quoted massSquared read
   rayleigh-all {w₁} {w₂} {q} e₁ e₂ en ed =
       let z : Sized n s = read-sized w n l in
       let t : State = quoted m e s in
@@ -141,36 +143,41 @@ module _ (w : List Float) (mass energy : Hermitian) (l : Vectors) (from to : Lis
   vectors : VectorRoom (length w) (energy .size) l
   vectors = ok .energy-room .vector-room
 
+  read-is : read w₁ (energy .size) l ≡ after
+  read-is = left-in w (energy .size) l vectors after after-sized (a .work)
+
   estimate-is : q .numerator ⊘ q .denominator ≡ estimateOf p next
   unfolding estimateOf
   estimate-is = rw (a .numerator, a .denominator)
 
-  mass-not-positive : {b : Bool} → b ≡ notPositive (q .denominator) → notPositive (massOf (p .mass) next) ≡ b
+  mass-not-positive : {b : Bool} → b ≡ notPositive (q .denominator) → notPositive (massSquared (p .mass) next) ≡ b
   mass-not-positive e = sym (e ∙ ap (λ u. notPositive u) (a .denominator))
 
   pub judge-denominator : {b : Bool} {t : Stage} → b ≡ notPositive (q .denominator) → b ≡ true → t ≡ Refused (gaveUp 10 0) → Judges w w₁ mass energy l from to o (Ended t)
-  unfolding judged progressOf carried stageOf
+  unfolding judged judgedLeft progressOf carried foundStage read
   judge-denominator eb tb et =
-      let u : notPositive (massOf (p .mass) next) ≡ true = mass-not-positive eb ∙ tb in
+      let u : notPositive (massSquared (p .mass) next) ≡ true = mass-not-positive eb ∙ tb in
       rw u (record {
         frame = framed w (energy .size) l vectors after after-sized (a .work);
+        left = read-is;
         progress = ap Ended et;
         held = λ v e. gave-held 10 0 v e;
       })
 
   module _ {b : Bool} (eb : b ≡ notPositive (q .denominator)) (fb : b ≡ false) {g : Bool} (eg : g ≡ isFinite (q .numerator ⊘ q .denominator)) where
-    fit : notPositive (massOf (p .mass) next) ≡ false
+    fit : notPositive (massSquared (p .mass) next) ≡ false
     fit = mass-not-positive eb ∙ fb
 
     finite : isFinite (estimateOf p next) ≡ g
     finite = sym (eg ∙ ap (λ u. isFinite u) estimate-is)
 
     pub judge-estimate : {t : Stage} → not g ≡ true → t ≡ Refused (gaveUp 11 0) → Judges w w₁ mass energy l from to o (Ended t)
-    unfolding judged progressOf carried stageOf
+    unfolding judged judgedLeft progressOf carried foundStage read
     judge-estimate fg et =
         let u : not (isFinite (estimateOf p next)) ≡ true = ap not finite ∙ fg in
         rw (fit, u) (record {
           frame = framed w (energy .size) l vectors after after-sized (a .work);
+          left = read-is;
           progress = ap Ended et;
           held = λ v e. gave-held 11 0 v e;
         })
@@ -178,9 +185,6 @@ module _ (w : List Float) (mass energy : Hermitian) (l : Vectors) (from to : Lis
     module _ (tg : not g ≡ false) {w₂ : List Float} {r : Float} (c : Relative w₁ w₂ (energy .size) l (q .numerator ⊘ q .denominator) (o .average) r) where
       sound : not (isFinite (estimateOf p next)) ≡ false
       sound = ap not finite ∙ tg
-
-      read-is : read w₁ (energy .size) l ≡ after
-      read-is = ap (λ v. read v (energy .size) l) (a .work) ∙ get-all w (energy .size) l vectors after after-sized
 
       relative-is : r ≡ relativeOf p next
       unfolding relativeOf residualBy quoted read
@@ -200,25 +204,30 @@ module _ (w : List Float) (mass energy : Hermitian) (l : Vectors) (from to : Lis
       last-is : w₂ ≡ lay w (energy .size) l last
       last-is = lay-then w (energy .size) l vectors after after-sized last last-sized (a .work) (c .work ∙ rw read-is)
 
+      last-left : read w₂ (energy .size) l ≡ subtracted (estimateOf p next) after
+      last-left = left-in w (energy .size) l vectors last last-sized last-is ∙ ap (λ k. subtracted k after) estimate-is
+
       next-stays : regionC w₂ (l .x) (energy .size) ≡ next
       next-stays = ap (λ v. regionC v (l .x) (energy .size)) last-is ∙ get-x w (energy .size) l vectors last last-sized ∙ (unfold subtracted quoted read in refl)
 
       pub judge-converged : le r outerTolerance ≡ true → Judges w w₂ mass energy l from to o (Ended Done)
-      unfolding judged progressOf carried stageOf
+      unfolding judged judgedLeft progressOf carried foundStage read
       judge-converged t =
           let u : le (relativeOf p next) outerTolerance ≡ true = rw relative-is at t in
           rw (fit, sound, u) (record {
             frame = framed w (energy .size) l vectors last last-sized last-is;
+            left = last-left;
             progress = refl;
             held = λ v e. next-stays ∙ cc;
           })
 
       pub judge-going : le r outerTolerance ≡ false → Judges w w₂ mass energy l from to o Going
-      unfolding judged progressOf carried stageOf
+      unfolding judged judgedLeft progressOf carried foundStage read
       judge-going t =
           let u : le (relativeOf p next) outerTolerance ≡ false = rw relative-is at t in
           rw (fit, sound, u) (record {
             frame = framed w (energy .size) l vectors last last-sized last-is;
+            left = last-left;
             progress = refl;
             held = λ v e. next-stays ∙ cc;
           })

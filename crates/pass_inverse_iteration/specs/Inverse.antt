@@ -9,9 +9,9 @@ use Rattle.float.specs.Double.{lit, isFinite, notPositive, _⊘_}
 use Rattle.complex.specs.declared.Complex.{Complex}
 use Rattle.linear_hermitian.specs.Hermitian.{Matrix, dotOf, normOf, applied}
 use Rattle.linear_vectors.specs.Vectors.{zipOf, subScaled}
-use Rattle.linear_conjugate_gradient.specs.Solve.{massOf}
+use Rattle.linear_conjugate_gradient.specs.Method.{massSquared, normalizedOf}
 use Rattle.linear_conjugate_gradient.specs.Found.{Found, vector, gave}
-use Rattle.pass_solution.specs.Solution.{onward, solutionOf, innerMost, normalizedOf}
+use Rattle.pass_solution.specs.Solution.{onward, solutionOf, innerMost}
 
 -- OUTER_TOLERANCE, 1e-8
 abbrev pub outerTolerance : Float
@@ -32,48 +32,35 @@ nextOf p x = onward (solutionOf (p .energy) (p .most) (applied (p .mass) x)) (no
 
 -- the estimate of the eigenvalue: the Rayleigh quotient
 unfoldable pub estimateOf : Pencil → List Complex → Float
-estimateOf p next = dotOf next (applied (p .energy) next) .re ⊘ massOf (p .mass) next
+estimateOf p next = dotOf next (applied (p .energy) next) .re ⊘ massSquared (p .mass) next
 
 -- `energy_next - mass_next * lambda`
 unfoldable pub residualBy : Float → Pencil → List Complex → List Complex
 residualBy lambda p next = zipOf (subScaled lambda) (applied (p .energy) next) (applied (p .mass) next)
 
+-- the residual's norm over the average of the diagonal
 unfoldable pub relativeOf : Pencil → List Complex → Float
 relativeOf p next = normOf (residualBy (estimateOf p next) p next) ⊘ p .average
 
--- an iteration leads on with the next iterate, or ends with what is found
-pub data Step : Type 0 where
-  going : List Complex → Step
-  ended : Found → Step
-
-unfoldable pub judged : Pencil → List Complex → Step
-judged p next =
-    cond (notPositive (massOf (p .mass) next)) (ended (gave 10 0))
-    (cond (not (isFinite (estimateOf p next))) (ended (gave 11 0))
-    (cond (le (relativeOf p next) outerTolerance) (ended (vector next)) (going next)))
-
-unfoldable pub judgedBy : Found → (List Complex → Step) → Step
-judgedBy (vector next) f = f next
-judgedBy (gave r i) f = ended (gave r i)
-
-unfoldable pub iterationOf : Pencil → List Complex → Step
-iterationOf p x = judgedBy (nextOf p x) (judged p)
+-- lines 1594 to 1615, of the next iterate: reasons 10 and 11, the iterate where its residual is small, or on by `further`
+unfoldable pub judgedBy : Pencil → List Complex → (List Complex → Found) → Found
+judgedBy p next further =
+    cond (notPositive (massSquared (p .mass) next)) (gave 10 0)
+    (cond (not (isFinite (estimateOf p next))) (gave 11 0)
+    (cond (le (relativeOf p next) outerTolerance) (vector next) (further next)))
 
 -- ---- the iteration
 
-unfoldable pub after : Step → (List Complex → Found) → Found
-after (going x) f = f x
-after (ended found) f = found
-
--- at most k iterations
+-- at most k iterations, or reason 12
 unfoldable pub iterated : Pencil → ℕ → List Complex → Found
 iterated p zero x = gave 12 0
-iterated p (suc k) x = after (iterationOf p x) (iterated p k)
+iterated p (suc k) x = onward (nextOf p x) (λ next. judgedBy p next (iterated p k))
 
 -- `energy_trace / n as f64`
 unfoldable pub averageOf : Float → ℕ → Float
 averageOf trace n = trace ⊘ ofInt binary64 (pos n)
 
+-- over n vertices: trace is that of the energy before its shift
 unfoldable pub pencilOf : Matrix → Matrix → Float → ℕ → Pencil
 pencilOf mass energy trace n = record { mass = mass; energy = energy; average = averageOf trace n; most = innerMost n }
 

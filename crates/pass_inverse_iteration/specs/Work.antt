@@ -8,24 +8,25 @@ use Rattle.complex.specs.declared.Complex.{Complex}
 use Rattle.linear_cells.specs.Region.{region}
 use Rattle.linear_cells.specs.Cell.{regionC}
 use Rattle.linear_hermitian.specs.declared.Hermitian.{Hermitian}
-use Rattle.linear_hermitian.specs.Hermitian.{Matrix, dotOf, normOf, applied}
+use Rattle.linear_hermitian.specs.Hermitian.{dotOf, normOf, applied}
 use Rattle.linear_hermitian.specs.Work.{matrix, Graph}
-use Rattle.linear_vectors.specs.Vectors.{zipOf, subScaled}
-use Rattle.linear_vectors.specs.Residual.{productsOf}
 use Rattle.linear_conjugate_gradient.specs.declared.Vectors.{Vectors}
-use Rattle.linear_conjugate_gradient.specs.Solve.{State, massOf}
+use Rattle.linear_conjugate_gradient.specs.Method.{massSquared, normalizedOf}
+use Rattle.linear_conjugate_gradient.specs.Solve.{State}
 use Rattle.linear_conjugate_gradient.specs.Work.{read, lay, SolverRoom}
 use Rattle.pass_refusal.specs.declared.Stage.{Stage}
+use Rattle.pass_refusal.specs.declared.Stage.the-variants.{Refused}
+use Rattle.pass_refusal.specs.Refusal.{gaveUp}
 use Rattle.pass_start.specs.Start.{startOf}
 use Rattle.linear_conjugate_gradient.specs.Found.{Found, vector}
-use Rattle.pass_solution.specs.Solution.{normalizedOf}
-use Rattle.pass_solution.specs.Work.{stageOf, Framed, Answers}
+use Rattle.pass_solution.specs.Work.{foundStage, Framed, Answers}
 use Rattle.pass_inverse_iteration.specs.declared.Limits.{Limits}
 use Rattle.pass_inverse_iteration.specs.declared.Outer.{Outer}
 use Rattle.pass_inverse_iteration.specs.declared.Quotient.{Quotient}
 use Rattle.pass_inverse_iteration.specs.declared.Progress.{Progress}
 use Rattle.pass_inverse_iteration.specs.declared.Progress.the-variants.{Going, Ended}
-use Rattle.pass_inverse_iteration.specs.Inverse.{Pencil, Step, going, ended, nextOf, judged, iterationOf, iterated, inverseOf}
+use Rattle.pass_inverse_iteration.specs.Inverse.{Pencil, nextOf, iterated, inverseOf}
+use Rattle.pass_inverse_iteration.specs.Memory.{Step, going, ended, judged, iterationOf, quoted, leftOver, subtracted, nextLeft, judgedLeft, iterationLeft, iteratedLeft, startLeft, inverseLeft}
 
 -- ---- what is required
 
@@ -40,75 +41,102 @@ pub record PlanesBelow (n : ℕ) (l : Vectors) (o : Outer) : Type 0 where
   pub x-below : o .x + n ≤ l .x
   pub y-below : o .y + n ≤ l .x
 
+-- both matrices have the edges from and to
 pub record Graphs (mass energy : Hermitian) (from to : List ℕ) : Type 0 where
   pub mass-graph : Graph mass from to
   pub energy-graph : Graph energy from to
 
 -- ---- the pencil that a slice holds
 
+-- by both matrices and the limits
 abbrev pub pencil : List Float → Hermitian → Hermitian → List ℕ → List ℕ → Limits → Pencil
 pencil w mass energy from to o = record { mass = matrix w mass from to; energy = matrix w energy from to; average = o .average; most = o .most }
 
 -- ---- what the functions leave and return
 
--- the mass times x in the direction's place, and the energy times x in the place of the matrix times the direction
-unfoldable pub quoted : Matrix → Matrix → State → State
-quoted mass energy s = record { x = s .x; r = s .r; p = applied mass (s .x); q = applied energy (s .x); inverse = s .inverse }
-
+-- `rayleigh`: the quotient's parts, from the products with both matrices
 pub record Quotients (w w′ : List Float) (mass energy : Hermitian) (l : Vectors) (from to : List ℕ) (q : Quotient) : Type 0 where
   pub work : w′ ≡ lay w (energy .size) l (quoted (matrix w mass from to) (matrix w energy from to) (read w (energy .size) l))
   pub numerator : q .numerator ≡ dotOf (regionC w (l .x) (energy .size)) (applied (matrix w energy from to) (regionC w (l .x) (energy .size))) .re
-  pub denominator : q .denominator ≡ massOf (matrix w mass from to) (regionC w (l .x) (energy .size))
+  pub denominator : q .denominator ≡ massSquared (matrix w mass from to) (regionC w (l .x) (energy .size))
 
--- q minus the direction times lambda, with the terms of its square in the direction's place
-abbrev pub leftOver : Float → State → List Complex
-leftOver lambda s = zipOf (subScaled lambda) (s .q) (s .p)
-
-unfoldable pub subtracted : Float → State → State
-subtracted lambda s = record { x = s .x; r = s .r; p = productsOf (s .inverse) (leftOver lambda s); q = leftOver lambda s; inverse = s .inverse }
-
+-- `relative`: the residual's norm over the average
 pub record Relative (w w′ : List Float) (n : ℕ) (l : Vectors) (lambda average r : Float) : Type 0 where
   pub work : w′ ≡ lay w n l (subtracted lambda (read w n l))
   pub result : r ≡ normOf (leftOver lambda (read w n l)) ⊘ average
 
--- an iteration's answer. A vector that it leads on with, or that it found, stands at the solver's x
+-- an iteration's answer
 unfoldable pub progressOf : Step → Progress
 progressOf (going x) = Going
-progressOf (ended f) = Ended (stageOf f)
+progressOf (ended f) = Ended (foundStage f)
 
+-- the vector that it leads on with, or what it found
 unfoldable pub carried : Step → Found
 carried (going x) = vector x
 carried (ended f) = f
 
-pub record Steps (w w′ : List Float) (n : ℕ) (l : Vectors) (t : Step) (r : Progress) : Type 0 where
+-- how the method ends with an iteration: one that leads on, with none after it, is reason 12
+unfoldable pub endingOf : Progress → Stage
+endingOf Going = Refused (gaveUp 12 0)
+endingOf (Ended s) = s
+
+-- w′ is w with the solver's vectors as they are in t. A vector that the iteration leads on with, or that it found, stands at the solver's x
+pub record Steps (w w′ : List Float) (n : ℕ) (l : Vectors) (t : State) (i : Step) (r : Progress) : Type 0 where
   pub frame : Framed w w′ n l
-  pub progress : r ≡ progressOf t
-  pub held : (v : List Complex) → carried t ≡ vector v → regionC w′ (l .x) n ≡ v
+  pub left : read w′ n l ≡ t
+  pub progress : r ≡ progressOf i
+  pub held : (v : List Complex) → carried i ≡ vector v → regionC w′ (l .x) n ≡ v
 
 -- ---- the functions' promises, over the iterate at the solver's x
 
+-- `judge`
 abbrev pub Judges : (w w′ : List Float) (mass energy : Hermitian) (l : Vectors) (from to : List ℕ) (o : Limits) → Progress → Type 0
-Judges w w′ mass energy l from to o r = Steps w w′ (energy .size) l (judged (pencil w mass energy from to o) (regionC w (l .x) (energy .size))) r
+Judges w w′ mass energy l from to o r =
+    Steps w w′ (energy .size) l
+    (judgedLeft (pencil w mass energy from to o) (read w (energy .size) l))
+    (judged (pencil w mass energy from to o) (regionC w (l .x) (energy .size)))
+    r
 
+-- `iterate_once`
 abbrev pub IteratesOnce : (w w′ : List Float) (mass energy : Hermitian) (l : Vectors) (from to : List ℕ) (o : Limits) → Progress → Type 0
-IteratesOnce w w′ mass energy l from to o r = Steps w w′ (energy .size) l (iterationOf (pencil w mass energy from to o) (regionC w (l .x) (energy .size))) r
+IteratesOnce w w′ mass energy l from to o r =
+    Steps w w′ (energy .size) l
+    (iterationLeft (pencil w mass energy from to o) (read w (energy .size) l))
+    (iterationOf (pencil w mass energy from to o) (regionC w (l .x) (energy .size)))
+    r
 
+-- `next`
 abbrev pub TakesNext : (w w′ : List Float) (mass energy : Hermitian) (l : Vectors) (from to : List ℕ) (o : Limits) → Stage → Type 0
-TakesNext w w′ mass energy l from to o r = Answers w w′ (energy .size) l (nextOf (pencil w mass energy from to o) (regionC w (l .x) (energy .size))) r
+TakesNext w w′ mass energy l from to o r =
+    Answers w w′ (energy .size) l
+    (nextLeft (pencil w mass energy from to o) (read w (energy .size) l))
+    (nextOf (pencil w mass energy from to o) (regionC w (l .x) (energy .size)))
+    r
 
+-- `iterate`
 abbrev pub Iterates : (w w′ : List Float) (mass energy : Hermitian) (l : Vectors) (from to : List ℕ) (o : Limits) (k : ℕ) → Stage → Type 0
 Iterates w w′ mass energy l from to o k r =
-    Answers w w′ (energy .size) l (iterated (pencil w mass energy from to o) k (regionC w (l .x) (energy .size))) r
+    Answers w w′ (energy .size) l
+    (iteratedLeft (pencil w mass energy from to o) k (read w (energy .size) l))
+    (iterated (pencil w mass energy from to o) k (regionC w (l .x) (energy .size)))
+    r
 
 -- the start vector of the points, whose coordinates stand in two planes
 abbrev pub startIn : List Float → Outer → ℕ → List Complex
 startIn w o n = startOf (region nan w (o .x) n) (region nan w (o .y) n)
 
+-- `begin`
 abbrev pub Starts : (w w′ : List Float) (mass : Hermitian) (l : Vectors) (from to : List ℕ) (o : Outer) → Stage → Type 0
-Starts w w′ mass l from to o r = Answers w w′ (mass .size) l (normalizedOf (matrix w mass from to) (startIn w o (mass .size))) r
+Starts w w′ mass l from to o r =
+    Answers w w′ (mass .size) l
+    (startLeft (matrix w mass from to) (startIn w o (mass .size)) (read w (mass .size) l))
+    (normalizedOf (matrix w mass from to) (startIn w o (mass .size)))
+    r
 
+-- `inverse_iteration`
 abbrev pub Inverts : (w w′ : List Float) (mass energy : Hermitian) (l : Vectors) (from to : List ℕ) (o : Outer) → Stage → Type 0
 Inverts w w′ mass energy l from to o r =
     Answers w w′ (energy .size) l
+    (inverseLeft (matrix w mass from to) (matrix w energy from to) (o .trace) (o .iterations) (startIn w o (energy .size)) (read w (energy .size) l))
     (inverseOf (matrix w mass from to) (matrix w energy from to) (o .trace) (o .iterations) (startIn w o (energy .size)))
     r

@@ -10,7 +10,7 @@ ghost use Rattle.linear_conjugate_gradient.specs.Work.{SolverRoom, VectorRoom, 
 ghost use Rattle.linear_hermitian.specs.Work.{Graph};
 ghost use Rattle.pass_inverse_iteration.specs.Inverse.{averageOf};
 ghost use Rattle.pass_inverse_iteration.specs.Work.{PencilRoom, PlanesBelow, Graphs};
-ghost use Rattle.pass_inverse_iteration.specs.Work.{Quotients, Relative, Judges, TakesNext, IteratesOnce, Iterates, Starts, Inverts};
+ghost use Rattle.pass_inverse_iteration.specs.Work.{endingOf, Quotients, Relative, Judges, TakesNext, IteratesOnce, Iterates, Starts, Inverts};
 
 const OUTER_TOLERANCE: f64 = 1e-8;
 
@@ -145,6 +145,16 @@ fn iterate_once(
     judge(work, mass, energy, l, from, to, o)
 }
 
+// How the method ends with this iteration.
+fn ending(p: Progress) -> Stage
+    ensures { λ r. ⌜ r ≡ endingOf p ⌝ }
+{
+    let Progress::Ended(s) = p else {
+        return pass_refusal::gave_up(12, 0);
+    };
+    s
+}
+
 fn iterate(
     work: &mut [f64],
     mass: Hermitian,
@@ -164,9 +174,9 @@ fn iterate(
 {
     for i in 0..iterations {
         let p = iterate_once(work, mass, energy, l, from, to, u, copy, o);
-        if let Progress::Ended(s) = p {
-            return s;
-        }
+        let Progress::Going = p else {
+            return ending(p);
+        };
     }
     pass_refusal::gave_up(12, 0)
 }

@@ -12,7 +12,8 @@ use Rattle.linear_hermitian.specs.declared.Hermitian.{Hermitian}
 use Rattle.linear_hermitian.specs.Work.{matrix}
 use Rattle.linear_conjugate_gradient.specs.declared.Vectors.{Vectors}
 use Rattle.linear_packing.specs.declared.Packing.{Packing}
-use Rattle.linear_conjugate_gradient.specs.Work.{read, VectorRoom, SolverRoom, Engine}
+use Rattle.linear_conjugate_gradient.specs.Solve.{State}
+use Rattle.linear_conjugate_gradient.specs.Work.{read, lay, VectorRoom, SolverRoom, Engine}
 use Rattle.linear_conjugate_gradient.proofs.Iterations.{engine-still}
 use Rattle.linear_conjugate_gradient.proofs.Lays.{read-sized, lay-read, lay-then, length-lay, get-below, get-matrix}
 use Rattle.pass_refusal.specs.declared.Stage.{Stage}
@@ -20,7 +21,7 @@ use Rattle.pass_refusal.specs.declared.Stage.the-variants.{Done, Refused}
 use Rattle.pass_refusal.specs.declared.Fault.{Fault}
 use Rattle.linear_conjugate_gradient.specs.Found.{Found, vector, gave}
 use Rattle.pass_solution.specs.Solution.{onward}
-use Rattle.pass_solution.specs.Work.{stageOf, Framed, Answers}
+use Rattle.pass_solution.specs.Work.{foundStage, Framed, Answers, leftBy}
 
 -- ---- frames
 
@@ -58,30 +59,40 @@ pub not-done : {s : Stage} {r : Fault} → s ≡ Refused r → s ≡ Done → �
 not-done e d = let z : _≡_ {A = ℕ} 0 1 = cc in omega arith
 
 -- a stage that is done has found the vector that stands at x
-done-found : (f : Found) (x : List Complex) {s : Stage} → s ≡ stageOf f → ((v : List Complex) → f ≡ vector v → x ≡ v) → s ≡ Done → f ≡ vector x
-unfolding stageOf
+done-found : (f : Found) (x : List Complex) {s : Stage} → s ≡ foundStage f → ((v : List Complex) → f ≡ vector v → x ≡ v) → s ≡ Done → f ≡ vector x
+unfolding foundStage
 done-found (vector v) x e h d = ap vector (sym (h v refl))
 done-found (gave r i) x e h d = let z : _≡_ {A = ℕ} 0 1 = cc in absurd (omega arith)
 
-onward-gave : (f : Found) (g : List Complex → Found) {s : Stage} → s ≡ stageOf f → (s ≡ Done → ⊥) → onward f g ≡ f
-unfolding onward stageOf
+pub left-gave : (f : Found) (t : State) (k : State → State) {s : Stage} → s ≡ foundStage f → (s ≡ Done → ⊥) → leftBy f t k ≡ t
+unfolding leftBy foundStage
+left-gave (vector v) t k e h = absurd (h e)
+left-gave (gave r i) t k e h = refl
+
+onward-gave : (f : Found) (g : List Complex → Found) {s : Stage} → s ≡ foundStage f → (s ≡ Done → ⊥) → onward f g ≡ f
+unfolding onward foundStage
 onward-gave (vector v) g e h = absurd (h e)
 onward-gave (gave r i) g e h = refl
 
-module _ (w : List Float) (n : ℕ) (l : Vectors) {w₁ : List Float} {f : Found} {s : Stage} where
-  pub found-at : Answers w w₁ n l f s → s ≡ Done → f ≡ vector (regionC w₁ (l .x) n)
+module _ (w : List Float) (n : ℕ) (l : Vectors) {w₁ : List Float} {t : State} {f : Found} {s : Stage} where
+  pub found-at : Answers w w₁ n l t f s → s ≡ Done → f ≡ vector (regionC w₁ (l .x) n)
   found-at a d = done-found f (regionC w₁ (l .x) n) (a .stage) (a .held) d
 
-  -- the first of two stages refused
-  pub ends-first : (g : List Complex → Found) → Answers w w₁ n l f s → (s ≡ Done → ⊥) → Answers w w₁ n l (onward f g) s
-  ends-first g a h = rw (onward-gave f g (a .stage) h) a
+  -- no second body: the whole slice and the answer are determined
+  pub answers-one : {w₂ : List Float} {r : Stage} → Answers w w₁ n l t f s → Answers w w₂ n l t f r → (w₁ ≡ w₂) × (s ≡ r)
+  answers-one a b = (a .frame ∙ ap (lay w n l) (a .left ∙ sym (b .left)) ∙ sym (b .frame), a .stage ∙ sym (b .stage))
 
-  -- the second begins with the vector that the first found
-  pub ends-second : VectorRoom (length w) n l → (g : List Complex → Found) → Answers w w₁ n l f s → s ≡ Done
-      → {w₂ : List Float} {t : Stage} → Answers w₁ w₂ n l (g (regionC w₁ (l .x) n)) t → Answers w w₂ n l (onward f g) t
-  unfolding onward
-  ends-second ok g a d b = rw (found-at a d) (record { frame = framed-then w n l ok (a .frame) (b .frame); stage = b .stage; held = b .held })
+  -- the first of two stages refused: its vectors are left
+  pub ends-first : (g : List Complex → Found) (k : State → State) → Answers w w₁ n l t f s → (s ≡ Done → ⊥) → Answers w w₁ n l (leftBy f t k) (onward f g) s
+  ends-first g k a h = rw (onward-gave f g (a .stage) h, left-gave f t k (a .stage) h) a
+
+  -- the second begins with the vector that the first found, and with the vectors that it left
+  pub ends-second : VectorRoom (length w) n l → (g : List Complex → Found) (k : State → State) → Answers w w₁ n l t f s → s ≡ Done
+      → {w₂ : List Float} {r : Stage} → Answers w₁ w₂ n l (k (read w₁ n l)) (g (regionC w₁ (l .x) n)) r → Answers w w₂ n l (leftBy f t k) (onward f g) r
+  unfolding onward leftBy
+  ends-second ok g k a d b =
+      rw (found-at a d, ← a .left) (record { frame = framed-then w n l ok (a .frame) (b .frame); left = b .left; stage = b .stage; held = b .held })
 
   -- what came before wrote nothing but the solver's vectors
-  pub answers-after : VectorRoom (length w) n l → Framed w w₁ n l → {w₂ : List Float} {g : Found} → Answers w₁ w₂ n l f s → f ≡ g → Answers w w₂ n l g s
-  answers-after ok e b q = rw (← q) (record { frame = framed-then w n l ok e (b .frame); stage = b .stage; held = b .held })
+  pub answers-after : VectorRoom (length w) n l → Framed w w₁ n l → {w₂ : List Float} {t′ : State} {g : Found} → Answers w₁ w₂ n l t f s → t ≡ t′ → f ≡ g → Answers w w₂ n l t′ g s
+  answers-after ok e b p q = rw (← p, ← q) (record { frame = framed-then w n l ok e (b .frame); left = b .left; stage = b .stage; held = b .held })

@@ -1,23 +1,23 @@
 -- A vector that is found is as long as the one that was given: what a pass's count of angles rests on. Assumes nothing.
-use mathlib.Core.Path.{_≡_, refl, sym, ap, _∙_}
+use mathlib.Core.Path.{_≡_, refl, ap, _∙_}
 use mathlib.Core.Bool.{Bool, true, false, cond}
 use mathlib.Core.List.{List}
-use Prim.Native.Nat.{ℕ}
+use Prim.Native.Nat.{ℕ, zero, suc}
 use native.Mathlib.Omega.{arith}
 use lib.Dec.{ltb}
-use lib.ListN.{length, length-replicate}
-use Rattle.float.specs.Double.{recipOf, notPositive, _⊗_}
+use lib.Ieee.{Float, le}
+use lib.ListN.{length, replicate, length-replicate}
+use Rattle.float.specs.Double.{recipOf, notPositive, _⊗_, _⊘_}
 use Rattle.root.specs.Root.{rootOf}
 use Rattle.complex.specs.declared.Complex.{Complex}
 use Rattle.complex.specs.Complex.{czero}
 use Rattle.linear_cells.proofs.Loops.{length-tab}
-use Rattle.linear_hermitian.specs.Hermitian.{Matrix, normOf}
-use Rattle.linear_vectors.specs.Vectors.{scaledBy}
-use Rattle.linear_conjugate_gradient.specs.Solve.{State, Outcome, firstNotPositive, residualDot, begun, run, started, solved, massOf}
-use Rattle.linear_conjugate_gradient.proofs.Lengths.{run-x}
-use Rattle.linear_conjugate_gradient.proofs.Fresh.{answered-held}
-use Rattle.linear_conjugate_gradient.specs.Found.{Found, vector, gave, answered, foundIn, fresh}
-use Rattle.pass_solution.specs.Solution.{innerTolerance, onward, solutionOf, normalizedOf}
+use Rattle.linear_hermitian.specs.Hermitian.{Matrix, dotOf, normOf, scaled, applied}
+use Rattle.linear_vectors.specs.Vectors.{zipOf, addScaled, subScaled, recipsOf, scaledBy}
+use Rattle.linear_vectors.proofs.Zip.{length-zipOf}
+use Rattle.linear_conjugate_gradient.specs.Method.{firstNotPositive, LoopState, stepBy, steps, conjugateGradient, massSquared, normalizedOf}
+use Rattle.linear_conjugate_gradient.specs.Found.{Found, vector, gave}
+use Rattle.pass_solution.specs.Solution.{onward, innerTolerance, solutionOf}
 
 -- ---- what is found
 
@@ -42,27 +42,49 @@ unfolding onward
 long-onward n (vector v) g a b = b v (a .long v refl)
 long-onward n (gave r i) g a b = a
 
-long-either : (n : ℕ) (b : Bool) (o q : Outcome) → Long n (foundIn o) → Long n (foundIn q) → Long n (foundIn (cond b o q))
-long-either n true o q y z = y
-long-either n false o q y z = z
-
-long-cond : (n : ℕ) (b : Bool) (f g : Found) → Long n f → Long n g → Long n (cond b f g)
+pub long-cond : (n : ℕ) (b : Bool) (f g : Found) → Long n f → Long n g → Long n (cond b f g)
 long-cond n true f g y z = y
 long-cond n false f g y z = z
 
+-- ---- conjugate gradients
+
+step-long : (n : ℕ) (m : Matrix) (inverse : List Float) (limit : Float) (s : LoopState) (next : LoopState → Found) → length (s .x) ≡ n
+    → ((t : LoopState) → length (t .x) ≡ n → Long n (next t)) → Long n (stepBy m inverse limit s next)
+unfolding stepBy
+step-long n m inverse limit s next e f =
+    let q : List Complex = applied m (s .direction) in
+    let denominator : Float = dotOf (s .direction) q .re in
+    let alpha : Float = s .residualDot ⊘ denominator in
+    let x : List Complex = zipOf (addScaled alpha) (s .x) (s .direction) in
+    let r : List Complex = zipOf (subScaled alpha) (s .residual) q in
+    let dot : Float = dotOf (scaled inverse r) r .re in
+    let d : List Complex = zipOf (addScaled (dot ⊘ s .residualDot)) (scaled inverse r) (s .direction) in
+    let h : length x ≡ n = length-zipOf (addScaled alpha) (s .x) (s .direction) ∙ e in
+    long-cond n (notPositive denominator) _ _ (long-gave n 6 0)
+    (long-cond n (le (normOf r) limit) _ _ (long-vector n x h)
+    (long-cond n (notPositive dot) _ _ (long-gave n 7 0) (f (record { x = x; residual = r; direction = d; residualDot = dot }) h)))
+
+steps-long : (n : ℕ) (m : Matrix) (inverse : List Float) (limit : Float) (k : ℕ) (s : LoopState) → length (s .x) ≡ n → Long n (steps m inverse limit k s)
+unfolding steps
+steps-long n m inverse limit zero s e = long-gave n 8 0
+steps-long n m inverse limit (suc k) s e = step-long n m inverse limit s (steps m inverse limit k) e (λ t h. steps-long n m inverse limit k t h)
+
 pub solution-long : (m : Matrix) (k : ℕ) (rhs : List Complex) → Long (length rhs) (solutionOf m k rhs)
-unfolding solutionOf solved started answered begun
+unfolding solutionOf conjugateGradient
 solution-long m k rhs =
     let n : ℕ = length rhs in
-    let t : State = begun (m .diagonal) (fresh rhs) in
-    let o : Outcome = run m (innerTolerance ⊗ normOf rhs) k 0 (residualDot t) t in
-    let e : length (o .state .x) ≡ n = run-x m (innerTolerance ⊗ normOf rhs) k 0 (residualDot t) t ∙ length-replicate n czero in
-    long-either n (notPositive (normOf rhs)) _ _ (long-gave n _ _)
-    (long-either n (ltb (firstNotPositive (m .diagonal)) (length (m .diagonal))) _ _ (long-gave n _ _)
-    (long-either n (notPositive (residualDot t)) _ _ (long-gave n _ _)
-    (record { long = λ v q. ap length (sym (answered-held (o .answer) (o .state .x) v q)) ∙ e })))
+    let z : List Complex = scaled (recipsOf (m .diagonal)) rhs in
+    let dot : Float = dotOf z rhs .re in
+    let vertex : ℕ = firstNotPositive (m .diagonal) in
+    let s : LoopState = record { x = replicate n czero; residual = rhs; direction = z; residualDot = dot } in
+    long-cond n (notPositive (normOf rhs)) _ _ (long-gave n 3 0)
+    (long-cond n (ltb vertex (length (m .diagonal))) _ _ (long-gave n 4 vertex)
+    (long-cond n (notPositive dot) _ _ (long-gave n 5 0)
+    (steps-long n m (recipsOf (m .diagonal)) (innerTolerance ⊗ normOf rhs) k s (length-replicate n czero))))
+
+-- ---- normalize_in_mass
 
 pub normalized-long : (mass : Matrix) (x : List Complex) → Long (length x) (normalizedOf mass x)
 unfolding normalizedOf scaledBy
 normalized-long mass x =
-    long-cond (length x) (notPositive (massOf mass x)) _ _ (long-gave (length x) 9 0) (long-vector (length x) (scaledBy (recipOf (rootOf (massOf mass x))) x) (length-tab _ (length x)))
+    long-cond (length x) (notPositive (massSquared mass x)) _ _ (long-gave (length x) 9 0) (long-vector (length x) (scaledBy (recipOf (rootOf (massSquared mass x))) x) (length-tab _ (length x)))

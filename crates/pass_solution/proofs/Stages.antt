@@ -25,21 +25,25 @@ use Rattle.linear_conjugate_gradient.specs.declared.Answer.the-variants.{Iterat
 use Rattle.linear_conjugate_gradient.specs.declared.Normalized.{Normalized}
 use Rattle.linear_conjugate_gradient.specs.declared.Normalized.the-variants as normalized
 use Rattle.linear_conjugate_gradient.specs.Answer.{reason, place}
-use Rattle.linear_conjugate_gradient.specs.Solve.{State, Outcome, solved, massOf, normalizedAnswer, normalizedVector}
+use Rattle.linear_conjugate_gradient.specs.Method.{massSquared, normalizedOf}
+use Rattle.linear_conjugate_gradient.specs.Solve.{State, Outcome, solved, normalizedAnswer, normalizedVector}
 use Rattle.linear_conjugate_gradient.specs.Work.{read, lay, VectorRoom, SolverRoom, Solved, InMass}
 use Rattle.linear_conjugate_gradient.proofs.Lays.{Sized, read-sized, lay-read, get-x, get-all, put-x, put-p}
-use Rattle.linear_conjugate_gradient.proofs.Fresh.{solved-fresh, solved-sized, answered-held}
+use Rattle.linear_conjugate_gradient.proofs.Method.{answered, answered-held, solved-method, solved-sized}
 use Rattle.pass_refusal.specs.declared.Stage.{Stage}
 use Rattle.pass_refusal.specs.declared.Stage.the-variants.{Done, Refused}
-use Rattle.pass_refusal.specs.Refusal.{gaveUp}
-use Rattle.linear_conjugate_gradient.specs.Found.{vector, gave, answered}
-use Rattle.pass_solution.specs.Solution.{innerTolerance, solutionOf, normalizedOf}
-use Rattle.pass_solution.specs.Work.{stageOf, Framed, Solves, Normalizes}
+use Rattle.linear_conjugate_gradient.specs.Found.{vector, gave}
+use Rattle.pass_solution.specs.Solution.{innerTolerance, solutionOf}
+use Rattle.pass_solution.specs.Work.{refusalOf, foundStage, Framed, Solves, normalizedLeft, Normalizes}
 
 -- ---- nothing but the solver's vectors is written
 
+-- the vectors that a slice was laid with
+pub left-in : (w : List Float) (n : ℕ) (l : Vectors) → VectorRoom (length w) n l → (s : State) → Sized n s → {w₁ : List Float} → w₁ ≡ lay w n l s → read w₁ n l ≡ s
+left-in w n l ok s z e = ap (λ v. read v n l) e ∙ get-all w n l ok s z
+
 pub framed : (w : List Float) (n : ℕ) (l : Vectors) → VectorRoom (length w) n l → (s : State) → Sized n s → {w₁ : List Float} → w₁ ≡ lay w n l s → Framed w w₁ n l
-framed w n l ok s z e = e ∙ ap (lay w n l) (sym (ap (λ v. read v n l) e ∙ get-all w n l ok s z))
+framed w n l ok s z e = e ∙ ap (lay w n l) (sym (left-in w n l ok s z e))
 
 -- ---- solve
 
@@ -58,21 +62,22 @@ module _ (w : List Float) (h : Hermitian) (l : Vectors) (from to : List ℕ) (mo
 
   found-is : solutionOf (matrix w h from to) most (regionC w (l .residual) (h .size)) ≡ answered a (regionC w₁ (l .x) (h .size))
   unfolding solutionOf read
-  found-is = sym (solved-fresh (matrix w h from to) innerTolerance most (read w (h .size) l)) ∙ rw (← s .result, ← x-is)
+  found-is = sym (solved-method (matrix w h from to) innerTolerance most (read w (h .size) l)) ∙ rw (← s .result, ← x-is)
 
-  solves : {r : Stage} → r ≡ stageOf (answered a (regionC w₁ (l .x) (h .size))) → Solves w w₁ h l from to most r
+  solves : {r : Stage} → r ≡ foundStage (answered a (regionC w₁ (l .x) (h .size))) → Solves w w₁ h l from to most r
   solves e = record {
     frame = framed w (h .size) l (ok .vector-room) (out .state) out-sized (s .work);
-    stage = e ∙ ap stageOf (sym found-is);
+    left = left-in w (h .size) l (ok .vector-room) (out .state) out-sized (s .work);
+    stage = e ∙ ap foundStage (sym found-is);
     held = λ v q. answered-held a (regionC w₁ (l .x) (h .size)) v (sym found-is ∙ q);
   }
 
   pub solve-done : {count : ℕ} → a ≡ Iterate count → Solves w w₁ h l from to most Done
-  unfolding stageOf answered
+  unfolding foundStage answered
   solve-done e = solves (rw e)
 
-  pub solve-gave : {r : Reason} {t : Stage} → a ≡ GaveUp r → t ≡ Refused (gaveUp (reason r) (place r)) → Solves w w₁ h l from to most t
-  unfolding stageOf answered
+  pub solve-gave : {r : Reason} {t : Stage} → a ≡ GaveUp r → t ≡ Refused (refusalOf r) → Solves w w₁ h l from to most t
+  unfolding foundStage answered
   solve-gave e f = solves (f ∙ rw e)
 
 -- ---- normalize
@@ -81,14 +86,14 @@ normal-held : (b : Bool) (x u v : List Complex) → cond b (gave 9 0) (vector u)
 normal-held true x u v e = let z : _≡_ {A = ℕ} 0 1 = cc in absurd (omega arith)
 normal-held false x u v e = cc
 
-normal-done : (b : Bool) (u : List Complex) → normalized.Done ≡ cond b (normalized.GaveUp MassOfIterate) normalized.Done → Done ≡ stageOf (cond b (gave 9 0) (vector u))
-unfolding stageOf
+normal-done : (b : Bool) (u : List Complex) → normalized.Done ≡ cond b (normalized.GaveUp MassOfIterate) normalized.Done → Done ≡ foundStage (cond b (gave 9 0) (vector u))
+unfolding foundStage
 normal-done true u e = let z : _≡_ {A = ℕ} 0 1 = cc in absurd (omega arith)
 normal-done false u e = refl
 
 normal-gave : (b : Bool) (u : List Complex) (r : Reason) → normalized.GaveUp r ≡ cond b (normalized.GaveUp MassOfIterate) normalized.Done
-    → Refused (gaveUp (reason r) (place r)) ≡ stageOf (cond b (gave 9 0) (vector u))
-unfolding stageOf reason place
+    → Refused (refusalOf r) ≡ foundStage (cond b (gave 9 0) (vector u))
+unfolding foundStage reason place
 normal-gave true u r e = let q : r ≡ MassOfIterate = cc in rw q
 normal-gave false u r e = let z : _≡_ {A = ℕ} 0 1 = cc in absurd (omega arith)
 
@@ -104,7 +109,7 @@ module _ (w : List Float) (mass : Hermitian) (l : Vectors) (from to : List ℕ) 
   m = matrix w mass from to
 
   abbrev squared : Float
-  squared = massOf m x
+  squared = massSquared m x
 
   abbrev first : State
   first = read w n l
@@ -148,9 +153,10 @@ module _ (w : List Float) (mass : Hermitian) (l : Vectors) (from to : List ℕ) 
   normal-x : regionC w₁ (l .x) n ≡ normalizedVector squared x
   normal-x = ap (λ v. regionC v (l .x) n) laid-third ∙ get-x w n l (ok .vector-room) third third-sized
 
-  normalizes : {r : Stage} → r ≡ stageOf (normalizedOf m x) → Normalizes w w₁ mass l from to r
+  normalizes : {r : Stage} → r ≡ foundStage (normalizedOf m x) → Normalizes w w₁ mass l from to r
   normalizes e = record {
     frame = framed w n l (ok .vector-room) third third-sized laid-third;
+    left = left-in w n l (ok .vector-room) third third-sized laid-third ∙ (unfold normalizedLeft read in refl);
     stage = e;
     held = held;
   }
@@ -162,6 +168,6 @@ module _ (w : List Float) (mass : Hermitian) (l : Vectors) (from to : List ℕ) 
   unfolding normalizedOf normalizedAnswer
   normalize-done e = normalizes (normal-done (notPositive squared) _ (sym e ∙ s .result))
 
-  pub normalize-gave : {r : Reason} {t : Stage} → a ≡ normalized.GaveUp r → t ≡ Refused (gaveUp (reason r) (place r)) → Normalizes w w₁ mass l from to t
+  pub normalize-gave : {r : Reason} {t : Stage} → a ≡ normalized.GaveUp r → t ≡ Refused (refusalOf r) → Normalizes w w₁ mass l from to t
   unfolding normalizedOf normalizedAnswer
   normalize-gave {r} e f = normalizes (f ∙ normal-gave (notPositive squared) _ r (sym e ∙ s .result))

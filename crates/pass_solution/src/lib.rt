@@ -10,23 +10,30 @@ use pass_refusal::Stage;
 ghost use mathlib.Core.Path.{_≡_};
 ghost use lib.ListN.{length};
 ghost use Rattle.linear_hermitian.specs.Work.{Graph};
-ghost use Rattle.linear_conjugate_gradient.specs.Answer.{reason, place};
 ghost use Rattle.linear_conjugate_gradient.specs.Work.{SolverRoom, Engine};
-ghost use Rattle.pass_refusal.specs.Refusal.{gaveUp};
 ghost use Rattle.pass_refusal.specs.declared.Stage.the-variants.{Refused};
 ghost use Rattle.pass_solution.specs.Solution.{innerMost, linearMost};
-ghost use Rattle.pass_solution.specs.Work.{Solves, Normalizes};
+ghost use Rattle.pass_solution.specs.Work.{refusalOf, Solves, Normalizes};
 
 const INNER_TOLERANCE: f64 = 1e-9;
+
+// A count of iterations over n vertices: 400 + 8 n, and at most 6000, which 700 vertices reach.
+const LEAST_COUNT: usize = 400;
+
+const COUNT_PER_VERTEX: usize = 8;
+
+const COUNT_BOUND: usize = 6000;
+
+const BOUND_FROM: usize = (COUNT_BOUND - LEAST_COUNT) / COUNT_PER_VERTEX;
 
 // The most iterations of a solve over n vertices: in the inverse iteration, and otherwise.
 pub fn inner_most(n: usize) -> usize
     ensures { λ r. ⌜ r ≡ innerMost n ⌝ }
 {
-    if n < 700 {
-        return 400 + 8 * n;
+    if n < BOUND_FROM {
+        return LEAST_COUNT + COUNT_PER_VERTEX * n;
     }
-    6000
+    COUNT_BOUND
 }
 
 pub fn linear_most(n: usize, iterations: usize) -> usize
@@ -36,15 +43,15 @@ pub fn linear_most(n: usize, iterations: usize) -> usize
     if iterations < most {
         return most;
     }
-    if iterations < 6000 {
+    if iterations < COUNT_BOUND {
         return iterations;
     }
-    6000
+    COUNT_BOUND
 }
 
 // The refusal that a reason of the linear solver stands for.
 fn gave_up(r: Reason) -> Stage
-    ensures { λ s. ⌜ s ≡ Refused (gaveUp (reason r) (place r)) ⌝ }
+    ensures { λ s. ⌜ s ≡ Refused (refusalOf r) ⌝ }
 {
     match r {
         Reason::RightHandNorm => pass_refusal::gave_up(3, 0),
@@ -75,10 +82,10 @@ pub fn solve(
     ensures { λ r. ⌜ Solves (now (work .entry)) (now (work .exit)) h l (now (from .entry)) (now (to .entry)) most r ⌝ }
 {
     let a = conjugate_gradient(work, h, l, from, to, u, copy, INNER_TOLERANCE, most);
-    match a {
-        Answer::Iterate(_) => Stage::Done,
-        Answer::GaveUp(reason) => gave_up(reason),
-    }
+    let Answer::GaveUp(reason) = a else {
+        return Stage::Done;
+    };
+    gave_up(reason)
 }
 
 // x divided by its norm in the mass matrix. The direction's region is left with the matrix times the old x.
@@ -88,8 +95,8 @@ pub fn normalize(work: &mut [f64], mass: Hermitian, l: Vectors, from: &[u32], to
     ensures { λ r. ⌜ Normalizes (now (work .entry)) (now (work .exit)) mass l (now (from .entry)) (now (to .entry)) r ⌝ }
 {
     let a = linear_conjugate_gradient::normalize_in_mass(work, l.x, l.direction, mass, from, to);
-    match a {
-        Normalized::Done => Stage::Done,
-        Normalized::GaveUp(reason) => gave_up(reason),
-    }
+    let Normalized::GaveUp(reason) = a else {
+        return Stage::Done;
+    };
+    gave_up(reason)
 }

@@ -4,13 +4,13 @@ use Rattle.linear_conjugate_gradient.specs.Answer.{reason, place}
 use Rattle.linear_conjugate_gradient.specs.declared.Reason.{Reason}
 use Rattle.pass_refusal.specs.declared.Stage.{Stage}
 use Rattle.pass_refusal.specs.declared.Stage.the-variants.{Refused}
-use Rattle.pass_refusal.specs.Refusal.{gaveUp}
+use Rattle.pass_solution.specs.Work.{refusalOf}
 use borrow.Author.Needs.{needs}
 use Rattle.pass_solution.proofs.gave_up.Statement.{statement}
 use Rattle.pass_solution.proofs.gave_up.Tie as tie
 
 abbrev told : Reason → Stage
-told r = Refused (gaveUp (reason r) (place r))
+told r = Refused (refusalOf r)
 
 enum-told : tie.Need-enum-told
 enum-told c = search needs

@@ -9,20 +9,20 @@ use Rattle.pass_solution.proofs.normalize.Tie as tie
 normalize-in-mass-requires : tie.Need-normalize-in-mass-requires
 normalize-in-mass-requires c κs = (omega (arith, apart), search needs)
 
-enum-told : tie.Need-enum-told
-enum-told c = search needs
-
 enum-known-a : tie.Need-enum-known-a
 enum-known-a c = search needs
 
-gave-up-requires : tie.Need-gave-up-requires
-gave-up-requires c κs = search needs
+enum-told : tie.Need-enum-told
+enum-told c = search needs
 
 same-length : tie.Need-same-length
 same-length c = search needs
 
 returns : tie.Need-returns
 returns c = search normalize-done
+
+gave-up-requires : tie.Need-gave-up-requires
+gave-up-requires c κs = search needs
 
 same-length-2 : tie.Need-same-length-2
 same-length-2 c = search needs
@@ -35,10 +35,10 @@ normalize-spec =
     tie.close
     (tie.spec
     normalize-in-mass-requires
-    enum-told
     enum-known-a
-    gave-up-requires
+    enum-told
     same-length
     returns
+    gave-up-requires
     same-length-2
     returns-2)
