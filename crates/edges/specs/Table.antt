@@ -2,7 +2,7 @@
 -- Each bucket is the root of a digital search tree: a position, bucket or link, holds one more than the number of the side that stands there, or 0. The walk
 -- to a side starts at its bucket, and goes on at the first or the second link of the side that it meets by the lowest digit of the side's path, which is then
 -- halved; a new side goes to the empty position where its walk ends. Which bucket and which path a side has matters to nothing but the time that a walk
--- takes; a walk meets no more sides than its path has digits and its bucket sides of one path, however the floor is made. Definitions only.
+-- takes. A link leads to a later side than its own (`later`), so that a walk meets no side twice. Definitions only.
 use Prim.Native.Nat.{ℕ, zero, suc, _+_, _-_, _*_, _/_, _%_, _^_, _≤_, _<_}
 use mathlib.Core.Path.{_≡_}
 use mathlib.Core.Logic.{_≢_}

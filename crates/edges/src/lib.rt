@@ -1,6 +1,6 @@
 // Sides of triangles, numbered in the order first met, lower end first: the Rust's HashMap of sides, and its list of them, in lent numbers.
-// The table stands in one slice of numbers: its buckets, then four numbers for each of its sides (specs/Table.antt). No numbers are mixed to choose a bucket,
-// and no floor makes a search long: the sides of a bucket, which share their lower end, stand in a tree by the digits of their upper end.
+// The table stands in one slice of numbers: its buckets, then four numbers for each of its sides (specs/Table.antt). No numbers are mixed to choose a bucket:
+// the sides of a bucket, which share their lower end, stand in a tree by the digits of their upper end. Why searches are short is argued in docs/DECISIONS.md.
 pub mod numbers;
 pub mod two_slices;
 

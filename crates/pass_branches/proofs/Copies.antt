@@ -27,6 +27,7 @@ use Rattle.pass_field.specs.Field.{FieldRoom}
 use Rattle.pass_refusal.specs.declared.Stage.{Stage}
 use Rattle.pass_options.specs.Pass.{Passed}
 use Rattle.pass_branches.specs.Work.{Leaves, LeavesLinear, LeavesVector, CopyRoom, CopyBehind, Copies}
+use Rattle.pass_branches.proofs.Ends.{leaves-after}
 
 -- the entries have room
 pub entries-room : {len : ℕ} (h : Hermitian) (l : Vectors) (at : ℕ) (c : Packing) (e : Source) → SolverRoom len h l → CopyRoom h l at c e → EntriesRoom len h c e
@@ -85,8 +86,11 @@ module _ (w : List Float) (h : Hermitian) (l : Vectors) (at : ℕ) (from to u : 
     pub copied-room : SolverRoom (length w₁) h l
     copied-room = same-room copied-length h l ok
 
-    copied-below : (j : ℕ) → j < at → getD w₁ j nan ≡ getD w j nan
-    copied-below j z = region-one nan w w₁ j (before j 1 (omega (arith, room .angles-before)))
+    copied-before : (j : ℕ) → j < c .entries → getD w₁ j nan ≡ getD w j nan
+    copied-before j z = region-one nan w w₁ j (before j 1 (omega arith))
+
+    copied-behind : (j : ℕ) → l .x ≤ j → getD w₁ j nan ≡ getD w j nan
+    copied-behind j z = region-one nan w w₁ j (reals-kept u c e (k .ready) w h made ew j 1 (apart (c .entries) (2 * c .slots) j 1 (omega (arith, room .entries-below))))
 
     same-system : systemIn w₁ h l from to ≡ systemIn w h l from to
     same-system =
@@ -94,13 +98,15 @@ module _ (w : List Float) (h : Hermitian) (l : Vectors) (at : ℕ) (from to u : 
         cells-kept u c e (k .ready) w h made ew (l .residual) (h .size) (apart (c .entries) (2 * c .slots) (l .residual) (2 * h .size) (omega (arith, room .entries-below, ok .vector-room .vectors-in))) in
         λ i. record { matrix = one-matrix i; rhs = r i }
 
-    kept : {w₂ : List Float} {p : Passed} {r : Stage} → Leaves w₁ w₂ at (h .size) p r → Leaves w w₂ at (h .size) p r
-    kept a = record { answer = a .answer; found = a .found; all-reals = a .all-reals ∙ copied-length; reals-below = λ j z. a .reals-below j z ∙ copied-below j z }
+    kept : {w₂ : List Float} {p : Passed} {r : Stage} → Leaves w₁ w₂ h l at p r → Leaves w w₂ h l at p r
+    kept a =
+        leaves-after copied-length (λ j z. copied-before j (omega (arith, room .angles-before))) (λ j d o. copied-before j (omega (arith, room .diagonal-before)))
+        (λ j z. copied-behind j (omega (arith, ok .vector-room .vectors-in))) a
 
     pub leaves-linear : (iterations : ℕ) {w₂ : List Float} {r : Stage} → LeavesLinear w₁ w₂ h l at iterations from to r → LeavesLinear w w₂ h l at iterations from to r
     leaves-linear iterations a = kept (rw same-system at a)
 
-    pub leaves-vector : (mass : Hermitian) (o : Outer) → CopyBehind mass (h .size) o c → {w₂ : List Float} {r : Stage} → LeavesVector w₁ w₂ h mass at from to o r
-        → LeavesVector w w₂ h mass at from to o r
+    pub leaves-vector : (mass : Hermitian) (o : Outer) → CopyBehind mass (h .size) o c → {w₂ : List Float} {r : Stage} → LeavesVector w₁ w₂ h mass l at from to o r
+        → LeavesVector w w₂ h mass l at from to o r
     leaves-vector mass o b a =
         kept (rw (one-matrix, matrix-before mass (b .mass-before) (b .mass-off-before), before (o .x) (h .size) (b .x-before), before (o .y) (h .size) (b .y-before)) at a)

@@ -25,9 +25,9 @@ use Rattle.pass_inverse_iteration.specs.Inverse.{inverseOf}
 use Rattle.pass_inverse_iteration.proofs.Lengths.{inverse-long}
 use Rattle.pass_field.specs.Field.{Angles, angles, endless, fieldOf}
 use Rattle.pass_field.proofs.Angles.{field-cross}
-use Rattle.floor.specs.Floor.{Floor, pointsOf, valueAt}
+use Rattle.floor.specs.Floor.{Floor, pointCount, valueAt}
 use Rattle.pass_refusal.specs.declared.Fault.{Fault}
-use Rattle.pass_refusal.specs.Refusal.{row}
+use Rattle.pass_refusal.specs.Refusal.{faultAt}
 use Rattle.pass_options.specs.declared.Options.{Options}
 use Rattle.pass_options.specs.declared.BoundaryMode.{BoundaryMode}
 use Rattle.pass_options.specs.declared.BoundaryMode.the-variants.{None, Tangent, Weak}
@@ -122,17 +122,17 @@ length-start : (xs ys : List Float) → length (startOf xs ys) ≡ length xs
 unfolding startOf rampedBy
 length-start xs ys = length-tab _ (length xs)
 
-length-aims : (f : Floor) → length (targetsIn f) ≡ pointsOf f
+length-aims : (f : Floor) → length (targetsIn f) ≡ pointCount f
 unfolding targetsIn
-length-aims f = length-targets (valueAt (f .xs)) (valueAt (f .ys)) (f .triangles) (pointsOf f)
+length-aims f = length-targets (valueAt (f .xs)) (valueAt (f .ys)) (f .triangles) (pointCount f)
 
-pub branch-crossed : (b : Built) (f : Floor) (o : Options) (g : Guidance) (k : ℕ) → Crossed (pointsOf f) (branchOf b f o g k)
+pub branch-crossed : (b : Built) (f : Floor) (o : Options) (g : Guidance) (k : ℕ) → Crossed (pointCount f) (branchOf b f o g k)
 unfolding branchOf
 branch-crossed b f o g k =
-    crossed-cond (pointsOf f) (unbounded (o .boundary) f) _ _ (crossed-faulty (pointsOf f) (row 23 0))
-    (crossed-mode (o .boundary) b (pointsOf f) _ (targetsIn f) (startOf (f .xs) (f .ys)) _ k (length-aims f) (length-start (f .xs) (f .ys)))
+    crossed-cond (pointCount f) (unbounded (o .boundary) f) _ _ (crossed-faulty (pointCount f) (faultAt 23 0))
+    (crossed-mode (o .boundary) b (pointCount f) _ (targetsIn f) (startOf (f .xs) (f .ys)) _ k (length-aims f) (length-start (f .xs) (f .ys)))
 
 -- for guidance of any length, and any matrices
 pub branch-field : (b : Built) (f : Floor) (o : Options) (g : Guidance) (k : ℕ) (alpha : List Float) → branchOf b f o g k ≡ field alpha
-    → (length alpha ≡ pointsOf f) × ((i : ℕ) → i < length alpha → IsCross (getD alpha i nan))
+    → (length alpha ≡ pointCount f) × ((i : ℕ) → i < length alpha → IsCross (getD alpha i nan))
 branch-field b f o g k alpha e = (branch-crossed b f o g k .as-many alpha e, branch-crossed b f o g k .range alpha e)

@@ -12,7 +12,7 @@ use lib.ListN.{length, getD}
 use Rattle.complex.specs.declared.Complex.{Complex}
 use Rattle.linear_cells.specs.Region.{region, put}
 use Rattle.linear_cells.specs.Cell.{regionC, putC}
-use Rattle.linear_cells.proofs.Loops.{apart}
+use Rattle.linear_cells.proofs.Loops.{apart, length-tab}
 use Rattle.linear_cells.proofs.Regions.{length-region, length-put, region-else}
 use Rattle.linear_cells.proofs.Changes.{region-one}
 use Rattle.linear_cells.proofs.Cells.{length-putC, regionC-same, regionR-else}
@@ -23,13 +23,13 @@ use Rattle.pass_boundary.specs.declared.Planes.{Planes}
 use Rattle.pass_boundary.specs.Boundary.{boundarySides, targetsOf, flagsOf, firstsOf}
 use Rattle.pass_boundary.specs.Work.{ListRoom, PlaneRoom, Bounded, countsOf, tableOf}
 use Rattle.pass_boundary.proofs.Slices.{sided-kept, numbers-kept}
-use Rattle.pass_boundary.proofs.Points.{length-targets, target-off}
+use Rattle.pass_boundary.proofs.Points.{length-flags, length-targets, target-off}
 use Rattle.pass_boundary.proofs.After.{targets-after, flags-after}
 use Rattle.pass_constraints.specs.Constraints.{on}
 use Rattle.pass_constraints.proofs.Systems.{boundary-data}
 use Rattle.pass_refusal.specs.declared.Stage.{Stage}
 use Rattle.pass_refusal.specs.declared.Stage.the-variants.{Refused}
-use Rattle.pass_refusal.specs.Refusal.{row}
+use Rattle.pass_refusal.specs.Refusal.{faultAt}
 use Rattle.pass_soft.specs.Soft.{Term, termOf, guidedTargets, alignedTargets}
 use Rattle.pass_soft.specs.Work.{termsIn}
 use Rattle.pass_inverse_iteration.specs.Work.{startIn}
@@ -40,7 +40,7 @@ use Rattle.pass_options.specs.Options.{guidanceOf}
 use Rattle.pass_options.specs.Pass.{Passed, field, faulty}
 use Rattle.pass_layout.specs.declared.Layout.{Layout}
 use Rattle.pass_layout.specs.Layout.{Ordered}
-use Rattle.pass_layout.specs.Matrices.{massAt, energyAt}
+use Rattle.pass_layout.specs.Matrices.{massAt, energyAt, vectorsAt}
 use Rattle.pass_layout.specs.Work.{floorIn, guidanceIn, fromIn, toIn, listingAt, Edged}
 use Rattle.pass_branches.specs.declared.Search.{Search}
 use Rattle.pass_branches.specs.Branches.{Built, guidedTerm, softTerms, acts, flagsIn, targetsIn, byMode, unbounded, branchOf}
@@ -72,7 +72,7 @@ module _ (l : Layout) (m : ℕ) (o : Options) (s : Search) where
     abbrev targets : List Complex
     targets = targetsOf (valueAt (region nan w (l .x) (l .points))) (valueAt (region nan w (l .y) (l .points))) (trisFrom (l .given) u (l .triangles)) (l .points)
 
-    sought-is : soughtIn l m o s w u ≡ cond (acts (o .boundary) && eqb (length (boundarySides (trisFrom (l .given) u (l .triangles)))) 0) (faulty (row 23 0)) (modeIn w u flags targets)
+    sought-is : soughtIn l m o s w u ≡ cond (acts (o .boundary) && eqb (length (boundarySides (trisFrom (l .given) u (l .triangles)))) 0) (faulty (faultAt 23 0)) (modeIn w u flags targets)
     unfolding soughtIn branchOf unbounded flagsIn targetsIn floorIn
     sought-is = rw (length-region nan w (l .x) (l .points), terms-are l m o s w)
 
@@ -84,14 +84,25 @@ idle None b n flags flags′ targets targets′ start ts k e = refl
 idle Tangent b n flags flags′ targets targets′ start ts k e = let z : _≡_ {A = ℕ} 0 1 = cc in absurd (omega arith)
 idle (Weak weight) b n flags flags′ targets targets′ start ts k e = rw e
 
-pub idle-finds : (l : Layout) (m : ℕ) (o : Options) (s : Search) (w : List Float) (u : List ℕ) {b : Bool} → b ≡ acts (o .boundary) → b ≡ false → {w₁ : List Float} {u₁ : List ℕ} {r : Stage}
-    → LeavesPacked l m o s w w₁ u u₁ r → Finds l (l .table) (soughtIn l m o s w u) w u w₁ u₁ r
-idle-finds l m o s w u eb e {w₁} {u₁} {r} a =
+pub idle-finds : (l : Layout) (m : ℕ) (o : Options) (s : Search) (w : List Float) (u : List ℕ) → Ordered l (length w) (length u) → {b : Bool} → b ≡ acts (o .boundary) → b ≡ false → {w₁ : List Float} {u₁ : List ℕ} {r : Stage}
+    → LeavesPacked l m o s w w₁ u u₁ r → Finds l (l .energy) (l .table) (soughtIn l m o s w u) w u w₁ u₁ r
+idle-finds l m o s w u ok eb e {w₁} {u₁} {r} a =
     let q : acts (o .boundary) ≡ false = sym eb ∙ e in
     let p : modeIn l m o s w u (flagsAt l u) (regionC w (l .targets) (l .points)) ≡ soughtIn l m o s w u =
     idle (o .boundary) _ _ _ (flags l m o s w u) _ (targets l m o s w u) _ _ _ q ∙ sym (sought-is l m o s w u ∙ rw q) in
-    let c : Leaves w w₁ (l .angles) (l .points) (soughtIn l m o s w u) r = rw p at (a .leaves) in
-    record { answer = c .answer; found = c .found; all-reals = c .all-reals; all-words = a .all-words; reals-below = c .reals-below; words-below = a .words-below }
+    let c : Leaves w w₁ (energyAt l m) (vectorsAt l) (l .angles) (soughtIn l m o s w u) r = rw p at (a .leaves) in
+    record {
+      answer = c .answer;
+      found = c .found;
+      all-reals = c .all-reals;
+      all-words = a .all-words;
+      reals-below = c .reals-below;
+      angles-stay = c .angles-stay;
+      reals-between = λ j g k. c .reals-between j g k (omega (arith, ok .energy-in));
+      reals-behind = c .reals-behind;
+      words-below = a .words-below;
+      words-behind = a .words-behind;
+    }
 
 -- no field is asked of tangents then
 pub idle-bounds : (o : Options) {b : Bool} → b ≡ acts (o .boundary) → b ≡ false → o .boundary ≡ Tangent → ⊥
@@ -161,8 +172,28 @@ module _ (l : Layout) (m : ℕ) (w : List Float) (u : List ℕ) (ok : Ordered l 
     all-words-same : length u₁ ≡ length u
     all-words-same = ap length (b .words) ∙ length-put _ (l .flags) F ∙ length-put u (l .counts) _
 
-    reals-stay : (j : ℕ) → j < l .angles → getD w₁ j nan ≡ getD w j nan
+    reals-stay : (j : ℕ) → j < l .energy → getD w₁ j nan ≡ getD w j nan
     reals-stay j k = region-one nan w w₁ j (reals-same j 1 (omega arith))
+
+    reals-past : (j : ℕ) → l .inverse + l .points ≤ j → getD w₁ j nan ≡ getD w j nan
+    unfolding firstsOf
+    reals-past j k =
+        let many : length firsts ≡ l .points = length-tab _ (l .points) in
+        let all : length T ≡ l .points = length-targets _ _ (trisFrom (l .given) u (l .triangles)) (l .points) in
+        region-one nan w w₁ j
+        (ap (λ v. region nan v j 1) (b .reals)
+        ∙ regionR-else (putC w (l .targets) T) (l .direction) firsts many j 1 (apart (l .direction) (2 * l .points) j 1 (omega arith))
+        ∙ regionR-else w (l .targets) T all j 1 (apart (l .targets) (2 * l .points) j 1 (omega arith)))
+
+    words-past : (j : ℕ) → l .marks + l .points ≤ j → getD u₁ j 0 ≡ getD u j 0
+    unfolding countsOf
+    words-past j k =
+        let counts : List ℕ = countsOf (tableOf (listingAt l m) u) (trisFrom (l .given) u (l .triangles)) m in
+        let many : length counts ≡ m = length-tab _ m in
+        region-one 0 u u₁ j
+        (ap (λ v. region 0 v j 1) (b .words)
+        ∙ region-else (put u (l .counts) counts) (l .flags) F (length-flags (trisFrom (l .given) u (l .triangles)) (l .points)) 0 j 1 (apart (l .flags) (l .points) j 1 (omega arith))
+        ∙ region-else u (l .counts) counts many 0 j 1 (apart (l .counts) m j 1 (omega (arith, e .few))))
 
     words-stay : (j : ℕ) → j < l .counts → getD u₁ j 0 ≡ getD u j 0
     words-stay j k = region-one 0 u u₁ j (words-same j 1 (omega arith))
@@ -199,25 +230,40 @@ module _ (l : Layout) (m : ℕ) (w : List Float) (u : List ℕ) (ok : Ordered l 
 
     module _ (o : Options) (s : Search) (a : acts (o .boundary) ≡ true) where
       -- row 23
-      pub held-refused : sides ≡ 0 → {r : Stage} → r ≡ Refused (row 23 0) → Finds l (l .table) (soughtIn l m o s w u) w u w₁ u₁ r
+      pub held-refused : sides ≡ 0 → {r : Stage} → r ≡ Refused (faultAt 23 0) → Finds l (l .energy) (l .table) (soughtIn l m o s w u) w u w₁ u₁ r
       held-refused z er =
-          let q : soughtIn l m o s w u ≡ faulty (row 23 0) = sought-is l m o s w u ∙ rw (a, eq-eqb _ _ (sym (b .sides) ∙ z)) in
-          rw q (record { answer = er; found = λ alpha h. absurd (never alpha h); all-reals = all-reals-same; all-words = all-words-same; reals-below = reals-stay; words-below = words-before })
+          let q : soughtIn l m o s w u ≡ faulty (faultAt 23 0) = sought-is l m o s w u ∙ rw (a, eq-eqb _ _ (sym (b .sides) ∙ z)) in
+          rw q (record {
+            answer = er;
+            found = λ alpha h. absurd (never alpha h);
+            all-reals = all-reals-same;
+            all-words = all-words-same;
+            reals-below = λ j k. reals-stay j (omega arith);
+            angles-stay = λ x h j g k. reals-stay j (omega arith);
+            reals-between = λ j g k. reals-stay j k;
+            reals-behind = reals-past;
+            words-below = words-before;
+            words-behind = words-past;
+          })
         where
-          never : (alpha : List Float) → faulty (row 23 0) ≡ field alpha → ⊥
+          never : (alpha : List Float) → faulty (faultAt 23 0) ≡ field alpha → ⊥
           never alpha h = let y : _≡_ {A = ℕ} 0 1 = cc in omega arith
 
-      pub held-finds : (sides ≡ 0 → ⊥) → {w₂ : List Float} {u₂ : List ℕ} {r : Stage} → LeavesPacked l m o s w₁ w₂ u₁ u₂ r → Finds l (l .table) (soughtIn l m o s w u) w u w₂ u₂ r
+      pub held-finds : (sides ≡ 0 → ⊥) → {w₂ : List Float} {u₂ : List ℕ} {r : Stage} → LeavesPacked l m o s w₁ w₂ u₁ u₂ r → Finds l (l .energy) (l .table) (soughtIn l m o s w u) w u w₂ u₂ r
       held-finds z {w₂} {u₂} {r} c =
           let q : soughtIn l m o s w u ≡ modeIn l m o s w u F T = sought-is l m o s w u ∙ rw (a, ne-eqb _ _ (λ h. z (b .sides ∙ h))) in
           let p : modeIn l m o s w₁ u₁ (flagsAt l u₁) (regionC w₁ (l .targets) (l .points)) ≡ soughtIn l m o s w u =
           rw (mass-same, energy-same, flags-are, targets-are, reals-same (l .x) (l .points) (omega arith), reals-same (l .y) (l .points) (omega arith), reals-same (l .guidance) (l .points) (omega arith)) (sym q) in
-          let d : Leaves w₁ w₂ (l .angles) (l .points) (soughtIn l m o s w u) r = rw p at (c .leaves) in
+          let d : Leaves w₁ w₂ (energyAt l m) (vectorsAt l) (l .angles) (soughtIn l m o s w u) r = rw p at (c .leaves) in
           record {
             answer = d .answer;
             found = d .found;
             all-reals = d .all-reals ∙ all-reals-same;
             all-words = c .all-words ∙ all-words-same;
-            reals-below = λ j k. d .reals-below j k ∙ reals-stay j k;
+            reals-below = λ j k. d .reals-below j k ∙ reals-stay j (omega arith);
+            angles-stay = λ x h j g k. d .angles-stay x h j g k ∙ reals-stay j (omega arith);
+            reals-between = λ j g k. d .reals-between j g k (omega (arith, ok .energy-in)) ∙ reals-stay j k;
+            reals-behind = λ j k. d .reals-behind j k ∙ reals-past j k;
             words-below = λ j k. c .words-below j k ∙ words-before j k;
+            words-behind = λ j k. c .words-behind j k ∙ words-past j k;
           }

@@ -6,6 +6,7 @@ use Prim.Native.Nat.{ℕ, _+_, _≤_}
 use native.Mathlib.Omega.{arith}
 use lib.Ieee.{Float, lt}
 use Rattle.float.specs.Double.{lit}
+use Rattle.complex.specs.declared.Complex.{Complex}
 use Rattle.linear_hermitian.specs.declared.Hermitian.{Hermitian}
 use Rattle.linear_conjugate_gradient.specs.declared.Vectors.{Vectors}
 use Rattle.linear_conjugate_gradient.specs.Work.{SolverRoom}
@@ -36,9 +37,9 @@ module _ {len : ℕ} (h mass : Hermitian) (l : Vectors) (at : ℕ) (t : Terms) (
       let s = ok .system-room .soft-room in
       ((record { one-size = s .shift-room .one-size; mass-room = s .mass-room; energy-room = s .h-room }, ok .plane-room), below)
 
-  pub leaves-system : {w w₁ w₂ : List Float} {from to : List ℕ} {s : System} {r : Stage} → Makes w w₁ h l from to s → LeavesLinear w₁ w₂ h l at (o .iterations) from to r
-      → Leaves w w₂ at (h .size) (linear (h .size) (o .iterations) s) r
-  leaves-system m a = leaves-made at (o .iterations) (ok .angles-below) (ok .angles-below-off) below m a
+  pub leaves-system : {w w₁ w₂ : List Float} {from to : List ℕ} {x : List Complex} {s : System} {r : Stage} → Makes w w₁ h l from to x s → LeavesLinear w₁ w₂ h l at (o .iterations) from to r
+      → Leaves w w₂ h l at (linear (h .size) (o .iterations) s) r
+  leaves-system m a = leaves-made at (o .iterations) (ok .system-room .soft-room .h-room) (ok .angles-below) (ok .angles-below-off) m a
 
 -- ---- whether a soft term acts
 
@@ -69,27 +70,27 @@ module _ (t : Terms) where
   unfolding noneActs
   neither-acts a g = rw (a, g)
 
-module _ (w w₁ : List Float) (h mass : Hermitian) (at : ℕ) (from to : List ℕ) (t : Terms) (o : Outer) {r : Stage} {b : Bool} (eb : b ≡ noneActs t) where
-  pub free-vector : b ≡ true → LeavesVector w w₁ h mass at from to o r → LeavesFree w w₁ h mass at from to t o r
+module _ (w w₁ : List Float) (h mass : Hermitian) (l : Vectors) (at : ℕ) (from to : List ℕ) (t : Terms) (o : Outer) {r : Stage} {b : Bool} (eb : b ≡ noneActs t) where
+  pub free-vector : b ≡ true → LeavesVector w w₁ h mass l at from to o r → LeavesFree w w₁ h mass l at from to t o r
   unfolding free
   free-vector e a = let q : isNone (termsIn w h t) ≡ true = sym (none-is w h t) ∙ sym eb ∙ e in rw q a
 
-  pub free-soft : b ≡ false → LeavesSoft w w₁ h mass at from to t o r → LeavesFree w w₁ h mass at from to t o r
+  pub free-soft : b ≡ false → LeavesSoft w w₁ h mass l at from to t o r → LeavesFree w w₁ h mass l at from to t o r
   unfolding free
   free-soft e a = let q : isNone (termsIn w h t) ≡ false = sym (none-is w h t) ∙ sym eb ∙ e in rw q a
 
 -- ---- the mode
 
-module _ (mode : BoundaryMode) (w w₁ : List Float) (h mass : Hermitian) (targets at : ℕ) (flags from to : List ℕ) (t : Terms) (o : Outer) {r : Stage} where
-  pub by-none : mode ≡ None → LeavesFree w w₁ h mass at from to t o r → LeavesBy mode w w₁ h mass targets at flags from to t o r
-  by-none e a = subst (λ (k : BoundaryMode). LeavesBy k w w₁ h mass targets at flags from to t o r) (sym e) a
+module _ (mode : BoundaryMode) (w w₁ : List Float) (h mass : Hermitian) (l : Vectors) (targets at : ℕ) (flags from to : List ℕ) (t : Terms) (o : Outer) {r : Stage} where
+  pub by-none : mode ≡ None → LeavesFree w w₁ h mass l at from to t o r → LeavesBy mode w w₁ h mass l targets at flags from to t o r
+  by-none e a = subst (λ (k : BoundaryMode). LeavesBy k w w₁ h mass l targets at flags from to t o r) (sym e) a
 
-  pub by-tangent : mode ≡ Tangent → LeavesTangent w w₁ h mass targets at flags from to t o r → LeavesBy mode w w₁ h mass targets at flags from to t o r
-  by-tangent e a = subst (λ (k : BoundaryMode). LeavesBy k w w₁ h mass targets at flags from to t o r) (sym e) a
+  pub by-tangent : mode ≡ Tangent → LeavesTangent w w₁ h mass l targets at flags from to t o r → LeavesBy mode w w₁ h mass l targets at flags from to t o r
+  by-tangent e a = subst (λ (k : BoundaryMode). LeavesBy k w w₁ h mass l targets at flags from to t o r) (sym e) a
 
   module _ {weight : Float} (e : mode ≡ Weak weight) where
-    pub by-weak : lt (lit 0) weight ≡ true → LeavesWeak w w₁ h mass targets at weight flags from to t o r → LeavesBy mode w w₁ h mass targets at flags from to t o r
-    by-weak q a = subst (λ (k : BoundaryMode). LeavesBy k w w₁ h mass targets at flags from to t o r) (sym e) (rw q a)
+    pub by-weak : lt (lit 0) weight ≡ true → LeavesWeak w w₁ h mass l targets at weight flags from to t o r → LeavesBy mode w w₁ h mass l targets at flags from to t o r
+    by-weak q a = subst (λ (k : BoundaryMode). LeavesBy k w w₁ h mass l targets at flags from to t o r) (sym e) (rw q a)
 
-    pub by-idle : lt (lit 0) weight ≡ false → LeavesFree w w₁ h mass at from to t o r → LeavesBy mode w w₁ h mass targets at flags from to t o r
-    by-idle q a = subst (λ (k : BoundaryMode). LeavesBy k w w₁ h mass targets at flags from to t o r) (sym e) (rw q a)
+    pub by-idle : lt (lit 0) weight ≡ false → LeavesFree w w₁ h mass l at from to t o r → LeavesBy mode w w₁ h mass l targets at flags from to t o r
+    by-idle q a = subst (λ (k : BoundaryMode). LeavesBy k w w₁ h mass l targets at flags from to t o r) (sym e) (rw q a)

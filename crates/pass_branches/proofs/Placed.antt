@@ -77,6 +77,6 @@ module _ (l : Layout) (m : ℕ) (o : Options) (s : Search) (w : List Float) (u :
         rw (eh, em, et, ev, ec, eg, from-is, to-is, flag-is)
         ((branch-room l m o s ok (e .few), target-room l m o s ok (e .few)), ((graphs, length-region 0 u (l .flags) (l .points)), (b, ((copy-room l m o s ok (e .few), copy-behind l m o s ok (e .few)), copies))))
 
-    pub at-leaves : {w₁ : List Float} {r : Stage}
-        → LeavesBy (o .boundary) w w₁ h mass (l .targets) (l .angles) (part u (l .flags) (l .points)) (part u (l .from) m) (part u (l .to) m) t (outerAt l s) r → LeavesAt l m o s w w₁ u r
-    at-leaves a = rw (eh, em, et, from-is, to-is, flag-is) at a
+    pub at-leaves : {v : Vectors} → v ≡ vectorsAt l → {w₁ : List Float} {r : Stage}
+        → LeavesBy (o .boundary) w w₁ h mass v (l .targets) (l .angles) (part u (l .flags) (l .points)) (part u (l .from) m) (part u (l .to) m) t (outerAt l s) r → LeavesAt l m o s w w₁ u r
+    at-leaves ev a = rw (eh, em, ev, et, from-is, to-is, flag-is) at a

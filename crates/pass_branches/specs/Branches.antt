@@ -18,8 +18,8 @@ use Rattle.pass_solution.specs.Solution.{solutionOf, linearMost}
 use Rattle.pass_start.specs.Start.{startOf}
 use Rattle.pass_inverse_iteration.specs.Inverse.{inverseOf}
 use Rattle.pass_field.specs.Field.{Angles, angles, endless, fieldOf}
-use Rattle.floor.specs.Floor.{Floor, pointsOf, valueAt}
-use Rattle.pass_refusal.specs.Refusal.{row, gaveUp}
+use Rattle.floor.specs.Floor.{Floor, pointCount, valueAt}
+use Rattle.pass_refusal.specs.Refusal.{faultAt, gaveUp}
 use Rattle.pass_options.specs.declared.Options.{Options}
 use Rattle.pass_options.specs.declared.BoundaryMode.{BoundaryMode}
 use Rattle.pass_options.specs.declared.BoundaryMode.the-variants.{None, Tangent, Weak}
@@ -56,10 +56,10 @@ acts (Weak weight) = lt (lit 0) weight
 
 -- which points lie on the boundary, and their targets
 unfoldable pub flagsIn : Floor → List ℕ
-flagsIn f = flagsOf (f .triangles) (pointsOf f)
+flagsIn f = flagsOf (f .triangles) (pointCount f)
 
 unfoldable pub targetsIn : Floor → List Complex
-targetsIn f = targetsOf (valueAt (f .xs)) (valueAt (f .ys)) (f .triangles) (pointsOf f)
+targetsIn f = targetsOf (valueAt (f .xs)) (valueAt (f .ys)) (f .triangles) (pointCount f)
 
 -- ---- from a vector to the field
 
@@ -98,7 +98,9 @@ byMode (Weak weight) b n flags targets start terms iterations = cond (lt (lit 0)
 unfoldable pub unbounded : BoundaryMode → Floor → Bool
 unbounded mode f = acts mode && eqb (length (boundarySides (f .triangles))) 0
 
+-- what the branch that the options choose finds
+abbrev pub searched : Built → Floor → Options → Guidance → ℕ → Passed
+searched b f o g iterations = byMode (o .boundary) b (pointCount f) (flagsIn f) (targetsIn f) (startOf (f .xs) (f .ys)) (softTerms o g (pointCount f)) iterations
+
 unfoldable pub branchOf : Built → Floor → Options → Guidance → ℕ → Passed
-branchOf b f o g iterations =
-    cond (unbounded (o .boundary) f) (faulty (row 23 0))
-    (byMode (o .boundary) b (pointsOf f) (flagsIn f) (targetsIn f) (startOf (f .xs) (f .ys)) (softTerms o g (pointsOf f)) iterations)
+branchOf b f o g iterations = cond (unbounded (o .boundary) f) (faulty (faultAt 23 0)) (searched b f o g iterations)

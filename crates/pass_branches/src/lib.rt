@@ -58,7 +58,7 @@ fn soft_field(
     requires { ⌜ BranchRoom (length (now w)) h mass (solver .vectors) angles t o ⌝ }
     requires { ⌜ Graphs mass h (now from) (now to) ⌝ }
     requires { ⌜ CopyRoom h (solver .vectors) angles (solver .copy) (solver .source) × Copies (now u) (now from) (now to) (solver .copy) (solver .source) ⌝ }
-    ensures { λ r. ⌜ LeavesSoft (now (w .entry)) (now (w .exit)) h mass angles (now (from .entry)) (now (to .entry)) t o r ⌝ }
+    ensures { λ r. ⌜ LeavesSoft (now (w .entry)) (now (w .exit)) h mass (solver .vectors) angles (now (from .entry)) (now (to .entry)) t o r ⌝ }
 {
     pass_systems::soft_system(w, h, mass, solver.vectors, from, to, t);
     solve_system(w, h, solver, angles, o.iterations, from, to, u)
@@ -83,7 +83,7 @@ fn weak_field(
     requires { ⌜ BranchRoom (length (now w)) h mass (solver .vectors) angles t o × TargetRoom (length (now w)) h (solver .vectors) targets ⌝ }
     requires { ⌜ Graphs mass h (now from) (now to) × (length (now flag) ≡ h .size) ⌝ }
     requires { ⌜ CopyRoom h (solver .vectors) angles (solver .copy) (solver .source) × Copies (now u) (now from) (now to) (solver .copy) (solver .source) ⌝ }
-    ensures { λ r. ⌜ LeavesWeak (now (w .entry)) (now (w .exit)) h mass targets angles weight (now (flag .entry)) (now (from .entry)) (now (to .entry)) t o r ⌝ }
+    ensures { λ r. ⌜ LeavesWeak (now (w .entry)) (now (w .exit)) h mass (solver .vectors) targets angles weight (now (flag .entry)) (now (from .entry)) (now (to .entry)) t o r ⌝ }
 {
     pass_systems::weak_system(
         w,
@@ -119,7 +119,7 @@ fn tangent_field(
     requires { ⌜ Graphs mass h (now from) (now to) × (length (now flag) ≡ h .size) ⌝ }
     requires { ⌜ boundaryData (now flag) (regionC (now w) targets (h .size)) ≡ regionC (now w) targets (h .size) ⌝ }
     requires { ⌜ CopyRoom h (solver .vectors) angles (solver .copy) (solver .source) × Copies (now u) (now from) (now to) (solver .copy) (solver .source) ⌝ }
-    ensures { λ r. ⌜ LeavesTangent (now (w .entry)) (now (w .exit)) h mass targets angles (now (flag .entry)) (now (from .entry)) (now (to .entry)) t o r ⌝ }
+    ensures { λ r. ⌜ LeavesTangent (now (w .entry)) (now (w .exit)) h mass (solver .vectors) targets angles (now (flag .entry)) (now (from .entry)) (now (to .entry)) t o r ⌝ }
 {
     pass_systems::tangent_system(w, h, mass, solver.vectors, targets, flag, from, to, t);
     solve_system(w, h, solver, angles, o.iterations, from, to, u)
@@ -155,7 +155,7 @@ fn free_field(
     requires { ⌜ Graphs mass h (now from) (now to) ⌝ }
     requires { ⌜ (CopyRoom h (solver .vectors) angles (solver .copy) (solver .source) × CopyBehind mass (h .size) o (solver .copy))
         × Copies (now u) (now from) (now to) (solver .copy) (solver .source) ⌝ }
-    ensures { λ r. ⌜ LeavesFree (now (w .entry)) (now (w .exit)) h mass angles (now (from .entry)) (now (to .entry)) t o r ⌝ }
+    ensures { λ r. ⌜ LeavesFree (now (w .entry)) (now (w .exit)) h mass (solver .vectors) angles (now (from .entry)) (now (to .entry)) t o r ⌝ }
 {
     if none_acts(t) {
         return vector_field(w, h, mass, solver, angles, o, from, to, u);
@@ -184,7 +184,7 @@ fn field_by(
     requires { ⌜ (mode ≡ Tangent → boundaryData (now flag) (regionC (now w) targets (h .size)) ≡ regionC (now w) targets (h .size)) ⌝ }
     requires { ⌜ (CopyRoom h (solver .vectors) angles (solver .copy) (solver .source) × CopyBehind mass (h .size) o (solver .copy))
         × Copies (now u) (now from) (now to) (solver .copy) (solver .source) ⌝ }
-    ensures { λ r. ⌜ LeavesBy mode (now (w .entry)) (now (w .exit)) h mass targets angles (now (flag .entry)) (now (from .entry)) (now (to .entry)) t o r ⌝ }
+    ensures { λ r. ⌜ LeavesBy mode (now (w .entry)) (now (w .exit)) h mass (solver .vectors) targets angles (now (flag .entry)) (now (from .entry)) (now (to .entry)) t o r ⌝ }
 {
     match mode {
         BoundaryMode::None => free_field(w, h, mass, solver, angles, t, o, from, to, u),
@@ -321,7 +321,7 @@ fn packed_field(
 fn held_field(w: &mut [f64], u: &mut [u32], l: Layout, edges: usize, o: Options, s: Search) -> Stage
     requires { ⌜ Ordered l (length (now w)) (length (now u)) ⌝ }
     requires { ⌜ Edged l edges (now u) × (acts (o .boundary) ≡ true) ⌝ }
-    ensures { λ r. ⌜ Finds l (l .table) (soughtIn l edges o s (now (w .entry)) (now (u .entry))) (now (w .entry)) (now (u .entry)) (now (w .exit)) (now (u .exit)) r ⌝ }
+    ensures { λ r. ⌜ Finds l (l .energy) (l .table) (soughtIn l edges o s (now (w .entry)) (now (u .entry))) (now (w .entry)) (now (u .entry)) (now (w .exit)) (now (u .exit)) r ⌝ }
 {
     let listing = Listing {
         triangles: l.triangles,
@@ -358,7 +358,7 @@ pub fn find_field(
 ) -> Stage
     requires { ⌜ Ordered l (length (now w)) (length (now u)) ⌝ }
     requires { ⌜ Edged l edges (now u) ⌝ }
-    ensures { λ r. ⌜ Finds l (l .table) (soughtIn l edges o s (now (w .entry)) (now (u .entry))) (now (w .entry)) (now (u .entry)) (now (w .exit)) (now (u .exit)) r ⌝ }
+    ensures { λ r. ⌜ Finds l (l .energy) (l .table) (soughtIn l edges o s (now (w .entry)) (now (u .entry))) (now (w .entry)) (now (u .entry)) (now (w .exit)) (now (u .exit)) r ⌝ }
 {
     let mode = o.boundary;
     if acts_on(mode) {

@@ -62,7 +62,7 @@ pub fn vector_field(
     requires { ⌜ Graphs mass h (now from) (now to) ⌝ }
     requires { ⌜ (CopyRoom h (solver .vectors) angles (solver .copy) (solver .source) × CopyBehind mass (h .size) o (solver .copy))
         × Copies (now u) (now from) (now to) (solver .copy) (solver .source) ⌝ }
-    ensures { λ r. ⌜ LeavesVector (now (w .entry)) (now (w .exit)) h mass angles (now (from .entry)) (now (to .entry)) o r ⌝ }
+    ensures { λ r. ⌜ LeavesVector (now (w .entry)) (now (w .exit)) h mass (solver .vectors) angles (now (from .entry)) (now (to .entry)) o r ⌝ }
 {
     linear_packing::entries(w, u, h, solver.copy, solver.source);
     let s = pass_inverse_iteration::inverse_iteration(

@@ -1,12 +1,14 @@
 -- The pass over a floor as given: its triangles stand where they were laid, and a floor without cut sides is the floor as given. Assumes nothing.
-use Prim.Native.Nat.{ℕ, _+_, _*_, _/_, _<_}
+use Prim.Native.Nat.{ℕ, _+_, _*_, _/_, _≤_, _<_}
 use native.Mathlib.Omega.{arith}
 use mathlib.Core.Path.{_≡_, refl, ap, _∙_, subst}
 use mathlib.Core.List.{List, [], append-nil}
 use lib.ListN.{length, getD}
 use lib.Ieee.{Float}
-use Rattle.linear_cells.specs.Region.{put}
-use Rattle.linear_cells.proofs.Regions.{length-put, put-within}
+use Rattle.linear_cells.specs.Region.{region, put}
+use Rattle.linear_cells.proofs.Loops.{apart}
+use Rattle.linear_cells.proofs.Regions.{length-put, put-within, region-else}
+use Rattle.linear_cells.proofs.Changes.{region-one}
 use Rattle.mesh.specs.Points.{midpoints, morePoints, midSizes, moreSizes}
 use Rattle.edges.specs.Table.{pairs, cutsIn}
 use Rattle.edges.specs.Numbering.{Below}
@@ -48,6 +50,10 @@ module _ (o : Options) (a : Asked) (points : List Float) (corners : List ℕ) (s
   stands : (j : ℕ) → j < length corners → getD u₁ (0 + j) 0 ≡ getD corners j 0
   stands j h = ap (λ (x : List ℕ). getD x (0 + j) 0) e ∙ put-within u 0 corners j 0 h (omega (arith, ok .words-fit, ok .whole-corners))
 
+  -- the corners are laid out at 0
+  past : (j : ℕ) → length corners ≤ j → getD u₁ j 0 ≡ getD u j 0
+  past j h = region-one 0 u u₁ j (ap (λ (x : List ℕ). region 0 x j 1) e ∙ region-else u 0 corners refl 0 j 1 (omega (arith, apart)))
+
   pub laid-room : LaidRoom (firstBase (length points) (length corners)) (a .guided) (length points) (length sizes) (length angles) no-cuts (length w) (length u₁)
   laid-room = record {
     whole = ok .whole;
@@ -77,4 +83,8 @@ module _ (o : Options) (a : Asked) (points : List Float) (corners : List ℕ) (s
     all-reals = m .all-reals;
     all-words = m .all-words ∙ long;
     reals-below = m .reals-below;
+    angles-stay = λ x h j g k. m .angles-stay x (same-pass ∙ h) j g k;
+    reals-behind = m .reals-behind;
+    words-below = λ j h. absurd (omega arith);
+    words-behind = λ j h. m .words-behind j h ∙ past j (omega (arith, ok .whole-corners));
   }

@@ -1,15 +1,17 @@
--- A floor that is laid out stands in the slices as its definition says, and so does its guidance; the pass over it is the pass of the definition. Nothing before
+-- A floor that is laid out stands in the slices as its definition says, and so does its guidance; the pass over it is the pass of the definition. Nothing but
 -- the planes changes. Assumes nothing.
-use Prim.Native.Nat.{ℕ, _+_, _*_, _/_, _<_}
+use Prim.Native.Nat.{ℕ, _+_, _*_, _/_, _≤_, _<_}
 use native.Mathlib.Omega.{arith}
 use mathlib.Core.Path.{_≡_, refl, sym, ap, _∙_, subst}
+use mathlib.Core.Logic.{⊎-elim}
 use mathlib.Core.Bool.{Bool, true, false, cond}
 use mathlib.Core.List.{List, [], _∷_, _++_, map}
 use lib.ListN.{length, getD}
 use lib.Ieee.{Float, nan}
 use Rattle.linear_cells.specs.Region.{tab, region, put, Apart}
-use Rattle.linear_cells.proofs.Loops.{apart, length-tab, tab-ext}
+use Rattle.linear_cells.proofs.Loops.{apart, apart-cases, length-tab, tab-ext}
 use Rattle.linear_cells.proofs.Regions.{length-put, region-put, region-else}
+use Rattle.linear_cells.proofs.Changes.{region-one}
 use Rattle.mesh.specs.Mesh.{Side, side}
 use Rattle.mesh.specs.Points.{xOf, yOf, midSize, midSizes, morePoints, moreSizes}
 use Rattle.mesh.proofs.Points.{points-length}
@@ -22,14 +24,13 @@ use Rattle.pass_planes.proofs.Points.{cuts-length, length-plane}
 use Rattle.pass_refusal.specs.declared.Stage.{Stage}
 use Rattle.pass_layout.specs.declared.Base.{Base}
 use Rattle.pass_layout.specs.declared.Layout.{Layout}
-use Rattle.pass_layout.specs.Layout.{layoutOf, Fits, Ordered}
+use Rattle.pass_layout.specs.Layout.{realsOf, layoutOf, Fits, Ordered}
 use Rattle.pass_layout.specs.Work.{floorIn, guidanceIn}
-use Rattle.pass_layout.proofs.Regions.{fits-ordered}
+use Rattle.pass_layout.proofs.Regions.{stride-between, fits-ordered}
 use Rattle.pass_options.specs.declared.Options.{Options}
 use Rattle.pass_options.specs.Options.{guidanceOf}
 use Rattle.pass_options.specs.Pass.{stageOf, floorOf}
 use Rattle.pass_branches.specs.Work.{Finds}
-use Rattle.pass.proofs.Below.{below-regions}
 use Rattle.pass.specs.declared.Asked.{Asked}
 use Rattle.pass.specs.Work.{passIn}
 use Rattle.edges.specs.Table.{cutsIn}
@@ -167,13 +168,23 @@ module _ (at : Base) (guided : Bool) (points sizes angles : List Float) (t : Tab
       go true h = rw (h refl)
       go false h = refl
 
-  pub ready-below : (j : ℕ) → j < at .reals → getD ready j nan ≡ getD w j nan
+  -- the planes stand behind the angles, one after another
+  ready-same : (b n : ℕ) → Apart (at .reals + at .points) (4 * at .points) b n → region nan ready b n ≡ region nan w b n
   unfolding layoutOf pointsLaid
-  ready-below = below-regions nan (at .reals) w ready (λ b n h.
-      ready-else b n (omega (arith, apart))
-      ∙ region-else _ (l .sizes) _ long-sizes nan b n (omega (arith, apart))
-      ∙ region-else _ (l .y) _ long-y nan b n (omega (arith, apart))
-      ∙ region-else w (l .x) _ long-x nan b n (omega (arith, apart)))
+  ready-same b n h =
+      ready-else b n (within (3 * at .points) (omega arith) (omega arith))
+      ∙ region-else _ (l .sizes) _ long-sizes nan b n (within (2 * at .points) (omega arith) (omega arith))
+      ∙ region-else _ (l .y) _ long-y nan b n (within (at .points) (omega arith) (omega arith))
+      ∙ region-else w (l .x) _ long-x nan b n (within 0 (omega arith) (omega arith))
+    where
+      within : {c : ℕ} (k : ℕ) → c ≡ at .reals + at .points + k → k + at .points ≤ 4 * at .points → Apart c (at .points) b n
+      within {c} k e f = ⊎-elim (λ (g : at .reals + at .points + 4 * at .points ≤ b). apart c (at .points) b n (omega arith)) (λ (g : b + n ≤ at .reals + at .points). apart c (at .points) b n (omega arith)) (apart-cases (at .reals + at .points) (4 * at .points) b n h)
+
+  pub ready-below : (j : ℕ) → j < at .reals + at .points → getD ready j nan ≡ getD w j nan
+  ready-below j h = region-one nan w ready j (ready-same j 1 (omega (arith, apart)))
+
+  pub ready-behind : (j : ℕ) → at .reals + realsOf (at .points) (at .triangles) ≤ j → getD ready j nan ≡ getD w j nan
+  ready-behind j h = region-one nan w ready j (ready-same j 1 (omega (arith, apart)))
 
 -- ---- the pass over it
 
@@ -186,14 +197,18 @@ module _ (at : Base) (o : Options) (a : Asked) (points sizes angles : List Float
   unfolding passIn passOver
   same-pass = rw (floor-laid at (a .guided) points sizes angles t w u ok, guidance-same at (a .guided) points sizes angles t w u ok (a .weight))
 
-  made-before : {w₃ : List Float} {u₃ : List ℕ} {r : Stage} → Finds (layoutOf at) (layoutOf at .wound) (passIn (layoutOf at) o a before u) before u w₃ u₃ r → Made at (passAt at o a t points sizes angles u) w w₃ u u₃ r
+  made-before : {w₃ : List Float} {u₃ : List ℕ} {r : Stage} → Finds (layoutOf at) (layoutOf at .areas) (layoutOf at .wound) (passIn (layoutOf at) o a before u) before u w₃ u₃ r → Made at (passAt at o a t points sizes angles u) w w₃ u u₃ r
   unfolding layoutOf
   made-before f = record {
     answer = f .answer ∙ ap stageOf same-pass;
     found = λ alpha h. f .found alpha (same-pass ∙ h);
     all-reals = f .all-reals ∙ ready-length at (a .guided) points sizes angles t w u ok;
     all-words = f .all-words;
-    reals-below = λ j h. f .reals-below j h ∙ ready-below at (a .guided) points sizes angles t w u ok j h;
+    reals-below = λ j h. f .reals-below j h ∙ ready-below at (a .guided) points sizes angles t w u ok j (omega arith);
+    angles-stay = λ x h j g k. f .angles-stay x (same-pass ∙ h) j g k ∙ ready-below at (a .guided) points sizes angles t w u ok j k;
+    reals-behind = λ j h. f .reals-behind j (omega (arith, stride-between (at .points) .1)) ∙ ready-behind at (a .guided) points sizes angles t w u ok j h;
+    words-below = λ j h. f .words-below j (omega arith);
+    words-behind = λ j h. f .words-behind j (omega arith);
   }
 
   pub fits-now : {w₁ w₂ : List Float} → w₁ ≡ pointsLaid points sizes (cutsIn t u) (layoutOf at) w → w₂ ≡ guidanceLaid (a .guided) angles (cutsIn t u) (layoutOf at) w₁ → Fits at (length w₂) (length u)
@@ -202,7 +217,7 @@ module _ (at : Base) (o : Options) (a : Asked) (points sizes angles : List Float
       subst (λ (n : ℕ). Fits at n (length u)) (sym k) (ok .fits)
 
   pub made : {w₁ w₂ : List Float} → w₁ ≡ pointsLaid points sizes (cutsIn t u) (layoutOf at) w → w₂ ≡ guidanceLaid (a .guided) angles (cutsIn t u) (layoutOf at) w₁
-      → {w₃ : List Float} {u₃ : List ℕ} {r : Stage} → Finds (layoutOf at) (layoutOf at .wound) (passIn (layoutOf at) o a w₂ u) w₂ u w₃ u₃ r
+      → {w₃ : List Float} {u₃ : List ℕ} {r : Stage} → Finds (layoutOf at) (layoutOf at .areas) (layoutOf at .wound) (passIn (layoutOf at) o a w₂ u) w₂ u w₃ u₃ r
       → Made at (passAt at o a t points sizes angles u) w w₃ u u₃ r
   made e₁ e₂ {w₃} {u₃} {r} f =
-      made-before (subst (λ (x : List Float). Finds (layoutOf at) (layoutOf at .wound) (passIn (layoutOf at) o a x u) x u w₃ u₃ r) (e₂ ∙ ap (guidanceLaid (a .guided) angles (cutsIn t u) (layoutOf at)) e₁) f)
+      made-before (subst (λ (x : List Float). Finds (layoutOf at) (layoutOf at .areas) (layoutOf at .wound) (passIn (layoutOf at) o a x u) x u w₃ u₃ r) (e₂ ∙ ap (guidanceLaid (a .guided) angles (cutsIn t u) (layoutOf at)) e₁) f)

@@ -16,11 +16,12 @@ use Rattle.pass_planes.specs.declared.Mean.the-variants.{Half, Angle}
 use Rattle.pass_planes.specs.Planes.{coordinatePlane, valuePlane}
 use Rattle.pass_layout.specs.declared.Base.{Base}
 use Rattle.pass_layout.specs.declared.Layout.{Layout}
-use Rattle.pass_layout.specs.Layout.{Fits}
+use Rattle.pass_layout.specs.Layout.{realsOf, wordsOf, Fits}
+use Rattle.pass_refusal.specs.declared.Fault.{Fault}
 use Rattle.pass_refusal.specs.declared.Stage.{Stage}
 use Rattle.pass_options.specs.declared.Options.{Options}
 use Rattle.pass_options.specs.Options.{guidanceOf}
-use Rattle.pass_options.specs.Pass.{Passed, field, stageOf, floorOf}
+use Rattle.pass_options.specs.Pass.{Passed, field, faulty, stageOf, floorOf}
 use Rattle.pass.specs.declared.Asked.{Asked}
 use Rattle.pass.specs.Pass.{passOf}
 
@@ -65,10 +66,15 @@ pub record LaidRoom (at : Base) (guided : Bool) (points sizes angles : ℕ) (t :
   pub all-points : at .points ≡ points / 3 + t .sides
   pub fits : Fits at work numbers
 
--- ---- a pass that was made where it begins at `at`: its answer, and its angles where it has some; nothing before them has changed
+-- ---- a pass that was made where it begins at `at`: its answer, and its angles where it has some, else what stood there. In both slices all before the pass and
+-- all behind its room is as it was; the rest of its room is free
 pub record Made (at : Base) (p : Passed) (w w′ : List Float) (u u′ : List ℕ) (r : Stage) : Type 0 where
   pub answer : r ≡ stageOf p
   pub found : (alpha : List Float) → p ≡ field alpha → region nan w′ (at .reals) (at .points) ≡ alpha
   pub all-reals : length w′ ≡ length w
   pub all-words : length u′ ≡ length u
   pub reals-below : (j : ℕ) → j < at .reals → getD w′ j nan ≡ getD w j nan
+  pub angles-stay : (x : Fault) → p ≡ faulty x → (j : ℕ) → at .reals ≤ j → j < at .reals + at .points → getD w′ j nan ≡ getD w j nan
+  pub reals-behind : (j : ℕ) → at .reals + realsOf (at .points) (at .triangles) ≤ j → getD w′ j nan ≡ getD w j nan
+  pub words-below : (j : ℕ) → j < at .words → getD u′ j 0 ≡ getD u j 0
+  pub words-behind : (j : ℕ) → at .words + wordsOf (at .points) (at .triangles) ≤ j → getD u′ j 0 ≡ getD u j 0

@@ -12,8 +12,9 @@ use Rattle.complex.specs.declared.Complex.{Complex}
 use Rattle.linear_cells.specs.Region.{region, put, Apart}
 use Rattle.linear_cells.specs.Cell.{flat, regionC, putC}
 use Rattle.linear_cells.proofs.Loops.{apart, length-tab}
-use Rattle.linear_cells.proofs.Regions.{length-region, length-put, region-else}
-use Rattle.linear_cells.proofs.Cells.{length-putC, regionC-same, regionC-putC, regionC-else, regionC-put-else}
+use Rattle.linear_cells.specs.Rows.{laid}
+use Rattle.linear_cells.proofs.Regions.{length-region, length-put, put-region, region-else}
+use Rattle.linear_cells.proofs.Cells.{length-flat, length-putC, regionC-same, regionC-putC, regionC-else, regionC-put-else}
 use Rattle.linear_hermitian.specs.declared.Hermitian.{Hermitian}
 use Rattle.linear_hermitian.specs.Hermitian.{Matrix, applied, shiftedBy}
 use Rattle.linear_hermitian.specs.Work.{matrix, shiftMatrix, ShiftRoom}
@@ -23,15 +24,16 @@ use Rattle.linear_vectors.specs.Vectors.{zipOf, addScaled}
 use Rattle.linear_vectors.proofs.Zip.{length-zipOf}
 use Rattle.linear_conjugate_gradient.specs.declared.Vectors.{Vectors}
 use Rattle.linear_conjugate_gradient.specs.Solve.{State}
-use Rattle.linear_conjugate_gradient.specs.Work.{read, lay, VectorRoom}
+use Rattle.linear_conjugate_gradient.specs.Work.{read, lay, VectorRoom, SolverRoom}
 use Rattle.linear_conjugate_gradient.proofs.Lays.{Sized, read-sized, lay-read, length-lay, get-x, get-r, get-q, put-r, put-q}
 use Rattle.linear_hermitian.proofs.Elsewhere.{shift-else-real, shift-else}
 use Rattle.pass_solution.specs.Work.{Framed}
 use Rattle.pass_solution.proofs.Stages.{framed}
-use Rattle.pass_solution.proofs.Chains.{framed-below, framed-matrix}
-use Rattle.pass_soft.specs.Soft.{System, Term, targetAt, guidedTargets, alignedTargets, termOf, softenedBy, softened}
+use Rattle.pass_solution.proofs.Chains.{framed-matrix}
+use Rattle.complex.specs.Guidance.{fourfold}
+use Rattle.pass_soft.specs.Soft.{System, Term, guidedTargets, alignedTargets, termOf, softenedBy, softened}
 use Rattle.pass_soft.specs.declared.Terms.{Terms}
-use Rattle.pass_soft.specs.Work.{SoftRoom, systemIn, guidedIn, alignedIn, Kept, Softens}
+use Rattle.pass_soft.specs.Work.{SoftRoom, systemIn, guidedIn, alignedIn, Outside, Kept, Softens}
 
 -- a slice as long has the same room
 pub same-shift : {len len′ : ℕ} → len′ ≡ len → (h mass : Hermitian) → ShiftRoom len h mass → ShiftRoom len′ h mass
@@ -46,35 +48,69 @@ length-guided angles = length-tab _ (length angles)
 
 pub length-aligned : (angle : Float) (n : ℕ) → length (alignedTargets angle n) ≡ n
 unfolding alignedTargets
-length-aligned angle n = length-replicate n (targetAt angle)
+length-aligned angle n = length-replicate n (fourfold angle)
 
 -- ---- what stays
 
+-- what lies below the vectors and outside the matrix
+pub below : {len : ℕ} {h : Hermitian} {l : Vectors} → VectorRoom len (h .size) l → (c m : ℕ) → Apart (h .diagonal) (h .size) c m → Apart (h .off) (2 * h .edges) c m → c + m ≤ l .x
+    → Outside h l c m
+below {len} {h} {l} ok c m a o g = record {
+  diagonal = a;
+  off = o;
+  x = apart (l .x) (2 * h .size) c m (omega arith);
+  residual = apart (l .residual) (2 * h .size) c m (omega (arith, ok .vectors-in));
+  direction = apart (l .direction) (2 * h .size) c m (omega (arith, ok .vectors-in));
+  applied = apart (l .applied) (2 * h .size) c m (omega (arith, ok .vectors-in));
+}
+
+-- and what lies behind them, the inverse with it
+pub behind : {len : ℕ} {h : Hermitian} {l : Vectors} → SolverRoom len h l → (c m : ℕ) → l .inverse ≤ c → Outside h l c m
+behind {len} {h} {l} ok c m g = record {
+  diagonal = apart (h .diagonal) (h .size) c m (omega (arith, ok .diagonal-below, ok .vector-room .vectors-in));
+  off = apart (h .off) (2 * h .edges) c m (omega (arith, ok .off-below, ok .vector-room .vectors-in));
+  x = apart (l .x) (2 * h .size) c m (omega (arith, ok .vector-room .vectors-in));
+  residual = apart (l .residual) (2 * h .size) c m (omega (arith, ok .vector-room .vectors-in));
+  direction = apart (l .direction) (2 * h .size) c m (omega (arith, ok .vector-room .vectors-in));
+  applied = apart (l .applied) (2 * h .size) c m (omega (arith, ok .vector-room .vectors-in));
+}
+
 module _ (h : Hermitian) (l : Vectors) where
   pub kept-none : (w : List Float) → Kept w w h l
-  kept-none w = record { all = refl; else = λ c m a o k. refl }
+  kept-none w = record { all = refl; else = λ c m o. refl }
 
   pub kept-then : {w w₁ w₂ : List Float} → Kept w w₁ h l → Kept w₁ w₂ h l → Kept w w₂ h l
-  kept-then a b = record { all = b .all ∙ a .all; else = λ c m d o k. b .else c m d o k ∙ a .else c m d o k }
+  kept-then a b = record { all = b .all ∙ a .all; else = λ c m o. b .else c m o ∙ a .else c m o }
 
-  -- where the vectors are written
-  pub kept-put : (w : List Float) (b : ℕ) (vs : List Float) → l .x ≤ b → {w₁ : List Float} → w₁ ≡ put w b vs → Kept w w₁ h l
-  kept-put w b vs g e = rw e (record { all = length-put w b vs; else = λ c m a o k. region-else w b vs refl nan c m (apart b (length vs) c m (omega arith)) })
+  -- where a vector is written
+  pub kept-put : (w : List Float) (b : ℕ) (vs : List Float) {n : ℕ} → length vs ≡ n → ((c m : ℕ) → Outside h l c m → Apart b n c m) → {w₁ : List Float} → w₁ ≡ put w b vs → Kept w w₁ h l
+  kept-put w b vs k a e = rw e (record { all = length-put w b vs; else = λ c m o. region-else w b vs k nan c m (a c m o) })
 
-  pub kept-putC : (w : List Float) (b : ℕ) (v : List Complex) → l .x ≤ b → {w₁ : List Float} → w₁ ≡ putC w b v → Kept w w₁ h l
+  pub kept-putC : (w : List Float) (b : ℕ) (v : List Complex) {n : ℕ} → length v ≡ n → ((c m : ℕ) → Outside h l c m → Apart b (2 * n) c m) → {w₁ : List Float} → w₁ ≡ putC w b v → Kept w w₁ h l
   unfolding putC
-  kept-putC w b v g e = kept-put w b (flat v) g e
+  kept-putC w b v k a e = kept-put w b (flat v) (length-flat v k) a e
 
-  kept-framed : (w : List Float) (n : ℕ) → VectorRoom (length w) n l → {w₁ : List Float} → Framed w w₁ n l → Kept w w₁ h l
-  kept-framed w n ok {w₁} e = record { all = ap length e ∙ length-lay w n l (read w₁ n l); else = λ c m a o k. framed-below w n l ok e c m k }
+  -- where all vectors but the inverse are
+  kept-laid : (w : List Float) (s : State) → Sized (h .size) s → s .inverse ≡ region nan w (l .inverse) (h .size) → {w₁ : List Float} → w₁ ≡ lay w (h .size) l s → Kept w w₁ h l
+  unfolding lay laid
+  kept-laid w s z e q = record {
+    all = ap length q ∙ length-lay w (h .size) l s;
+    else = λ c m o.
+        ap (λ v. region nan v c m) q
+        ∙ region-else _ (l .x) (flat (s .x)) (length-flat (s .x) (z .x-n)) nan c m (o .x)
+        ∙ region-else _ (l .residual) (flat (s .r)) (length-flat (s .r) (z .r-n)) nan c m (o .residual)
+        ∙ region-else _ (l .direction) (flat (s .p)) (length-flat (s .p) (z .p-n)) nan c m (o .direction)
+        ∙ region-else _ (l .applied) (flat (s .q)) (length-flat (s .q) (z .q-n)) nan c m (o .applied)
+        ∙ ap (λ v. region nan v c m) (ap (put w (l .inverse)) e ∙ put-region nan w (l .inverse) (h .size));
+  }
 
   kept-shift : (w : List Float) (shift : Float) (mass : Hermitian) → Kept w (shiftMatrix w h shift mass) h l
   unfolding shiftMatrix
-  kept-shift w shift mass = record { all = length-putC _ (h .off) _ ∙ length-put w (h .diagonal) _; else = λ c m a o k. shift-else-real w h shift mass c m a o }
+  kept-shift w shift mass = record { all = length-putC _ (h .off) _ ∙ length-put w (h .diagonal) _; else = λ c m o. shift-else-real w h shift mass c m (o .diagonal) (o .off) }
 
 module _ {w w₁ : List Float} {h : Hermitian} {l : Vectors} (k : Kept w w₁ h l) where
-  pub vector-kept : (c n : ℕ) → Apart (h .diagonal) (h .size) c (2 * n) → Apart (h .off) (2 * h .edges) c (2 * n) → c + 2 * n ≤ l .x → regionC w₁ c n ≡ regionC w c n
-  vector-kept c n a o g = regionC-same w₁ w c n (k .else c (2 * n) a o g)
+  pub vector-kept : (c n : ℕ) → Outside h l c (2 * n) → regionC w₁ c n ≡ regionC w c n
+  vector-kept c n o = regionC-same w₁ w c n (k .else c (2 * n) o)
 
   -- another matrix
   pub matrix-kept : {len : ℕ} (mass : Hermitian) → SoftRoom len h mass l → (from to : List ℕ) → matrix w₁ mass from to ≡ matrix w mass from to
@@ -83,11 +119,13 @@ module _ {w w₁ : List Float} {h : Hermitian} {l : Vectors} (k : Kept w w₁ h 
       let one = ok .shift-room .one-size in
       let all = ok .shift-room .one-graph in
       let d : region nan w₁ (mass .diagonal) (mass .size) ≡ region nan w (mass .diagonal) (mass .size) =
-      k .else (mass .diagonal) (mass .size) (subst (λ (n : ℕ). Apart (h .diagonal) (h .size) (mass .diagonal) n) (sym one) (ok .shift-room .diagonals .y-x))
-      (subst (λ (n : ℕ). Apart (h .off) (2 * h .edges) (mass .diagonal) n) (sym one) (ok .off-mass)) (ok .mass-room .diagonal-below) in
+      k .else (mass .diagonal) (mass .size) (below (ok .h-room .vector-room) (mass .diagonal) (mass .size)
+      (subst (λ (n : ℕ). Apart (h .diagonal) (h .size) (mass .diagonal) n) (sym one) (ok .shift-room .diagonals .y-x))
+      (subst (λ (n : ℕ). Apart (h .off) (2 * h .edges) (mass .diagonal) n) (sym one) (ok .off-mass)) (ok .mass-room .diagonal-below)) in
       let f : regionC w₁ (mass .off) (mass .edges) ≡ regionC w (mass .off) (mass .edges) =
-      vector-kept (mass .off) (mass .edges) (subst (λ (n : ℕ). Apart (h .diagonal) (h .size) (mass .off) (2 * n)) (sym all) (ok .shift-room .diagonal-mass))
-      (subst (λ (n : ℕ). Apart (h .off) (2 * h .edges) (mass .off) (2 * n)) (sym all) (ok .shift-room .offs .y-x)) (ok .mass-room .off-below) in
+      vector-kept (mass .off) (mass .edges) (below (ok .h-room .vector-room) (mass .off) (2 * mass .edges)
+      (subst (λ (n : ℕ). Apart (h .diagonal) (h .size) (mass .off) (2 * n)) (sym all) (ok .shift-room .diagonal-mass))
+      (subst (λ (n : ℕ). Apart (h .off) (2 * h .edges) (mass .off) (2 * n)) (sym all) (ok .shift-room .offs .y-x)) (ok .mass-room .off-below)) in
       λ i. record { diagonal = d i; off = f i; edgeA = from; edgeB = to }
 
 -- the matrix at h, where what lies behind it is written
@@ -209,12 +247,16 @@ module _ (w : List Float) (h mass : Hermitian) (l : Vectors) (weight : Float) (f
     unfolding weighed read
     x-is = vector-is (l .x) (omega arith) ∙ get-x w n l room after after-sized
 
+    inverse-is : after .inverse ≡ region nan w (l .inverse) n
+    unfolding weighed read
+    inverse-is = refl
+
     softens-one : Softens w w₃ h mass l from to (record { weight = weight; target = target } ∷ [])
     unfolding softened softenedBy
     softens-one = record {
       system = λ i. record { matrix = matrix-is i; rhs = rhs-is i };
       x-stays = x-is;
-      kept = kept-then h l (kept-framed h l w n room frame) (rw e₃ (kept-shift h l w₂ weight mass));
+      kept = kept-then h l (kept-laid h l w after after-sized inverse-is e₂) (rw e₃ (kept-shift h l w₂ weight mass));
     }
 
   pub term-off : not (lt (lit 0) weight) ≡ true → Softens w w h mass l from to (termOf weight target)
@@ -243,7 +285,6 @@ module _ (w : List Float) (h mass : Hermitian) (l : Vectors) (from to : List ℕ
   aimed : Softens w w₁ h mass l from to []
   unfolding softened
   aimed =
-      let x : l .x ≤ l .direction = omega (arith, vectors-ok .vectors-in) in
       let d : h .diagonal + h .size ≤ l .direction = omega (arith, ok .h-room .diagonal-below) in
       let o : h .off + 2 * h .edges ≤ l .direction = omega (arith, ok .h-room .off-below) in
       let m = matrix-putC w h (l .direction) v d o e₁ from to in
@@ -251,7 +292,7 @@ module _ (w : List Float) (h mass : Hermitian) (l : Vectors) (from to : List ℕ
       record {
         system = λ i. record { matrix = m i; rhs = r i };
         x-stays = aimed-else (l .x) (omega (arith, vectors-ok .vectors-in));
-        kept = kept-putC h l w (l .direction) v x e₁;
+        kept = kept-putC h l w (l .direction) v e (λ c m o. o .direction) e₁;
       }
 
   -- terms of the vector in the direction's region are then terms of that target

@@ -10,14 +10,15 @@ use Rattle.linear_cells.specs.Cell.{setC, putC}
 use Rattle.linear_cells.proofs.Loops.{tab-ext, tab-replicate}
 use Rattle.linear_cells.proofs.Regions.{getD-region, length-region}
 use Rattle.linear_cells.proofs.Each.{eachTo, each-none, each-real, each-again, each-done}
-use Rattle.pass_soft.specs.Soft.{targetAt, guidedTargets, alignedTargets}
+use Rattle.complex.specs.Guidance.{fourfold}
+use Rattle.pass_soft.specs.Soft.{guidedTargets, alignedTargets}
 use Rattle.pass_soft.specs.Work.{GuideRoom}
 
 -- ---- guide
 
 module _ (w : List Float) (theta target n : ℕ) where
   atAngle : ℕ → Complex → Complex
-  atAngle i z = targetAt (getD w (theta + i) nan)
+  atAngle i z = fourfold (getD w (theta + i) nan)
 
   unfoldable pub guideTo : ℕ → List Complex
   unfolding atAngle
@@ -28,7 +29,7 @@ module _ (w : List Float) (theta target n : ℕ) where
   guide-none = each-none atAngle w target n
 
   pub guide-again : GuideRoom (length w) theta target n → (i : ℕ) → i < n → {w₁ w₂ : List Float} → w₁ ≡ putC w target (guideTo i)
-      → w₂ ≡ setC w₁ target n i (targetAt (getD w₁ (theta + i) nan)) → w₂ ≡ putC w target (guideTo (i + 1))
+      → w₂ ≡ setC w₁ target n i (fourfold (getD w₁ (theta + i) nan)) → w₂ ≡ putC w target (guideTo (i + 1))
   unfolding guideTo atAngle
   guide-again ok i l {w₁} e₁ e₂ =
       each-again atAngle w target n (ok .target-in) i l e₁ e₂ (rw (each-real atAngle w target n theta n i i (ok .target-theta) l e₁))
@@ -57,7 +58,7 @@ module _ (w : List Float) (target n : ℕ) (z : Complex) where
   unfolding repeatTo
   repeat-done l g e = each-done (λ j y. z) w target n l g e ∙ ap (putC w target) (tab-replicate z n)
 
-pub align-all : (w : List Float) (target n : ℕ) (angle : Float) {z : Complex} {w₁ : List Float} → z ≡ targetAt angle → w₁ ≡ putC w target (replicate n z)
+pub align-all : (w : List Float) (target n : ℕ) (angle : Float) {z : Complex} {w₁ : List Float} → z ≡ fourfold angle → w₁ ≡ putC w target (replicate n z)
     → w₁ ≡ putC w target (alignedTargets angle n)
 unfolding alignedTargets
 align-all w target n angle ez e = e ∙ rw ez

@@ -1,28 +1,24 @@
--- The soft terms of the Rust's `solve_mesh`, lines 1439 to 1456 and 1536 to 1545: targets of weight w, each of which adds w M to the matrix and w M G to the
+-- The soft terms of the Rust's `solve_mesh`, lines 1439 to 1456 and 1536 to 1544: targets of weight w, each of which adds w M to the matrix and w M G to the
 -- right-hand side. Definitions only.
 use Prim.Native.Nat.{ℕ}
 use mathlib.Core.Bool.{cond}
 use mathlib.Core.List.{List, [], _∷_}
 use lib.ListN.{length, getD, replicate}
 use lib.Ieee.{Float, nan, lt}
-use Rattle.float.specs.Double.{lit, _⊗_}
+use Rattle.float.specs.Double.{lit}
 use Rattle.complex.specs.declared.Complex.{Complex}
-use Rattle.complex.specs.Complex.{fromAngle}
+use Rattle.complex.specs.Guidance.{fourfold}
 use Rattle.linear_cells.specs.Region.{tab}
 use Rattle.linear_hermitian.specs.Hermitian.{Matrix, applied, shiftedBy}
 use Rattle.linear_vectors.specs.Vectors.{zipOf, addScaled}
 
 -- ---- the targets
 
--- `Complex::from_angle(FIELD_SYMMETRY * angle)`
-unfoldable pub targetAt : Float → Complex
-targetAt angle = fromAngle (lit 0x4010_0000_0000_0000 ⊗ angle)
-
 unfoldable pub guidedTargets : List Float → List Complex
-guidedTargets angles = tab (λ i. targetAt (getD angles i nan)) (length angles)
+guidedTargets angles = tab (λ i. fourfold (getD angles i nan)) (length angles)
 
 unfoldable pub alignedTargets : Float → ℕ → List Complex
-alignedTargets angle n = replicate n (targetAt angle)
+alignedTargets angle n = replicate n (fourfold angle)
 
 -- ---- the terms
 

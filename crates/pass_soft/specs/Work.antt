@@ -47,12 +47,21 @@ termsIn w h t = guidedIn w h t ++ alignedIn h t
 
 -- ---- what is left
 
--- what stands below the vectors, and not in the matrix at h, stays
+-- the m numbers from c on lie outside the matrix at h and outside the solver's vectors; its inverse is not counted among these
+pub record Outside (h : Hermitian) (l : Vectors) (c m : ℕ) : Type 0 where
+  pub diagonal : Apart (h .diagonal) (h .size) c m
+  pub off : Apart (h .off) (2 * h .edges) c m
+  pub x : Apart (l .x) (2 * h .size) c m
+  pub residual : Apart (l .residual) (2 * h .size) c m
+  pub direction : Apart (l .direction) (2 * h .size) c m
+  pub applied : Apart (l .applied) (2 * h .size) c m
+
+-- all that lies outside stays: below the vectors, between them, the inverse, and all behind it
 pub record Kept (w w′ : List Float) (h : Hermitian) (l : Vectors) : Type 0 where
   pub all : length w′ ≡ length w
-  pub else : (c m : ℕ) → Apart (h .diagonal) (h .size) c m → Apart (h .off) (2 * h .edges) c m → c + m ≤ l .x → region nan w′ c m ≡ region nan w c m
+  pub else : (c m : ℕ) → Outside h l c m → region nan w′ c m ≡ region nan w c m
 
--- the terms are added to the system, and the solver's x stays. Its direction and the matrix times that are free
+-- the terms are added to the system, and the solver's x stays. Its direction and the matrix times that are free, and nothing else
 pub record Softens (w w′ : List Float) (h mass : Hermitian) (l : Vectors) (from to : List ℕ) (ts : List Term) : Type 0 where
   pub system : systemIn w′ h l from to ≡ softened (matrix w mass from to) ts (systemIn w h l from to)
   pub x-stays : regionC w′ (l .x) (h .size) ≡ regionC w (l .x) (h .size)

@@ -11,18 +11,19 @@ ghost use lib.Ieee.{nan};
 ghost use Rattle.linear_cells.specs.Region.{region};
 ghost use Rattle.linear_cells.specs.Cell.{setC, regionC, putC};
 ghost use Rattle.linear_hermitian.specs.Work.{Graph};
-ghost use Rattle.pass_soft.specs.Soft.{targetAt, guidedTargets, alignedTargets, termOf};
+ghost use Rattle.complex.specs.Guidance.{fourfold};
+ghost use Rattle.pass_soft.specs.Soft.{guidedTargets, alignedTargets, termOf};
 ghost use Rattle.pass_soft.specs.Work.{GuideRoom, SoftRoom, guidedIn, alignedIn, termsIn, Softens};
 
 fn target_at(angle: f64) -> Complex
-    ensures { λ r. ⌜ r ≡ targetAt angle ⌝ }
+    ensures { λ r. ⌜ r ≡ fourfold angle ⌝ }
 {
     Complex::from_angle(complex::FIELD_SYMMETRY * angle)
 }
 
 fn guide_at(work: &mut [f64], theta: usize, target: usize, n: usize, i: usize)
     requires { ⌜ (i < n) × (target + n + i < length (now work)) × (theta + i < length (now work)) ⌝ }
-    ensures { λ _. ⌜ now (work .exit) ≡ setC (now (work .entry)) target n i (targetAt (getD (now (work .entry)) (theta + i) nan)) ⌝ }
+    ensures { λ _. ⌜ now (work .exit) ≡ setC (now (work .entry)) target n i (fourfold (getD (now (work .entry)) (theta + i) nan)) ⌝ }
 {
     let z = target_at(load_real(work, theta, i));
     store(work, target, n, i, z);

@@ -15,7 +15,7 @@ use Rattle.linear_cells.specs.Cell.{regionC, putC}
 use Rattle.linear_cells.proofs.Loops.{apart, length-tab}
 use Rattle.linear_cells.proofs.Regions.{length-region, length-put, region-else}
 use Rattle.linear_cells.proofs.Changes.{zeros}
-use Rattle.linear_cells.proofs.Cells.{length-regionC, length-putC, regionC-same, regionC-putC, regionR-else, regionC-put-else}
+use Rattle.linear_cells.proofs.Cells.{length-regionC, length-putC, regionC-same, regionC-putC, regionC-else, regionR-else, regionC-put-else}
 use Rattle.linear_hermitian.specs.declared.Hermitian.{Hermitian}
 use Rattle.linear_hermitian.specs.Hermitian.{applied}
 use Rattle.linear_hermitian.specs.Work.{matrix}
@@ -30,7 +30,7 @@ use Rattle.pass_constraints.proofs.Systems.{rows-matrix, weak-matrix, weak-rhs}
 use Rattle.pass_soft.specs.declared.Terms.{Terms}
 use Rattle.pass_soft.specs.Soft.{guidedTargets, alignedTargets, termOf, softened}
 use Rattle.pass_soft.specs.Work.{SoftRoom, systemIn, guidedIn, alignedIn, termsIn, Kept, Softens}
-use Rattle.pass_soft.proofs.Systems.{kept-then, kept-put, kept-putC, vector-kept, matrix-kept, matrix-put, matrix-putC, aimed-then, softens-none, softens-then, length-guided, length-aligned}
+use Rattle.pass_soft.proofs.Systems.{below, kept-then, kept-put, kept-putC, vector-kept, matrix-kept, matrix-put, matrix-putC, aimed-then, softens-none, softens-then, length-guided, length-aligned}
 use Rattle.pass_systems.specs.Systems.{plain, softSystem, penalty, weakSystem, fixedBy, tangentSystem}
 use Rattle.pass_systems.specs.Work.{SystemRoom, TargetRoom, blankedTerms, MakesSoft, MakesWeak, Fixes, MakesTangent}
 use Rattle.pass_systems.proofs.Inside.{blanked-more, blanked-one, inside-same}
@@ -78,12 +78,18 @@ module _ (w : List Float) (h mass : Hermitian) (l : Vectors) (from to : List ℕ
 
   theta-kept : {w₁ : List Float} → Kept w w₁ h l → region nan w₁ (t .theta) (h .size) ≡ region nan w (t .theta) (h .size)
   theta-kept k =
-      k .else (t .theta) (h .size) (apart (h .diagonal) (h .size) (t .theta) (h .size) (omega (arith, ok .theta-below)))
-      (apart (h .off) (2 * h .edges) (t .theta) (h .size) (omega (arith, ok .theta-below-off))) (omega (arith, ok .theta-below, ok .soft-room .h-room .diagonal-below))
+      k .else (t .theta) (h .size) (below vectors (t .theta) (h .size) (apart (h .diagonal) (h .size) (t .theta) (h .size) (omega (arith, ok .theta-below)))
+      (apart (h .off) (2 * h .edges) (t .theta) (h .size) (omega (arith, ok .theta-below-off))) (omega (arith, ok .theta-below, ok .soft-room .h-room .diagonal-below)))
 
   module _ {w₁ : List Float} (e : w₁ ≡ put w (l .residual) (replicate (2 * h .size) (lit 0))) where
     plain-kept : Kept w w₁ h l
-    plain-kept = kept-put h l w (l .residual) (replicate (2 * h .size) (lit 0)) (omega (arith, vectors .vectors-in)) e
+    plain-kept = kept-put h l w (l .residual) (replicate (2 * h .size) (lit 0)) (length-replicate (2 * h .size) (lit 0)) (λ c m o. o .residual) e
+
+    plain-x : regionC w₁ (l .x) (h .size) ≡ regionC w (l .x) (h .size)
+    plain-x =
+        ap (λ v. regionC v (l .x) (h .size)) e
+        ∙ regionC-put-else w (l .residual) (replicate (2 * h .size) (lit 0)) (length-replicate (2 * h .size) (lit 0)) (l .x) (h .size)
+        (apart (l .residual) (2 * h .size) (l .x) (2 * h .size) (omega (arith, vectors .vectors-in)))
 
     plain-system : systemIn w₁ h l from to ≡ plain (matrix w h from to) (h .size)
     unfolding plain
@@ -100,6 +106,7 @@ module _ (w : List Float) (h mass : Hermitian) (l : Vectors) (from to : List ℕ
     soft-made a =
         record {
           system = a .system ∙ rw (matrix-kept plain-kept mass (ok .soft-room) from to, theta-kept plain-kept, plain-system);
+          x-is = a .x-stays ∙ plain-x;
           kept = kept-then h l plain-kept (a .kept);
         }
 
@@ -117,10 +124,19 @@ module _ (w : List Float) (h mass : Hermitian) (l : Vectors) (from to : List ℕ
       unfolding weakIn penalisedIn penalised penalties
       penalised-kept = rw e (record {
         all = length-putC _ (l .residual) _ ∙ length-put w (h .diagonal) _;
-        else = λ c m a o k.
-            regionR-else _ (l .residual) _ (length-tab _ _ ∙ length-regionC w targets (h .size)) c m (apart (l .residual) (2 * h .size) c m (omega (arith, vectors .vectors-in)))
-            ∙ region-else w (h .diagonal) _ (length-tab _ _ ∙ length-region nan w (h .diagonal) (h .size)) nan c m a;
+        else = λ c m o.
+            regionR-else _ (l .residual) _ (length-tab _ _ ∙ length-regionC w targets (h .size)) c m (o .residual)
+            ∙ region-else w (h .diagonal) _ (length-tab _ _ ∙ length-region nan w (h .diagonal) (h .size)) nan c m (o .diagonal);
       })
+
+      penalised-x : regionC w₁ (l .x) (h .size) ≡ regionC w (l .x) (h .size)
+      unfolding weakIn penalisedIn penalised penalties
+      penalised-x =
+          ap (λ v. regionC v (l .x) (h .size)) e
+          ∙ regionC-else _ (l .residual) _ (length-tab _ _ ∙ length-regionC w targets (h .size)) (l .x) (h .size)
+          (apart (l .residual) (2 * h .size) (l .x) (2 * h .size) (omega (arith, vectors .vectors-in)))
+          ∙ regionC-put-else w (h .diagonal) _ (length-tab _ _ ∙ length-region nan w (h .diagonal) (h .size)) (l .x) (h .size)
+          (apart (h .diagonal) (h .size) (l .x) (2 * h .size) (omega (arith, ok .soft-room .h-room .diagonal-below)))
 
       penalised-system : systemIn w₁ h l from to ≡ penalty weight flags (regionC w targets (h .size)) (matrix w mass from to) (matrix w h from to)
       unfolding penalty
@@ -144,6 +160,7 @@ module _ (w : List Float) (h mass : Hermitian) (l : Vectors) (from to : List ℕ
       unfolding weakSystem
       weak-made a = record {
         system = a .system ∙ rw (matrix-kept penalised-kept mass (ok .soft-room) from to, theta-kept penalised-kept, penalised-system);
+        x-is = a .x-stays ∙ penalised-x;
         kept = kept-then h l penalised-kept (a .kept);
       }
 
@@ -201,10 +218,13 @@ module _ (w : List Float) (h : Hermitian) (l : Vectors) (targets : ℕ) (flags f
     unfolding coupledIn
     side-put = e₁
 
+    side-long : length side ≡ h .size
+    side-long = coupled-length _ _ _ ∙ length-regionC w (l .residual) (h .size)
+
     side-is : regionC w₁ (l .residual) (h .size) ≡ side
     side-is =
         ap (λ v. regionC v (l .residual) (h .size)) side-put
-        ∙ regionC-putC w (l .residual) side (coupled-length _ _ _ ∙ length-regionC w (l .residual) (h .size)) (omega (arith, at .room .vector-room .vectors-in))
+        ∙ regionC-putC w (l .residual) side side-long (omega (arith, at .room .vector-room .vectors-in))
 
     long : length w₁ ≡ length w
     long = ap length side-put ∙ length-putC w (l .residual) side
@@ -231,7 +251,12 @@ module _ (w : List Float) (h : Hermitian) (l : Vectors) (targets : ℕ) (flags f
         (rows-else (l .residual) (2 * h .size) (apart (h .diagonal) (h .size) (l .residual) (2 * h .size) (omega arith)) (apart (h .off) (2 * h .edges) (l .residual) (2 * h .size) (omega arith))) ∙ side-is in
         record {
           system = λ i. record { matrix = m i; rhs = r i };
-          kept = kept-then h l (kept-putC h l w (l .residual) side (omega (arith, v)) side-put) (record { all = rows-long; else = λ c k a b g. rows-else c k a b });
+          x-is = regionC-same w₂ w₁ (l .x) (h .size)
+              (rows-else (l .x) (2 * h .size) (apart (h .diagonal) (h .size) (l .x) (2 * h .size) (omega (arith, at .room .diagonal-below)))
+              (apart (h .off) (2 * h .edges) (l .x) (2 * h .size) (omega (arith, at .room .off-below))))
+              ∙ ap (λ u. regionC u (l .x) (h .size)) side-put
+              ∙ regionC-else w (l .residual) side side-long (l .x) (h .size) (apart (l .residual) (2 * h .size) (l .x) (2 * h .size) (omega (arith, v)));
+          kept = kept-then h l (kept-putC h l w (l .residual) side side-long (λ c k o. o .residual) side-put) (record { all = rows-long; else = λ c k o. rows-else c k (o .diagonal) (o .off) });
         }
 
 -- ---- tangent: the whole
@@ -251,7 +276,7 @@ module _ (w : List Float) (h mass : Hermitian) (l : Vectors) (targets : ℕ) (fl
     room = same-system (ap length e₁ ∙ length-putC w (l .x) coupling) h mass l t ok
 
     first-kept : Kept w w₁ h l
-    first-kept = kept-putC h l w (l .x) coupling (omega arith) e₁
+    first-kept = kept-putC h l w (l .x) coupling coupling-long (λ c m o. o .x) e₁
 
     first-matrix : matrix w₁ h from to ≡ matrix w h from to
     first-matrix = matrix-putC w h (l .x) coupling (at .room .diagonal-below) (at .room .off-below) e₁ from to
@@ -262,11 +287,8 @@ module _ (w : List Float) (h mass : Hermitian) (l : Vectors) (targets : ℕ) (fl
 
       coupling-is : regionC w₂ (l .x) (h .size) ≡ coupling
       coupling-is =
-          let v = at .room .vector-room .vectors-in in
-          ap (λ u. regionC u (l .x) (h .size)) e₂
-          ∙ regionC-put-else w₁ (l .residual) (replicate (2 * h .size) (lit 0)) refl (l .x) (h .size)
-          (apart (l .residual) (length (replicate (2 * h .size) (lit 0))) (l .x) (2 * h .size) (omega (arith, v)))
-          ∙ ap (λ u. regionC u (l .x) (h .size)) e₁ ∙ regionC-putC w (l .x) coupling coupling-long (omega (arith, v))
+          plain-x w₁ h mass l from to t room e₂
+          ∙ ap (λ u. regionC u (l .x) (h .size)) e₁ ∙ regionC-putC w (l .x) coupling coupling-long (omega (arith, at .room .vector-room .vectors-in))
 
       pub tangent-made : boundaryData flags aims ≡ aims → {w₃ w₄ : List Float} → Softens w₂ w₃ h mass l from to (blankedTerms flags (termsIn w₂ h t)) → Fixes w₃ w₄ h l targets flags from to
           → MakesTangent w w₄ h mass l targets flags from to t
@@ -277,11 +299,13 @@ module _ (w : List Float) (h mass : Hermitian) (l : Vectors) (targets : ℕ) (fl
           let s : systemIn w₂ h l from to ≡ plain (matrix w h from to) (h .size) =
           plain-system w₁ h mass l from to t room e₂ ∙ ap (λ x. plain x (h .size)) first-matrix in
           let aims-is : regionC w₃ targets (h .size) ≡ aims =
-          vector-kept third-kept targets (h .size) (apart (h .diagonal) (h .size) targets (2 * h .size) (omega (arith, at .off-behind, at .targets-behind)))
-          (apart (h .off) (2 * h .edges) targets (2 * h .size) (omega (arith, at .targets-behind))) (at .targets-below) in
+          vector-kept third-kept targets (h .size) (below (at .room .vector-room) targets (2 * h .size)
+          (apart (h .diagonal) (h .size) targets (2 * h .size) (omega (arith, at .off-behind, at .targets-behind)))
+          (apart (h .off) (2 * h .edges) targets (2 * h .size) (omega (arith, at .targets-behind))) (at .targets-below)) in
           let q : systemIn w₃ h l from to ≡ softened (matrix w mass from to) (blankedTerms flags (termsIn w h t)) (plain (matrix w h from to) (h .size)) =
           a .system ∙ rw (m, theta-kept w h mass l from to t ok second-kept, s) in
           record {
             system = b .system ∙ rw (aims-is, a .x-stays, coupling-is, q, data-is) (inside-same flags (matrix w mass from to) (h .size) (matrix w h from to) aims coupling (termsIn w h t));
+            x-is = b .x-is ∙ a .x-stays ∙ coupling-is;
             kept = kept-then h l third-kept (b .kept);
           }

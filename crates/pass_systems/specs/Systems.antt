@@ -1,4 +1,4 @@
--- The linear systems of a pass's branches, over lists: lines 1470 to 1549 of the Rust's solve_mesh, as far as they build a matrix and a right-hand side.
+-- The linear systems of a pass's branches, over lists: lines 1470 to 1548 of the Rust's solve_mesh, as far as they build a matrix and a right-hand side.
 -- `energy` is the energy matrix with its shift. Definitions only.
 use Prim.Native.Nat.{ℕ}
 use mathlib.Core.List.{List, [], _∷_}
@@ -14,7 +14,7 @@ use Rattle.pass_soft.specs.Soft.{Term, System, softened}
 unfoldable pub plain : Matrix → ℕ → System
 plain energy n = record { matrix = energy; rhs = replicate n czero }
 
--- ---- tangent, lines 1470 to 1510: the targets hold exactly on the boundary
+-- ---- tangent, lines 1470 to 1509: the targets hold exactly on the boundary
 
 -- lines 1482 to 1501: a soft term acts off the boundary alone
 unfoldable pub insideBy : List ℕ → Matrix → Term → System → System
@@ -27,7 +27,7 @@ unfoldable pub inside : List ℕ → Matrix → List Term → System → System
 inside flags mass [] s = s
 inside flags mass (t ∷ ts) s = inside flags mass ts (insideBy flags mass t s)
 
--- lines 1502 to 1510
+-- lines 1502 to 1509
 unfoldable pub fixedBy : List ℕ → List Complex → List Complex → System → System
 fixedBy flags targets coupling s = record { matrix = dirichletRows flags (s .matrix); rhs = coupled flags targets coupling (s .rhs) }
 
@@ -44,7 +44,7 @@ penalty weight flags targets mass energy = record { matrix = penalisedBy flags w
 unfoldable pub weakSystem : Float → List ℕ → List Complex → Matrix → Matrix → List Term → System
 weakSystem weight flags targets mass energy terms = softened mass terms (penalty weight flags targets mass energy)
 
--- ---- soft terms alone, lines 1535 to 1549
+-- ---- soft terms alone, lines 1535 to 1548
 
 unfoldable pub softSystem : Matrix → Matrix → List Term → ℕ → System
 softSystem mass energy terms n = softened mass terms (plain energy n)

@@ -3,8 +3,10 @@ use Prim.Native.Nat.{ℕ, _+_, _*_, _≤_}
 use mathlib.Core.Path.{_≡_}
 use mathlib.Core.List.{List, map}
 use lib.Ieee.{Float}
+use Rattle.complex.specs.declared.Complex.{Complex}
 use Rattle.linear_cells.specs.Cell.{regionC}
 use Rattle.linear_hermitian.specs.declared.Hermitian.{Hermitian}
+use Rattle.linear_hermitian.specs.Hermitian.{applied}
 use Rattle.linear_hermitian.specs.Work.{matrix}
 use Rattle.linear_conjugate_gradient.specs.declared.Vectors.{Vectors}
 use Rattle.linear_conjugate_gradient.specs.Work.{SolverRoom}
@@ -31,9 +33,10 @@ pub record TargetRoom (len : ℕ) (h : Hermitian) (l : Vectors) (targets : ℕ) 
 
 -- ---- what is left
 
--- the system s stands there. Nothing else below the vectors is written, and all of them but the residual are free
-pub record Makes (w w′ : List Float) (h : Hermitian) (l : Vectors) (from to : List ℕ) (s : System) : Type 0 where
+-- the system s stands there, and the vector x in the solver's x. The solver's direction and the matrix times that are free, and all else stays
+pub record Makes (w w′ : List Float) (h : Hermitian) (l : Vectors) (from to : List ℕ) (x : List Complex) (s : System) : Type 0 where
   pub system : systemIn w′ h l from to ≡ s
+  pub x-is : regionC w′ (l .x) (h .size) ≡ x
   pub kept : Kept w w′ h l
 
 -- soft terms with their targets blanked on the boundary
@@ -43,14 +46,14 @@ blankedTerm flags t = record { weight = t .weight; target = blanked flags (t .ta
 abbrev pub blankedTerms : List ℕ → List Term → List Term
 blankedTerms flags ts = map (blankedTerm flags) ts
 
--- ---- the functions' promises
+-- ---- the functions' promises: the solver's x stays, but in the tangent branch, where it is left with the coupling
 
 abbrev pub MakesSoft : (w w′ : List Float) (h mass : Hermitian) (l : Vectors) (from to : List ℕ) → Terms → Type 0
-MakesSoft w w′ h mass l from to t = Makes w w′ h l from to (softSystem (matrix w mass from to) (matrix w h from to) (termsIn w h t) (h .size))
+MakesSoft w w′ h mass l from to t = Makes w w′ h l from to (regionC w (l .x) (h .size)) (softSystem (matrix w mass from to) (matrix w h from to) (termsIn w h t) (h .size))
 
 abbrev pub MakesWeak : (w w′ : List Float) (h mass : Hermitian) (l : Vectors) (targets : ℕ) (weight : Float) (flags from to : List ℕ) → Terms → Type 0
 MakesWeak w w′ h mass l targets weight flags from to t =
-    Makes w w′ h l from to (weakSystem weight flags (regionC w targets (h .size)) (matrix w mass from to) (matrix w h from to) (termsIn w h t))
+    Makes w w′ h l from to (regionC w (l .x) (h .size)) (weakSystem weight flags (regionC w targets (h .size)) (matrix w mass from to) (matrix w h from to) (termsIn w h t))
 
 -- the term of the target in the direction's region, blanked
 abbrev pub SoftensInside : (w w′ : List Float) (h mass : Hermitian) (l : Vectors) (weight : Float) (flags from to : List ℕ) → Type 0
@@ -58,8 +61,10 @@ SoftensInside w w′ h mass l weight flags from to = Softens w w′ h mass l fro
 
 -- of any system, with the coupling in the solver's x
 abbrev pub Fixes : (w w′ : List Float) (h : Hermitian) (l : Vectors) (targets : ℕ) (flags from to : List ℕ) → Type 0
-Fixes w w′ h l targets flags from to = Makes w w′ h l from to (fixedBy flags (regionC w targets (h .size)) (regionC w (l .x) (h .size)) (systemIn w h l from to))
+Fixes w w′ h l targets flags from to =
+    Makes w w′ h l from to (regionC w (l .x) (h .size)) (fixedBy flags (regionC w targets (h .size)) (regionC w (l .x) (h .size)) (systemIn w h l from to))
 
 abbrev pub MakesTangent : (w w′ : List Float) (h mass : Hermitian) (l : Vectors) (targets : ℕ) (flags from to : List ℕ) → Terms → Type 0
 MakesTangent w w′ h mass l targets flags from to t =
-    Makes w w′ h l from to (tangentSystem flags (regionC w targets (h .size)) (matrix w mass from to) (matrix w h from to) (termsIn w h t) (h .size))
+    Makes w w′ h l from to (applied (matrix w h from to) (regionC w targets (h .size)))
+    (tangentSystem flags (regionC w targets (h .size)) (matrix w mass from to) (matrix w h from to) (termsIn w h t) (h .size))

@@ -88,7 +88,8 @@ returns c =
     let back9 = c .before .before .before .before .before .before .before .before .before in
     let back8 = c .before .before .before .before .before .before .before .before in
     let back7 = c .before .before .before .before .before .before .before in
-    at-leaves (start .args .l) _ (start .args .o) (start .args .s) _ _ (start .pre .0) (start .pre .1 .0) (back8 .energy-at .ensures) (back7 .mass-at .ensures) (back9 .terms-of .ensures) (c .before .before .field-by .ensures)
+    at-leaves (start .args .l) _ (start .args .o) (start .args .s) _ _ (start .pre .0) (start .pre .1 .0) (back8 .energy-at .ensures) (back7 .mass-at .ensures) (back9 .terms-of .ensures)
+    (c .before .before .before .before .before .before .vectors-at .ensures) (c .before .before .field-by .ensures)
 
 pub field-at-spec : {M : Type 1} → statement M
 field-at-spec =

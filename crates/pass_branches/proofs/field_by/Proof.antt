@@ -34,7 +34,7 @@ same-length c = search needs
 returns : tie.Need-returns
 returns c =
     let start = c .before .before .before .before .before .before .before .before .before .before .before .before .before in
-    by-weak _ _ _ _ _ _ _ _ _ _ (start .args .t) (start .args .o) (c .before .before .before .before .before .before .mode .given .1) (c .before .before .before .before .if1 .taken) (c .before .before .weak-field .ensures)
+    by-weak _ _ _ _ _ _ _ _ _ _ _ (start .args .t) (start .args .o) (c .before .before .before .before .before .before .mode .given .1) (c .before .before .before .before .if1 .taken) (c .before .before .weak-field .ensures)
 
 free-field-requires-2 : tie.Need-free-field-requires-2
 free-field-requires-2 c κs =
@@ -47,7 +47,7 @@ same-length-2 c = search needs
 returns-2 : tie.Need-returns-2
 returns-2 c =
     let start = c .before .before .before .before .before .before .before .before .before .before .before in
-    by-none _ _ _ _ _ _ _ _ _ _ (start .args .t) (start .args .o) (c .before .before .before .before .enum-told .given .1) (c .before .before .free-field .ensures)
+    by-none _ _ _ _ _ _ _ _ _ _ _ (start .args .t) (start .args .o) (c .before .before .before .before .enum-told .given .1) (c .before .before .free-field .ensures)
 
 same-length-3 : tie.Need-same-length-3
 same-length-3 c = search needs
@@ -55,7 +55,7 @@ same-length-3 c = search needs
 returns-3 : tie.Need-returns-3
 returns-3 c =
     let start = c .before .before .before .before .before .before .before .before .before .before .before in
-    by-tangent _ _ _ _ _ _ _ _ _ _ (start .args .t) (start .args .o) (c .before .before .before .before .enum-told2 .given .1) (c .before .before .tangent-field .ensures)
+    by-tangent _ _ _ _ _ _ _ _ _ _ _ (start .args .t) (start .args .o) (c .before .before .before .before .enum-told2 .given .1) (c .before .before .tangent-field .ensures)
 
 same-length-4 : tie.Need-same-length-4
 same-length-4 c = search needs
@@ -63,7 +63,7 @@ same-length-4 c = search needs
 returns-4 : tie.Need-returns-4
 returns-4 c =
     let start = c .before .before .before .before .before .before .before .before .before .before .before .before .before in
-    by-idle _ _ _ _ _ _ _ _ _ _ (start .args .t) (start .args .o) (c .before .before .before .before .before .before .mode .given .1) (c .before .before .before .before .if1 .left) (c .before .before .free-field2 .ensures)
+    by-idle _ _ _ _ _ _ _ _ _ _ _ (start .args .t) (start .args .o) (c .before .before .before .before .before .before .mode .given .1) (c .before .before .before .before .if1 .left) (c .before .before .free-field2 .ensures)
 
 pub field-by-spec : {M : Type 1} → statement M
 field-by-spec =

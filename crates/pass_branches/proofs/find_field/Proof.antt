@@ -38,7 +38,7 @@ returns-2 c =
     let start = c .before .before .before .before .before .before .before .before .before .before .before in
     let back8 = c .before .before .before .before .before .before .before .before in
     let back7 = c .before .before .before .before .before .before .before in
-    idle-finds (start .args .l) _ (start .args .o) (start .args .s) _ _ (back8 .acts-on .ensures) (back7 .if1 .left) (c .before .before .before .before .packed-field .ensures)
+    idle-finds (start .args .l) _ (start .args .o) (start .args .s) _ _ (start .pre .0) (back8 .acts-on .ensures) (back7 .if1 .left) (c .before .before .before .before .packed-field .ensures)
 
 pub find-field-spec : {M : Type 1} → statement M
 find-field-spec =

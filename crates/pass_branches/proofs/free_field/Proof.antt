@@ -18,7 +18,7 @@ same-length c = search needs
 returns : tie.Need-returns
 returns c =
     let start = c .before .before .before .before .before .before .before .before .before .before in
-    free-vector _ _ _ _ _ _ _ (start .args .t) _ (c .before .before .before .before .before .none-acts .ensures) (c .before .before .before .before .if1 .taken) (c .before .before .vector-field .ensures)
+    free-vector _ _ _ _ _ _ _ _ (start .args .t) _ (c .before .before .before .before .before .none-acts .ensures) (c .before .before .before .before .if1 .taken) (c .before .before .vector-field .ensures)
 
 soft-field-requires : tie.Need-soft-field-requires
 soft-field-requires c κs =
@@ -31,7 +31,7 @@ same-length-2 c = search needs
 returns-2 : tie.Need-returns-2
 returns-2 c =
     let start = c .before .before .before .before .before .before .before .before .before .before in
-    free-soft _ _ _ _ _ _ _ (start .args .t) _ (c .before .before .before .before .before .none-acts .ensures) (c .before .before .before .before .if1 .left) (c .before .before .soft-field .ensures)
+    free-soft _ _ _ _ _ _ _ _ (start .args .t) _ (c .before .before .before .before .before .none-acts .ensures) (c .before .before .before .before .if1 .left) (c .before .before .soft-field .ensures)
 
 pub free-field-spec : {M : Type 1} → statement M
 free-field-spec =

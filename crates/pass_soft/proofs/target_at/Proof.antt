@@ -1,5 +1,5 @@
 -- `pass_soft::target_at` meets its contract: the definition, opened, by what its call ensures.
-use Rattle.pass_soft.specs.Soft.{targetAt}
+use Rattle.complex.specs.Guidance.{fourfold}
 use borrow.Author.Needs.{needs}
 use Rattle.pass_soft.proofs.target_at.Statement.{statement}
 use Rattle.pass_soft.proofs.target_at.Tie as tie
@@ -8,7 +8,7 @@ from-angle-requires : tie.Need-from-angle-requires
 from-angle-requires c κs = search needs
 
 returns : tie.Need-returns
-unfolding targetAt
+unfolding fourfold
 returns c = cc
 
 pub target-at-spec : {M : Type 1} → statement M

@@ -38,7 +38,7 @@ returns c =
     let start = c .before .before .before .before .before .before .before .before .before .before .before .before .before .before in
     let back8 = c .before .before .before .before .before .before .before .before in
     leaves-vector _ _ _ _ _ _ _ _ _ (start .pre .0 .0 .0 .energy-room) (start .pre .1 .1 .0 .0) (start .pre .1 .1 .1) (back8 .entries .ensures) _ (start .args .o) (start .pre .1 .1 .0 .1)
-    (leaves-refused _ _ _ _ (copied-room _ _ _ _ _ _ _ _ _ (start .pre .0 .0 .0 .energy-room) (start .pre .1 .1 .0 .0) (start .pre .1 .1 .1) (back8 .entries .ensures) .vector-room) (start .pre .0 .1)
+    (leaves-refused _ _ _ _ (copied-room _ _ _ _ _ _ _ _ _ (start .pre .0 .0 .0 .energy-room) (start .pre .1 .1 .0 .0) (start .pre .1 .1 .1) (back8 .entries .ensures)) (start .pre .0 .1)
     (c .before .before .before .before .inverse-iteration .ensures) (not-done (c .enum-told2 .given .1)))
 
 angles-from-requires : tie.Need-angles-from-requires
@@ -58,7 +58,7 @@ returns-2 c =
     let back12 = c .before .before .before .before .before .before .before .before .before .before .before .before in
     let back8 = c .before .before .before .before .before .before .before .before in
     leaves-vector _ _ _ _ _ _ _ _ _ (start .pre .0 .0 .0 .energy-room) (start .pre .1 .1 .0 .0) (start .pre .1 .1 .1) (back12 .entries .ensures) _ (start .args .o) (start .pre .1 .1 .0 .1)
-    (leaves-angles _ _ _ _ (copied-room _ _ _ _ _ _ _ _ _ (start .pre .0 .0 .0 .energy-room) (start .pre .1 .1 .0 .0) (start .pre .1 .1 .1) (back12 .entries .ensures) .vector-room) (start .pre .0 .1)
+    (leaves-angles _ _ _ _ (copied-room _ _ _ _ _ _ _ _ _ (start .pre .0 .0 .0 .energy-room) (start .pre .1 .1 .0 .0) (start .pre .1 .1 .1) (back12 .entries .ensures)) (start .pre .0 .1)
     (back8 .inverse-iteration .ensures) (c .before .before .before .before .enum-told .given .1) (c .before .before .angles-from .ensures))
 
 pub vector-field-spec : {M : Type 1} → statement M
