@@ -5,3 +5,5 @@ pub mod Rem
 pub mod Own
 pub mod Within
 pub mod Signed
+pub mod Above
+pub mod Far

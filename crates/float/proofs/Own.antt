@@ -70,7 +70,7 @@ no-zero : (n u d : ℕ) → 0 < u → 0 < d → suc n * u * d ≡ 0 → ⊥
 no-zero n u d U D h = omega (arith, mul-pos (mul-pos (zero-lt-suc n) U) D)
 
 -- equal values of the format, one given by its parts and the other by them too
-same-value : (f : Format) (s : Bool) (m n : ℕ) (e d : ℤ) → T (fits f (fin s m e)) → T (fits f (fin s n d)) → m * up e * down d ≡ n * up d * down e → fin s m e ≡ fin s n d
+pub same-value : (f : Format) (s : Bool) (m n : ℕ) (e d : ℤ) → T (fits f (fin s m e)) → T (fits f (fin s n d)) → m * up e * down d ≡ n * up d * down e → fin s m e ≡ fin s n d
 same-value f s zero zero e d p q h = ap (λ (g : ℤ). fin s zero g) (zero-exponent f s e p ∙ sym (zero-exponent f s d q))
 same-value f s zero (suc n) e d p q h = absurd (no-zero n (up d) (down e) (up-pos d) (down-pos e) (sym h ∙ ap (λ (z : ℕ). z * down d) (zero-mul (up e)) ∙ zero-mul (down d)))
 same-value f s (suc m) zero e d p q h = absurd (no-zero m (up e) (down d) (up-pos e) (down-pos d) (h ∙ ap (λ (z : ℕ). z * down e) (zero-mul (up d)) ∙ zero-mul (down e)))

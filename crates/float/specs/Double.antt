@@ -10,6 +10,14 @@ use lib.Ieee.{Float, nan, inf, fin, binary64, add, sub, mul, div, rem, lt, le, e
 abbrev pub lit : ℕ → Float
 lit b = ofBits binary64 b
 
+-- a whole number as a double, exact up to 2 ^ 53
+abbrev pub whole : ℕ → Float
+whole n = ofInt binary64 (pos n)
+
+-- 0.5
+abbrev pub HALF : Float
+HALF = lit 0x3fe0_0000_0000_0000
+
 -- FRAC_PI_4, FRAC_PI_2, PI and TAU of Rust's std::f64::consts
 abbrev pub FRAC-PI-4 : Float
 FRAC-PI-4 = lit 0x3fe9_21fb_5444_2d18
@@ -96,7 +104,7 @@ turnSign b = cond (ltb b 0x8000_0000_0000_0000) (b + 0x8000_0000_0000_0000) (b -
 unfoldable pub roundSize : Float → Float
 roundSize a =
     let f = ofInt binary64 (pos (toUnsigned 64 a)) in
-    cond (le (lit 0x3fe0_0000_0000_0000) (sub binary64 a f)) (add binary64 f (lit 0x3ff0_0000_0000_0000)) f
+    cond (le HALF (sub binary64 a f)) (add binary64 f (lit 0x3ff0_0000_0000_0000)) f
 
 -- f64::round: to the nearest whole number, a half away from zero. From 2 ^ 52 on every value is whole. The sign stays, also of a zero
 unfoldable pub roundAway : Float → Float

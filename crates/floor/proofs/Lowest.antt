@@ -6,7 +6,7 @@ use native.Mathlib.Numerals.{add-one}
 use native.Mathlib.Decide.{ℕ-discrete}
 use mathlib.Core.Path.{_≡_, refl, sym, ap, _∙_}
 use mathlib.Core.Bool.{Bool, true, false, cond}
-use borrow.Author.Tests.{ltb-false, lt-ltb, le-ltb}
+use borrow.Author.Tests.{ltb-true, ltb-false, lt-ltb, le-ltb}
 use lib.Dec.{ltb}
 use Rattle.floor.specs.Checks.{lowest}
 
@@ -62,3 +62,24 @@ lowest-before p (suc n) i h = go (ltb (lowest p n) n) (p n) refl refl (lowest-be
         last : Dec (i ≡ n) → p i ≡ false
         last (yes z) = ap p z ∙ f
         last (no z) = old (omega (arith, ltb-false (lowest p n) n e))
+
+-- where it holds at none, there is no lowest
+pub lowest-clear : (p : ℕ → Bool) (n : ℕ) → ((i : ℕ) → i < n → p i ≡ false) → lowest p n ≡ n
+unfolding lowest
+lowest-clear p zero h = refl
+lowest-clear p (suc n) h = let e = lowest-clear p n (λ i l. h i (omega arith)) in rw (e, le-ltb n n (omega arith), h n (omega arith))
+
+-- at the lowest index it holds
+pub lowest-holds : (p : ℕ → Bool) (n : ℕ) → lowest p n < n → p (lowest p n) ≡ true
+unfolding lowest
+lowest-holds p zero h = absurd (omega arith)
+lowest-holds p (suc n) h = go (ltb (lowest p n) n) (p n) refl refl (lowest-holds p n) h
+  where
+    go : (b c : Bool) → ltb (lowest p n) n ≡ b → p n ≡ c → (lowest p n < n → p (lowest p n) ≡ true) → cond b (lowest p n) (cond c n (suc n)) < suc n → p (cond b (lowest p n) (cond c n (suc n))) ≡ true
+    go true c e f old h = old (ltb-true (lowest p n) n e)
+    go false true e f old h = f
+    go false false e f old h = absurd (omega arith)
+
+-- an index at which it holds and below which it does not is the lowest
+pub lowest-is : (p : ℕ → Bool) (n i : ℕ) → i < n → p i ≡ true → ((j : ℕ) → j < i → p j ≡ false) → lowest p n ≡ i
+lowest-is p n i l h g = sym (lowest-found p i n (sym (lowest-clear p i g)) h l)

@@ -18,10 +18,14 @@ row k = record { number = k; place = 0 }
 abbrev pub rowAt : ℕ → ℕ → Refusal
 rowAt k i = record { number = k; place = i }
 
+-- what was found below i, or else i where it holds here, or else the next
+abbrev pub orHere : Bool → ℕ → ℕ → ℕ
+orHere here i found = cond (ltb found i) found (cond here i (suc i))
+
 -- "within a row the lowest index is reported": the lowest index below n at which p holds, or n
 unfoldable pub lowest : (ℕ → Bool) → ℕ → ℕ
 lowest p zero = zero
-lowest p (suc i) = cond (ltb (lowest p i) i) (lowest p i) (cond (p i) i (suc i))
+lowest p (suc i) = orHere (p i) i (lowest p i)
 
 -- the most that row 1 lets through
 abbrev pub MOST-POINTS : ℕ

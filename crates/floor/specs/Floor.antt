@@ -12,11 +12,11 @@ pub record Floor : Type 0 where
   pub triangles : List Tri
 
 -- how many points it has
-abbrev pub pointsOf : Floor → ℕ
-pointsOf f = length (f .xs)
+abbrev pub pointCount : Floor → ℕ
+pointCount f = length (f .xs)
 
-abbrev pub trianglesOf : Floor → ℕ
-trianglesOf f = length (f .triangles)
+abbrev pub triangleCount : Floor → ℕ
+triangleCount f = length (f .triangles)
 
 -- a list's value at point v, and its triangle i
 abbrev pub valueAt : List Float → ℕ → Float

@@ -95,7 +95,7 @@ mul-parts f (fin s m e) (inf t) h = (tt, tt)
 mul-parts f (fin s m e) (fin t n d) h = (tt, tt)
 
 -- ---- values that are not negative, or no number: a squared side
-abbrev Bare : Float → Type 0
+abbrev pub Bare : Float → Type 0
 Bare nan = Unit {0}
 Bare (inf s) = s ≡ false
 Bare (fin s m e) = s ≡ false
@@ -134,24 +134,24 @@ max-bare x (inf t) h g = max-plain x (inf t) h g
 max-bare x (fin t n d) h g = max-plain x (fin t n d) h g
 
 -- ---- a flat orientation is refused
-side-bare : (p q : Pair) → Bare (side2 p q)
+pub side-bare : (p q : Pair) → Bare (side2 p q)
 unfolding side2
 side-bare p q = add-bare binary64 ((q .x ⊖ p .x) ⊗ (q .x ⊖ p .x)) ((q .y ⊖ p .y) ⊗ (q .y ⊖ p .y)) (square-bare binary64 (q .x ⊖ p .x)) (square-bare binary64 (q .y ⊖ p .y))
 
 -- the way from p to q is of numbers
-abbrev Way : Pair → Pair → Type 0
+abbrev pub Way : Pair → Pair → Type 0
 Way p q = Number (q .x ⊖ p .x) × Number (q .y ⊖ p .y)
 
-side-plain : (p q : Pair) → Way p q → Plain (side2 p q)
+pub side-plain : (p q : Pair) → Way p q → Plain (side2 p q)
 unfolding side2
 side-plain p q h = add-plain binary64 ((q .x ⊖ p .x) ⊗ (q .x ⊖ p .x)) ((q .y ⊖ p .y) ⊗ (q .y ⊖ p .y)) (square-plain binary64 (q .x ⊖ p .x) (h .0)) (square-plain binary64 (q .y ⊖ p .y) (h .1))
 
-longest-plain : (p q r : Pair) → Way p q → Plain (longest p q r)
+pub longest-plain : (p q r : Pair) → Way p q → Plain (longest p q r)
 unfolding longest
 longest-plain p q r h = max-bare (maxOf (side2 p q) (side2 q r)) (side2 r p) (max-bare (side2 p q) (side2 q r) (side-plain p q h) (side-bare q r)) (side-bare r p)
 
 -- both ways from the first corner are, where the orientation is a number
-orientation-ways : (p q r : Pair) → Number (orientation p q r) → Way p q × Way p r
+pub orientation-ways : (p q r : Pair) → Number (orientation p q r) → Way p q × Way p r
 unfolding orientation
 orientation-ways p q r h =
     let d = sub-parts binary64 ((q .x ⊖ p .x) ⊗ (r .y ⊖ p .y)) ((q .y ⊖ p .y) ⊗ (r .x ⊖ p .x)) h in
@@ -159,7 +159,7 @@ orientation-ways p q r h =
     let b = mul-parts binary64 (q .y ⊖ p .y) (r .x ⊖ p .x) (d .1) in
     ((a .0, b .0), (b .1, a .1))
 
-scaled-plain : (y : Float) → Plain y → Plain (lit 0x3d06_849b_86a1_2b9b ⊗ y)
+pub scaled-plain : (y : Float) → Plain y → Plain (lit 0x3d06_849b_86a1_2b9b ⊗ y)
 unfolding ofBits
 scaled-plain y h = mul-plain binary64 _ _ y refl h
 

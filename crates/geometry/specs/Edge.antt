@@ -1,11 +1,11 @@
 -- transport_coefficient and anisotropy_alignment_weight of the Rust, step by step; and row 22 of the refusals. Definitions only.
 use Prim.Native.Nat.{ℕ}
 use mathlib.Core.Bool.{not, cond, _||_}
-use mathlib.Core.List.{List, [], _∷_}
 use lib.Ieee.{Float, neg, le, eq}
-use Rattle.float.specs.Double.{lit, isFinite, recipOf, _⊕_, _⊖_, _⊗_, _⊘_}
+use Rattle.float.specs.Double.{lit, HALF, isFinite, recipOf, _⊕_, _⊖_, _⊗_, _⊘_}
 use Rattle.arctangent.specs.Arc.{atan2Of}
 use Rattle.complex.specs.Complex.{fromAngle}
+use Rattle.complex.specs.Angle.{FIELD-SYMMETRY}
 use Rattle.plane.specs.Pair.{sub2}
 use Rattle.geometry.specs.declared.End.{End}
 use Rattle.geometry.specs.declared.Transport.{Transport}
@@ -13,13 +13,13 @@ use Rattle.geometry.specs.declared.Transport.the-variants.{Coefficient, 
 
 -- half the sum of the ends' sizes
 abbrev pub meanSize : End → End → Float
-meanSize a b = lit 0x3fe0_0000_0000_0000 ⊗ (a .size ⊕ b .size)
+meanSize a b = HALF ⊗ (a .size ⊕ b .size)
 
 -- θ of Algorithm 1, lines 2 to 11: g is the mean gradient, s the way from a to b
 unfoldable pub transportAngle : End → End → Float → Float
 transportAngle a b σ =
-    let gx = lit 0x3fe0_0000_0000_0000 ⊗ (a .gradient .x ⊕ b .gradient .x) in
-    let gy = lit 0x3fe0_0000_0000_0000 ⊗ (a .gradient .y ⊕ b .gradient .y) in
+    let gx = HALF ⊗ (a .gradient .x ⊕ b .gradient .x) in
+    let gy = HALF ⊗ (a .gradient .y ⊕ b .gradient .y) in
     let s = sub2 (b .position) (a .position) in
     let dvx = (gx ⊗ s .x ⊕ gy ⊗ s .y) ⊘ σ in
     let dvy = (gy ⊗ s .x ⊖ gx ⊗ s .y) ⊘ σ in
@@ -29,16 +29,12 @@ transportAngle a b σ =
 unfoldable pub transportOf : End → End → Transport
 transportOf a b =
     let σ = meanSize a b in
-    cond (not (isFinite σ) || le σ (lit 0)) (MeanSize (a .vertex) (b .vertex)) (Coefficient (fromAngle (neg (lit 0x4010_0000_0000_0000) ⊗ transportAngle a b σ)))
+    cond (not (isFinite σ) || le σ (lit 0)) (MeanSize (a .vertex) (b .vertex)) (Coefficient (fromAngle (neg FIELD-SYMMETRY ⊗ transportAngle a b σ)))
 
--- the refusal's number and place that an answer stands for: 0 and none where it is no refusal
+-- the refusal's number that an answer stands for, 0 where it is none. Its place, the edge's ends, is in the answer
 abbrev pub number : Transport → ℕ
 number (Coefficient z) = 0
 number (MeanSize a b) = 22
-
-abbrev pub place : Transport → List ℕ
-place (Coefficient z) = []
-place (MeanSize a b) = a ∷ b ∷ []
 
 -- (a + 1/a - 2)², and 0 at 1
 unfoldable pub alignmentWeight : Float → Float

@@ -4,7 +4,7 @@ use mathlib.Core.Bool.{Bool, not, cond, _||_}
 use mathlib.Core.List.{List, [], _∷_}
 use lib.ListN.{getD}
 use lib.Ieee.{Float, nan, lt, le}
-use Rattle.float.specs.Double.{lit, mag, isFinite, maxOf, recipOf, _⊕_, _⊗_}
+use Rattle.float.specs.Double.{lit, HALF, mag, isFinite, maxOf, recipOf, _⊕_, _⊗_}
 use Rattle.plane.specs.declared.Pair.{Pair}
 use Rattle.plane.specs.Pair.{sub2, dot2, cross2, rotate90, scale2, no-pair}
 use Rattle.geometry.specs.declared.Geometry.{Geometry}
@@ -22,11 +22,15 @@ unfoldable pub longest : Pair → Pair → Pair → Float
 longest p q r = maxOf (maxOf (side2 p q) (side2 q r)) (side2 r p)
 
 unfoldable pub areaOf : Float → Float
-areaOf t = lit 0x3fe0_0000_0000_0000 ⊗ mag t
+areaOf t = HALF ⊗ mag t
+
+-- 1e-14
+abbrev pub SMALLEST-AREA : Float
+SMALLEST-AREA = lit 0x3d06_849b_86a1_2b9b
 
 -- row 19: the area w is not finite, or at most 1e-14 times the longest squared side
 unfoldable pub degenerate : Pair → Pair → Pair → Float → Bool
-degenerate p q r w = not (isFinite w) || le w (lit 0x3d06_849b_86a1_2b9b ⊗ longest p q r)
+degenerate p q r w = not (isFinite w) || le w (SMALLEST-AREA ⊗ longest p q r)
 
 -- corners i, j, k at p, q, r, in this order, of the area w, as triangle t
 unfoldable pub placed : ℕ → ℕ → ℕ → Pair → Pair → Pair → Float → ℕ → Geometry
@@ -64,8 +68,8 @@ twiceArea ps = orientation (getD ps 0 no-pair) (getD ps 1 no-pair) (getD ps 2 no
 abbrev pub longestOf : List Pair → Float
 longestOf ps = longest (getD ps 0 no-pair) (getD ps 1 no-pair) (getD ps 2 no-pair)
 
-abbrev pub judged : List ℕ → List Pair → Float → ℕ → Geometry
-judged vs ps w t = placed (getD vs 0 0) (getD vs 1 0) (getD vs 2 0) (getD ps 0 no-pair) (getD ps 1 no-pair) (getD ps 2 no-pair) w t
+abbrev pub placedOf : List ℕ → List Pair → Float → ℕ → Geometry
+placedOf vs ps w t = placed (getD vs 0 0) (getD vs 1 0) (getD vs 2 0) (getD ps 0 no-pair) (getD ps 1 no-pair) (getD ps 2 no-pair) w t
 
 abbrev pub geometryOf : List ℕ → List Pair → ℕ → Geometry
 geometryOf vs ps t = geometry (getD vs 0 0) (getD vs 1 0) (getD vs 2 0) (getD ps 0 no-pair) (getD ps 1 no-pair) (getD ps 2 no-pair) t

@@ -1,7 +1,7 @@
 // The geometry of one triangle and one edge of a pass: corners put counter-clockwise, area, size gradient, transport
 // along an edge; and the weight of an anisotropic metric. Positions are pairs x, y: no z is ever read.
 ghost use mathlib.Core.Path.{_≡_};
-ghost use Rattle.geometry.specs.Triangle.{twiceArea, side2, longestOf, judged, geometryOf, hatGradient, gradientOf};
+ghost use Rattle.geometry.specs.Triangle.{twiceArea, side2, longestOf, placedOf, geometryOf, hatGradient, gradientOf};
 ghost use Rattle.geometry.specs.Edge.{transportAngle, transportOf, alignmentWeight};
 use complex::Complex;
 use plane::Pair;
@@ -52,7 +52,7 @@ fn longest_squared_side(positions: [Pair; 3]) -> f64
 
 // Refusal 19, or the triangle in the order given.
 fn judge(vertices: [usize; 3], positions: [Pair; 3], area: f64, index: usize) -> Geometry
-    ensures { λ r. ⌜ r ≡ judged vertices positions area index ⌝ }
+    ensures { λ r. ⌜ r ≡ placedOf vertices positions area index ⌝ }
 {
     let longest = longest_squared_side(positions);
     if !float::is_finite(area) {

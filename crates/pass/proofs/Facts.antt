@@ -6,7 +6,7 @@ use mathlib.Core.Bool.{Bool, true, false, cond}
 use mathlib.Core.List.{List, [], _∷_}
 use lib.Ieee.{Float}
 use Rattle.mesh.specs.Mesh.{Tri, tri, Good, All}
-use Rattle.floor.specs.Floor.{Floor, pointsOf}
+use Rattle.floor.specs.Floor.{Floor, pointCount}
 use Rattle.float.specs.Double.{notPositive}
 use Rattle.pass_shift.specs.declared.Traces.{Traces}
 use Rattle.pass_refusal.specs.Refusal.{gaveUp}
@@ -39,7 +39,7 @@ three n [] h = tt
 three n (tri a b c ∷ ts) h = ((h .0 .3, h .0 .4, h .0 .5), three n ts (h .1))
 
 module _ (f : Floor) (o : Options) (g : Guidance) (k : ℕ) (alpha : List Float) (e : passOf f o g k ≡ field alpha) where
-  was-set-up : ((m : ℕ) × (setupOf f ≡ Edges m)) × (fieldOver f o g k ≡ field alpha)
+  pub was-set-up : ((m : ℕ) × (setupOf f ≡ Edges m)) × (fieldOver f o g k ≡ field alpha)
   unfolding passOf
   was-set-up = set-up (setupOf f) (fieldOver f o g k) alpha e
 
@@ -49,7 +49,7 @@ module _ (f : Floor) (o : Options) (g : Guidance) (k : ℕ) (alpha : List Float)
 
 pub pass-facts : PassFacts passOf
 pass-facts = record {
-  three-corners = λ f o g k alpha h e. three (pointsOf f) (f .triangles) (setup-good f (was-set-up f o g k alpha e .0 .1) h .0);
+  three-corners = λ f o g k alpha h e. three (pointCount f) (f .triangles) (setup-good f (was-set-up f o g k alpha e .0 .1) h .0);
   as-many = λ f o g k alpha e. branch-field (builtOf o f) f o g k alpha (by-branch f o g k alpha e) .0;
   range = λ f o g k alpha e. branch-field (builtOf o f) f o g k alpha (by-branch f o g k alpha e) .1;
 }

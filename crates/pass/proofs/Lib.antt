@@ -3,3 +3,5 @@ pub mod Matrices
 pub mod Rest
 pub mod Whole
 pub mod Facts
+pub mod Reasons
+pub mod Rows

@@ -1,5 +1,5 @@
 -- The matrices that stand in the work slices once they are assembled over a floor that is set up are those of the floor's definition, and so are their
--- traces and the shifted energy. Nothing before the matrices changes. Assumes nothing.
+-- traces and the shifted energy. Nothing before the matrices changes, and nothing behind them. Assumes nothing.
 use Prim.Native.Nat.{ℕ, zero, suc, _*_, _≤_, _<_}
 use native.Mathlib.Omega.{arith}
 use mathlib.Core.Path.{_≡_, refl, sym, ap, _∙_, subst}
@@ -9,15 +9,16 @@ use lib.Ieee.{Float, nan}
 use Rattle.linear_cells.specs.Region.{region}
 use Rattle.linear_cells.proofs.Loops.{apart}
 use Rattle.linear_cells.proofs.Regions.{length-region}
+use Rattle.linear_cells.proofs.Changes.{region-one}
 use Rattle.edges.specs.Numbering.{trisFrom}
-use Rattle.floor.specs.Floor.{Floor, pointsOf, trianglesOf}
+use Rattle.floor.specs.Floor.{Floor, pointCount, triangleCount}
 use Rattle.linear_hermitian.specs.Hermitian.{Matrix}
 use Rattle.linear_hermitian.specs.Work.{matrix, shiftMatrix, ShiftRoom}
 use Rattle.pass_assembly.specs.Assembly as assembly
 use Rattle.pass_assembly.specs.Work.{assembledTo, Indexed}
 use Rattle.pass_assembly.specs.Work as work
 use Rattle.pass_assembly.proofs.Lists as lists
-use Rattle.pass_assembly.proofs.Matrices.{assembled-length, assembled-below}
+use Rattle.pass_assembly.proofs.Matrices.{assembled-length, assembled-below, assembled-above}
 use Rattle.pass_shift.specs.declared.Traces.{Traces}
 use Rattle.pass_shift.specs.Shift.{tracesOf, shiftOf, shiftedEnergy, TraceRoom}
 use Rattle.pass_terms.specs.declared.Mode.{Mode}
@@ -35,7 +36,7 @@ use Rattle.pass.specs.Pass.{modeOf, assembledFloor, massOf, energyOf, tr
 use Rattle.pass.specs.Work.{planAt}
 use Rattle.pass.proofs.Below.{below-regions}
 
-pub points-in : (l : Layout) (w : List Float) (u : List ℕ) → pointsOf (floorIn l w u) ≡ l .points
+pub points-in : (l : Layout) (w : List Float) (u : List ℕ) → pointCount (floorIn l w u) ≡ l .points
 unfolding floorIn
 points-in l w u = length-region nan w (l .x) (l .points)
 
@@ -44,7 +45,7 @@ unfolding trisFrom
 length-tris c u zero = refl
 length-tris c u (suc t) = length-append (trisFrom c u t) _ ∙ omega (arith, length-tris c u t)
 
-pub triangles-in : (l : Layout) (w : List Float) (u : List ℕ) → trianglesOf (floorIn l w u) ≡ l .triangles
+pub triangles-in : (l : Layout) (w : List Float) (u : List ℕ) → triangleCount (floorIn l w u) ≡ l .triangles
 unfolding floorIn
 triangles-in l w u = length-tris (l .given) u (l .triangles)
 
@@ -116,6 +117,9 @@ module _ (l : Layout) (m : ℕ) (w : List Float) (u : List ℕ) (o : Options) (o
   pub built-below : (j : ℕ) → j < l .mass → getD built j nan ≡ getD w j nan
   built-below = below-regions nan (l .mass) w built (assembled-below (modeOf o) w u (planAt l) (massAt l m) (energyAt l m) room (l .triangles))
 
+  pub built-behind : (j : ℕ) → l .packed ≤ j → getD built j nan ≡ getD w j nan
+  built-behind j h = region-one nan w built j (assembled-above (modeOf o) w u (planAt l) (massAt l m) (energyAt l m) room (l .triangles) j 1 (omega (arith, s .edged .few)))
+
   -- ---- traces and shift
 
   module _ (t : Traces) (e : t ≡ tracesOf (region nan built (l .mass) (l .points)) (region nan built (l .energy) (l .points))) where
@@ -139,6 +143,11 @@ module _ (l : Layout) (m : ℕ) (w : List Float) (u : List ℕ) (o : Options) (o
     shifted-below j h =
         below-regions nan (l .mass) built shifted (λ b n g. shift-else-real built (energyAt l m) (shiftOf t) (massAt l m) b n (omega (arith, apart)) (omega (arith, apart))) j h
         ∙ built-below j h
+
+    pub shifted-behind : (j : ℕ) → l .packed ≤ j → getD shifted j nan ≡ getD w j nan
+    shifted-behind j h =
+        region-one nan built shifted j (shift-else-real built (energyAt l m) (shiftOf t) (massAt l m) j 1 (apart (l .energy) (l .points) j 1 (omega arith)) (apart (l .«energy_off») (2 * m) j 1 (omega (arith, s .edged .few))))
+        ∙ built-behind j h
 
     pub matrices-built : builtIn l m (t .energy) shifted u ≡ builtOf o (floorIn l w u)
     unfolding builtOf

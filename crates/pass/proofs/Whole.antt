@@ -22,9 +22,9 @@ use Rattle.pass_setup.specs.Work.{Stands, SetUp}
 use Rattle.pass_branches.specs.Work.{Finds}
 use Rattle.pass.specs.declared.Asked.{Asked}
 use Rattle.pass.specs.Pass.{fieldOver, afterSetup, passOf}
-use Rattle.pass.specs.Work.{guidanceAt, passIn, fieldIn}
+use Rattle.pass.specs.Work.{guidanceAt, passIn, fieldIn, refusalOf}
 use Rattle.pass.proofs.Below.{region-below}
-use Rattle.pass.proofs.Rest.{finds-from, refusal-found}
+use Rattle.pass.proofs.Rest.{Alike, finds-from, refusal-found}
 
 module _ (l : Layout) (w : List Float) (u : List ℕ) (o : Options) (a : Asked) (ok : Ordered l (length w) (length u))
     {w₁ : List Float} {u₁ : List ℕ} {r : Setup} (s : SetUp l w u w₁ u₁ r) where
@@ -37,15 +37,25 @@ module _ (l : Layout) (w : List Float) (u : List ℕ) (o : Options) (a : Asked) 
   pub stands-now : (m : ℕ) → r ≡ setup.Edges m → Stands l m (floorIn l w₁ u₁) w₁ u₁
   stands-now m e = subst (λ (f : Floor). Stands l m f w₁ u₁) (sym same-floor) (s .stands m e)
 
-  pub pass-refused : (x : Fault) → r ≡ setup.Refused x → Finds l (l .wound) (passIn l o a w u) w u w₁ u₁ (Refused x)
-  unfolding passIn passOf
-  pass-refused x e = refusal-found l (l .wound) (passIn l o a w u) x w w₁ u u₁
-      (ap (λ (z : Setup). afterSetup z (fieldOver (floorIn l w u) o (guidanceAt l a w) (a .iterations))) (sym (s .answer) ∙ e))
-      (s .all-reals) (s .all-words) (λ j h. s .reals-below j (omega arith)) (s .words-below)
+  alike : Alike l (l .areas) (l .wound) w w₁ u u₁
+  alike = record {
+    all-reals = s .all-reals;
+    all-words = s .all-words;
+    reals-below = s .reals-below;
+    reals-behind = λ j h. s .reals-behind j (omega arith);
+    words-below = s .words-below;
+    words-behind = λ j h. s .words-behind j (omega arith);
+  }
 
-  pub pass-found : (m : ℕ) → r ≡ setup.Edges m → {w₂ : List Float} {u₂ : List ℕ} {q : Stage} → Finds l (l .table) (fieldIn l o a w₁ u₁) w₁ u₁ w₂ u₂ q → Finds l (l .wound) (passIn l o a w u) w u w₂ u₂ q
-  pass-found m e f = finds-from l (l .wound) (fieldIn l o a w₁ u₁) (passIn l o a w u) w w₁ u u₁ same-field (s .all-reals) (s .all-words) (λ j h. s .reals-below j (omega arith)) (s .words-below)
-      (record { answer = f .answer; found = f .found; all-reals = f .all-reals; all-words = f .all-words; reals-below = f .reals-below; words-below = λ j h. f .words-below j (omega arith) })
+  pub pass-refused : (x : Fault) → r ≡ setup.Refused x → {q : Stage} → q ≡ refusalOf r → Finds l (l .areas) (l .wound) (passIn l o a w u) w u w₁ u₁ q
+  unfolding passIn passOf
+  pass-refused x e f = rw (f, e) (refusal-found l (omega arith) (passIn l o a w u) x w w₁ u u₁
+      (ap (λ (z : Setup). afterSetup z (fieldOver (floorIn l w u) o (guidanceAt l a w) (a .iterations))) (sym (s .answer) ∙ e))
+      alike)
+
+  pub pass-found : (m : ℕ) → r ≡ setup.Edges m → {w₂ : List Float} {u₂ : List ℕ} {q : Stage} → Finds l (l .mass) (l .table) (fieldIn l o a w₁ u₁) w₁ u₁ w₂ u₂ q
+      → Finds l (l .areas) (l .wound) (passIn l o a w u) w u w₂ u₂ q
+  pass-found m e f = finds-from l (omega arith) (omega arith) (omega arith) (fieldIn l o a w₁ u₁) (passIn l o a w u) w w₁ u u₁ same-field alike f
     where
       same-guidance : guidanceIn l w₁ ≡ guidanceIn l w
       same-guidance = region-below nan (l .areas) w w₁ (s .reals-below) (l .guidance) (l .points) (omega arith)
@@ -64,5 +74,5 @@ unfolding layoutOf
 below-by at l u e h = subst (λ (x : Layout). Below (x .points) (x .given) u (3 * x .triangles)) (sym e) h
 
 pub found-by : (at : Base) {l : Layout} (o : Options) (a : Asked) {w w₁ : List Float} {u u₁ : List ℕ} {r : Stage} → l ≡ layoutOf at
-    → Finds l (l .wound) (passIn l o a w u) w u w₁ u₁ r → Finds (layoutOf at) (layoutOf at .wound) (passIn (layoutOf at) o a w u) w u w₁ u₁ r
-found-by at {l} o a {w} {w₁} {u} {u₁} {r} e f = subst (λ (x : Layout). Finds x (x .wound) (passIn x o a w u) w u w₁ u₁ r) e f
+    → Finds l (l .areas) (l .wound) (passIn l o a w u) w u w₁ u₁ r → Finds (layoutOf at) (layoutOf at .areas) (layoutOf at .wound) (passIn (layoutOf at) o a w u) w u w₁ u₁ r
+found-by at {l} o a {w} {w₁} {u} {u₁} {r} e f = subst (λ (x : Layout). Finds x (x .areas) (x .wound) (passIn x o a w u) w u w₁ u₁ r) e f

@@ -1,12 +1,13 @@
--- One pass: the Rust's solve_mesh as one function of lists, every operation rounded once, in the order that the Rust writes it. A floor has no z, so that
--- no pass depends on one. Definitions only.
+-- One pass: the Rust's solve_mesh as one function of lists, every operation rounded once, in the order that the Rust writes it, without its checks (lines
+-- 1230 to 1234), which `solveOf` makes once and which hold in the second pass too (`second-sound`, crate solve). A floor has no z, so that no pass depends
+-- on one. Definitions only.
 use Prim.Native.Nat.{ℕ}
 use mathlib.Core.Bool.{cond}
-use Rattle.floor.specs.Floor.{Floor, pointsOf, trianglesOf}
+use Rattle.floor.specs.Floor.{Floor, pointCount, triangleCount}
 use Rattle.linear_hermitian.specs.Hermitian.{Matrix}
 use Rattle.pass_terms.specs.declared.Mode.{Mode}
 use Rattle.pass_assembly.specs.Assembly as assembly
-use Rattle.pass_assembly.specs.Lists.{floorOf}
+use Rattle.pass_assembly.specs.Lists.{assembledOf}
 use Rattle.pass_shift.specs.declared.Traces.{Traces}
 use Rattle.pass_shift.specs.Shift.{tracesOf, shiftedEnergy}
 use Rattle.float.specs.Double.{notPositive}
@@ -25,14 +26,14 @@ abbrev pub modeOf : Options → Mode
 modeOf o = record { accurate = o .accurate; holomorphic = o .holomorphic }
 
 -- the floor as it is assembled
-unfoldable pub assembledFloor : Floor → assembly.Floor
-assembledFloor f = floorOf (f .xs) (f .ys) (woundOf f) (areasOf f) (edgesOf f) (transportsOf f)
+unfoldable pub assembledFloor : Floor → assembly.Assembled
+assembledFloor f = assembledOf (f .xs) (f .ys) (woundOf f) (areasOf f) (edgesOf f) (transportsOf f)
 
 unfoldable pub massOf : Options → Floor → Matrix
-massOf o f = assembly.massOf (modeOf o) (assembledFloor f) (pointsOf f) (trianglesOf f) (lowersOf f) (uppersOf f)
+massOf o f = assembly.massMatrix (modeOf o) (assembledFloor f) (pointCount f) (triangleCount f) (lowersOf f) (uppersOf f)
 
 unfoldable pub energyOf : Options → Floor → Matrix
-energyOf o f = assembly.energyOf (modeOf o) (assembledFloor f) (pointsOf f) (trianglesOf f) (lowersOf f) (uppersOf f)
+energyOf o f = assembly.energyMatrix (modeOf o) (assembledFloor f) (pointCount f) (triangleCount f) (lowersOf f) (uppersOf f)
 
 -- ---- traces and shift, lines 1420 to 1433: reason 1, and then reason 2
 

@@ -1,5 +1,5 @@
 -- What a pass reads from the work slices, and what its parts leave there. What it leaves itself is `Finds` of crate pass_branches: the angles where it found
--- them, and all before them as it was; the rest of the regions that it takes is scratch. Definitions only.
+-- them; its floor and its guidance, all before the pass and all behind its last regions as it was. What lies between is free. Definitions only.
 use Prim.Native.Nat.{ℕ}
 use mathlib.Core.Path.{_≡_}
 use mathlib.Core.List.{List}
@@ -13,9 +13,13 @@ use Rattle.pass_shift.specs.Shift.{tracesOf}
 use Rattle.pass_options.specs.declared.Options.{Options}
 use Rattle.pass_options.specs.Options.{Guidance, guidanceOf}
 use Rattle.pass_options.specs.Pass.{Passed}
+use Rattle.pass_refusal.specs.declared.Stage.{Stage}
+use Rattle.pass_refusal.specs.declared.Stage.the-variants as stage
 use Rattle.pass_layout.specs.declared.Layout.{Layout}
 use Rattle.pass_layout.specs.Matrices.{massAt, energyAt}
 use Rattle.pass_layout.specs.Work.{floorIn, guidanceIn}
+use Rattle.pass_setup.specs.declared.Setup.{Setup}
+use Rattle.pass_setup.specs.declared.Setup.the-variants.{Edges, Refused}
 use Rattle.pass.specs.declared.Asked.{Asked}
 use Rattle.pass.specs.Pass.{fieldOver, passOf}
 
@@ -38,3 +42,8 @@ planAt l = record { x = l .x; y = l .y; areas = l .areas; transports = l .transp
 pub record Builds (l : Layout) (m : ℕ) (mode : Mode) (w : List Float) (u : List ℕ) (w′ : List Float) (r : Traces) : Type 0 where
   pub work : w′ ≡ assembledTo mode w u (planAt l) (massAt l m) (energyAt l m) (l .triangles)
   pub traces : r ≡ tracesOf (region nan w′ (l .mass) (l .points)) (region nan w′ (l .energy) (l .points))
+
+-- what set-up refuses by, as a stage's answer: done where it refuses nothing
+abbrev pub refusalOf : Setup → Stage
+refusalOf (Edges m) = stage.Done
+refusalOf (Refused x) = stage.Refused x

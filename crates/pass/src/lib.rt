@@ -21,7 +21,7 @@ ghost use Rattle.pass_layout.specs.Matrices.{massAt, energyAt};
 ghost use Rattle.pass_layout.specs.Work.{floorIn};
 ghost use Rattle.pass_setup.specs.Work.{Stands};
 ghost use Rattle.pass_branches.specs.Work.{Finds};
-ghost use Rattle.pass.specs.Work.{passIn, fieldIn, planAt, Builds};
+ghost use Rattle.pass.specs.Work.{passIn, fieldIn, planAt, Builds, refusalOf};
 
 // What is asked beside the floor and the options: whether guidance is given, and its weight; how many outer iterations there may be.
 pub struct Asked {
@@ -70,7 +70,7 @@ fn shift_energy(w: &mut [f64], l: Layout, edges: usize, t: Traces)
 fn field_over(w: &mut [f64], u: &mut [u32], l: Layout, edges: usize, o: Options, a: Asked) -> Stage
     requires { ⌜ Ordered l (length (now w)) (length (now u)) ⌝ }
     requires { ⌜ Stands l edges (floorIn l (now w) (now u)) (now w) (now u) ⌝ }
-    ensures { λ r. ⌜ Finds l (l .table) (fieldIn l o a (now (w .entry)) (now (u .entry))) (now (w .entry)) (now (u .entry)) (now (w .exit)) (now (u .exit)) r ⌝ }
+    ensures { λ r. ⌜ Finds l (l .mass) (l .table) (fieldIn l o a (now (w .entry)) (now (u .entry))) (now (w .entry)) (now (u .entry)) (now (w .exit)) (now (u .exit)) r ⌝ }
 {
     let mode = Mode {
         accurate: o.accurate,
@@ -91,16 +91,27 @@ fn field_over(w: &mut [f64], u: &mut [u32], l: Layout, edges: usize, o: Options,
     pass_branches::find_field(w, u, l, edges, o, search)
 }
 
+// What set-up refuses by, as a stage's answer.
+fn refusal(found: Setup) -> Stage
+    ensures { λ r. ⌜ r ≡ refusalOf found ⌝ }
+{
+    let Setup::Refused(fault) = found else {
+        return Stage::Done;
+    };
+    Stage::Refused(fault)
+}
+
 // The pass over the floor that begins at `at`.
 pub fn pass(w: &mut [f64], u: &mut [u32], at: Base, o: Options, a: Asked) -> Stage
     requires { ⌜ Fits at (length (now w)) (length (now u)) ⌝ }
     requires { ⌜ Below (at .points) (at .words) (now u) (3 * at .triangles) ⌝ }
-    ensures { λ r. ⌜ Finds (layoutOf at) (layoutOf at .wound) (passIn (layoutOf at) o a (now (w .entry)) (now (u .entry))) (now (w .entry)) (now (u .entry)) (now (w .exit)) (now (u .exit)) r ⌝ }
+    ensures { λ r. ⌜ Finds (layoutOf at) (layoutOf at .areas) (layoutOf at .wound) (passIn (layoutOf at) o a (now (w .entry)) (now (u .entry)))
+        (now (w .entry)) (now (u .entry)) (now (w .exit)) (now (u .exit)) r ⌝ }
 {
     let l = pass_layout::layout_at(at);
     let found = pass_setup::set_up(w, u, l);
-    match found {
-        Setup::Edges(edges) => field_over(w, u, l, edges, o, a),
-        Setup::Refused(fault) => Stage::Refused(fault),
-    }
+    let Setup::Edges(edges) = found else {
+        return refusal(found);
+    };
+    field_over(w, u, l, edges, o, a)
 }

@@ -4,17 +4,21 @@ use Prim.Native.Nat.{ℕ, zero, suc, _+_, _*_, _≤_, _<_}
 use native.Mathlib.Omega.{arith}
 use mathlib.Core.Path.{_≡_, refl, sym, ap, _∙_, subst}
 use mathlib.Core.Logic.{⊎-elim}
-use mathlib.Core.Bool.{false}
+use mathlib.Core.Bool.{Bool, true, false, cond}
 use mathlib.Core.List.{List, [], _∷_}
 use lib.ListN.{length, getD}
-use lib.Ieee.{Float}
+use lib.Dec.{T}
+use lib.Ieee.{Float, lt}
+use Rattle.float.specs.Double.{lit}
+use Rattle.plane.specs.declared.Pair.{Pair}
 use Rattle.mesh.specs.Mesh.{Tri, tri, Good, All}
 use Rattle.mesh.proofs.Whole.{All-append}
 use Rattle.edges.specs.Numbering.{triFrom, trisFrom}
 use Rattle.floor.proofs.Lowest.{lowest-most, lowest-before}
 use Rattle.geometry.specs.declared.Geometry.{Geometry}
 use Rattle.geometry.specs.declared.Geometry.the-variants.{Triangle, Degenerate}
-use Rattle.geometry.specs.Triangle.{number}
+use Rattle.geometry.specs.declared.TriangleGeometry.{TriangleGeometry}
+use Rattle.geometry.specs.Triangle.{orientation, areaOf, degenerate, placed, geometry, number, at}
 use Rattle.geometry.proofs.Orientation.{three-corners}
 use Rattle.pass_geometries.specs.Geometries.{geometryOn, isDegenerate, cornersOn, cornersOf, firstDegenerate, woundUpTo, Cornered}
 use Rattle.pass_geometries.proofs.Steps.{kept-corners, one-area}
@@ -22,9 +26,31 @@ use Rattle.pass_geometries.proofs.Joined.{joined-length, joined-at}
 
 -- ---- one triangle
 
-no-refusal : (g : Geometry) → isDegenerate g ≡ false → number g ≡ 0
+pub no-refusal : (g : Geometry) → isDegenerate g ≡ false → number g ≡ 0
 no-refusal (Triangle g) h = refl
 no-refusal (Degenerate t) h = let z : _≡_ {A = ℕ} 0 1 = cc in absurd (omega arith)
+
+-- a degenerate triangle answers its own number in the list
+pub degenerate-at : (X Y : ℕ → Float) (s : Tri) (t : ℕ) → isDegenerate (geometryOn X Y s t) ≡ true → geometryOn X Y s t ≡ Degenerate t
+unfolding geometry
+degenerate-at X Y (tri i j k) t h = go (lt (orientation (at X Y i) (at X Y j) (at X Y k)) (lit 0)) h
+  where
+    one : (a b c : ℕ) (p q r : Pair) (w : Float) → isDegenerate (placed a b c p q r w t) ≡ true → placed a b c p q r w t ≡ Degenerate t
+    one a b c p q r w h = unfold placed in by (degenerate p q r w) (record { i = a; j = b; k = c; p = p; q = q; r = r; area = w }) h
+      where
+        by : (d : Bool) (g : TriangleGeometry) → isDegenerate (cond d (Degenerate t) (Triangle g)) ≡ true → cond d (Degenerate t) (Triangle g) ≡ Degenerate t
+        by true g h = refl
+        by false g h = absurd (subst T (sym h) tt)
+
+    turned : Geometry
+    turned = placed i k j (at X Y i) (at X Y k) (at X Y j) (areaOf (orientation (at X Y i) (at X Y j) (at X Y k))) t
+
+    given : Geometry
+    given = placed i j k (at X Y i) (at X Y j) (at X Y k) (areaOf (orientation (at X Y i) (at X Y j) (at X Y k))) t
+
+    go : (l : Bool) → isDegenerate (cond l turned given) ≡ true → cond l turned given ≡ Degenerate t
+    go true h = one i k j (at X Y i) (at X Y k) (at X Y j) (areaOf (orientation (at X Y i) (at X Y j) (at X Y k))) h
+    go false h = one i j k (at X Y i) (at X Y j) (at X Y k) (areaOf (orientation (at X Y i) (at X Y j) (at X Y k))) h
 
 pub good-given : (X Y : ℕ → Float) (n : ℕ) (s : Tri) (t : ℕ) → Cornered n s → isDegenerate (geometryOn X Y s t) ≡ false → Good n s
 good-given X Y n (tri i j k) t b h =

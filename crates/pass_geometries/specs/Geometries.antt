@@ -3,8 +3,9 @@
 -- A floor's points have the coordinates X v and Y v, and triangle i of its list is ts i.
 use Prim.Native.Nat.{ℕ, zero, suc, _+_, _*_, _^_, _≤_, _<_}
 use mathlib.Core.Path.{_≡_}
-use mathlib.Core.Bool.{Bool, true, false, not}
+use mathlib.Core.Bool.{Bool, not}
 use mathlib.Core.List.{List, [], _∷_, _++_}
+use lib.Dec.{eqb}
 use lib.ListN.{getD}
 use lib.Seq.{sets}
 use lib.Ieee.{Float, nan}
@@ -13,16 +14,16 @@ use Rattle.edges.specs.Numbering.{triFrom}
 use Rattle.floor.specs.Checks.{lowest}
 use Rattle.geometry.specs.declared.Geometry.{Geometry}
 use Rattle.geometry.specs.declared.Geometry.the-variants.{Triangle, Degenerate}
-use Rattle.geometry.specs.Triangle.{geometry, at}
+use Rattle.geometry.specs.Triangle.{geometry, number, at}
 use Rattle.pass_geometries.specs.declared.GeometriesPlan.{GeometriesPlan}
 
 -- the geometry of triangle t, whose corners are i, j and k
 abbrev pub geometryOn : (ℕ → Float) → (ℕ → Float) → Tri → ℕ → Geometry
 geometryOn X Y (tri i j k) t = geometry i j k (at X Y i) (at X Y j) (at X Y k) t
 
+-- row 19 refuses it
 abbrev pub isDegenerate : Geometry → Bool
-isDegenerate (Triangle g) = false
-isDegenerate (Degenerate t) = true
+isDegenerate g = not (eqb (number g) 0)
 
 -- what is kept of it: its corners counter-clockwise, and its area; nothing where it is degenerate
 abbrev pub cornersOn : Geometry → List ℕ

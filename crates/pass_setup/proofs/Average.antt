@@ -1,11 +1,13 @@
 -- After `gather` and `divide`: rows 20 and 21 are those of the floor, and where no point is refused, the size gradients stand in their regions.
 -- Assumes nothing.
-use Prim.Native.Nat.{ℕ, _+_, _<_}
+use Prim.Native.Nat.{ℕ, _+_, _*_, _≤_, _<_}
 use native.Mathlib.Omega.{arith}
 use mathlib.Core.Path.{_≡_, refl, sym, ap, ap₂, _∙_, subst}
-use mathlib.Core.Logic.{inl}
+use mathlib.Core.Logic.{inl, inr}
+use mathlib.Core.Bool.{not}
 use mathlib.Core.List.{List}
 use borrow.Author.Tests.{le-ltb}
+use lib.Dec.{eqb}
 use lib.ListN.{length, getD}
 use lib.Ieee.{Float, nan}
 use Rattle.float.specs.Double.{_⊘_}
@@ -15,10 +17,12 @@ use Rattle.edges.specs.Numbering.{triFrom}
 use Rattle.floor.specs.declared.Refusal.{Refusal as Found}
 use Rattle.floor.specs.declared.Check.{Check}
 use Rattle.floor.specs.declared.Check.the-variants as check
-use Rattle.floor.specs.Floor.{Floor, pointsOf, trianglesOf, valueAt, triangleAt}
+use Rattle.floor.specs.Checks.{lowest}
+use Rattle.floor.proofs.Lowest.{lowest-most, lowest-same}
+use Rattle.floor.specs.Floor.{Floor, pointCount, triangleCount, valueAt, triangleAt}
 use Rattle.pass_geometries.specs.Geometries.{coordsFrom, Cornered}
 use Rattle.pass_geometries.proofs.Steps.{corners-below}
-use Rattle.pass_gradients.specs.Gradients.{sumTo, weighedX, weighedY, checkMeans, sumsX, sumsY, weights, GatheredTo, DividedTo, Divided}
+use Rattle.pass_gradients.specs.Gradients.{sumTo, weighedX, weighedY, rowOfPoint, firstRefused, checkMeans, sumsX, sumsY, weights, GatheredTo, DividedTo, Divided}
 use Rattle.pass_gradients.specs.Gradients as gradients
 use Rattle.pass_gradients.proofs.Steps.{weighed-x-same, weighed-y-same, sum-same}
 use Rattle.pass_gradients.proofs.Means.{check-same, sound-all}
@@ -26,21 +30,21 @@ use Rattle.pass_layout.specs.declared.Layout.{Layout}
 use Rattle.pass_layout.specs.Layout.{Ordered}
 use Rattle.pass_layout.specs.Work.{floorIn}
 use Rattle.pass_layout.proofs.Regions.{floor-stays}
-use Rattle.pass_refusal.specs.Refusal.{row}
+use Rattle.pass_refusal.specs.Refusal.{faultAt}
 use Rattle.pass_setup.specs.declared.Setup.{Setup}
 use Rattle.pass_setup.specs.declared.Setup.the-variants.{Refused}
 use Rattle.pass_setup.specs.Setup.{woundOf, areasOf, sumX, sumY, weightOf, meansOf, gradientsX, gradientsY, setupOf}
-use Rattle.pass_setup.specs.Work.{gradientsAt, Wound, Averaged, SetUp}
-use Rattle.pass_setup.proofs.Slices.{value-at, points-of, triangles-of, all-x, all-y, all-sizes, Stays, refused-by}
+use Rattle.pass_setup.specs.Work.{gradientsAt, Wound, refusedPoint, Summed, Averaged, Unjoined, SetUp}
+use Rattle.pass_setup.proofs.Slices.{value-at, points-of, triangles-of, all-x, all-y, all-sizes, Stays, none-refused, refused-by}
 
 module _ (l : Layout) (w : List Float) (u : List ℕ) (f : Floor) (o : Ordered l (length w) (length u)) (t : Wound l f w u) where
   pub room : gradients.GradientsRoom (gradientsAt l) (length w) (length u)
   room = record { x-in = omega arith; y-in = omega arith; sizes-in = omega arith; areas-in = omega arith; sums-in = omega arith; wound-in = omega arith }
 
-  n-of : pointsOf f ≡ l .points
+  n-of : pointCount f ≡ l .points
   n-of = points-of l w u f (t .floor)
 
-  t-of : trianglesOf f ≡ l .triangles
+  t-of : triangleCount f ≡ l .triangles
   t-of = triangles-of l w u f (t .floor)
 
   x-at : (v : ℕ) → v < l .points → coordsFrom w (l .x) v ≡ valueAt (f .xs) v
@@ -93,6 +97,35 @@ module _ (l : Layout) (w : List Float) (u : List ℕ) (f : Floor) (o : Ordered l
       before : (j : ℕ) → j < l .gradients → getD w₂ j nan ≡ getD w j nan
       before j h = d .means .elsewhere j (inl h) ∙ g .elsewhere j (inl h)
 
+      -- how many points were divided
+      abbrev many : ℕ
+      many = firstRefused (sumsX (l .gradients) (l .points) w₁) (sumsY (l .gradients) (l .points) w₁) (weights (l .gradients) (l .points) w₁) (l .points)
+
+      fewer : many ≤ l .points
+      fewer = unfold firstRefused in lowest-most _ (l .points)
+
+      many-are : many ≡ refusedPoint f
+      unfolding refusedPoint firstRefused
+      many-are =
+          lowest-same _ (λ v. not (eqb (rowOfPoint (sumX f) (sumY f) (weightOf f) v) 0)) (l .points) (λ v h. rw (sum-x v h, sum-y v h, weight v h))
+          ∙ ap (lowest (λ v. not (eqb (rowOfPoint (sumX f) (sumY f) (weightOf f) v) 0))) (sym n-of)
+
+      -- nothing behind the sums is written
+      after : (j : ℕ) → l .gradients + 3 * l .points ≤ j → getD w₂ j nan ≡ getD w j nan
+      after j h = d .means .elsewhere j (inr (inr (omega (arith, fewer)))) ∙ g .elsewhere j (inr h)
+
+      pub summed : Summed l f w₂
+      summed = record {
+        mean-x = λ v h. d .means .mean-x v (omega (arith, many-are)) ∙ ap₂ _⊘_ (sum-x v (omega (arith, many-are, fewer))) (weight v (omega (arith, many-are, fewer)));
+        mean-y = λ v h. d .means .mean-y v (omega (arith, many-are)) ∙ ap₂ _⊘_ (sum-y v (omega (arith, many-are, fewer))) (weight v (omega (arith, many-are, fewer)));
+        sum-x = λ v h k. d .means .elsewhere (l .gradients + v) (inr (inl (omega (arith, many-are), omega arith))) ∙ sum-x v k;
+        sum-y = λ v h k. d .means .elsewhere (l .gradients + l .points + v) (inr (inr (omega (arith, many-are)))) ∙ sum-y v k;
+        all-weights = λ v h. d .means .elsewhere (l .gradients + 2 * l .points + v) (inr (inr (omega (arith, fewer)))) ∙ weight v h;
+      }
+
+      pub unjoined : Unjoined l w u w₂ u
+      unjoined = record { reals-behind = after; words-behind = λ j h. refl }
+
       pub stays : Stays l w u w₂ u
       stays = record {
         floor = floor-stays l o w w₂ u u (λ j h. before j (omega (arith, o .areas-in))) (λ j h. refl);
@@ -100,6 +133,8 @@ module _ (l : Layout) (w : List Float) (u : List ℕ) (f : Floor) (o : Ordered l
         all-words = refl;
         reals-below = λ j h. before j (omega (arith, o .areas-in));
         words-below = λ j h. refl;
+        reals-behind = λ j h. after j (omega (arith, o .gradients-in));
+        words-behind = λ j h. refl;
       }
 
       to-all : c ≡ check.Sound → DividedTo (l .gradients) (l .points) (l .points) w₁ w₂
@@ -119,29 +154,46 @@ module _ (l : Layout) (w : List Float) (u : List ℕ) (f : Floor) (o : Ordered l
       unfolding region
       same-areas = tab-ext _ _ (l .triangles) (λ i h. before (l .areas + i) (omega (arith, o .areas-in)))
 
+      pub still-turned : Wound l f w₂ u
+      still-turned = record {
+        floor = stays .floor ∙ t .floor;
+        given-below = t .given-below;
+        none = t .none;
+        areas = same-areas ∙ t .areas;
+        corners = t .corners;
+        corners-below = t .corners-below;
+      }
+
       pub averaged : c ≡ check.Sound → Averaged l f w₂ u
       averaged e = record {
-        turned = record {
-          floor = stays .floor ∙ t .floor;
-          given-below = t .given-below;
-          none = t .none;
-          areas = same-areas ∙ t .areas;
-          corners = t .corners;
-          corners-below = t .corners-below;
-        };
+        turned = still-turned;
         sound = sym answered ∙ e;
+        summed = summed;
         all-x = means-x e;
         all-y = means-y e;
       }
 
+all-sound : (f : Floor) → pointCount f ≤ refusedPoint f → meansOf f ≡ check.Sound
+unfolding meansOf refusedPoint checkMeans
+all-sound f h = rw (le-ltb (firstRefused (sumX f) (sumY f) (weightOf f) (pointCount f)) (pointCount f) h)
+
 -- rows 20 and 21
 module _ (l : Layout) (w : List Float) (u : List ℕ) (o : Ordered l (length w) (length u)) (t : Wound l (floorIn l w u) w u) {w₁ w₂ : List Float}
     (g : GatheredTo (gradientsAt l) (l .triangles) u w w₁) {c : Check} (d : Divided (l .gradients) (l .points) w₁ w₂ c) where
-  pub row-20 : (x : Found) → c ≡ check.Refused x → {s : Setup} → s ≡ Refused (row (x .number) (x .place)) → SetUp l w u w₂ u s
-  row-20 x e q = refused-by (row (x .number) (x .place)) (stays l w u (floorIn l w u) o t g d) q told
+  pub row-20 : (x : Found) → c ≡ check.Refused x → {s : Setup} → s ≡ Refused (faultAt (x .number) (x .place)) → SetUp l w u w₂ u s
+  row-20 x e q =
+      refused-by (faultAt (x .number) (x .place)) (stays l w u (floorIn l w u) o t g d) q told (λ h. absurd (omega (arith, none-refused t))) (λ h. still-turned l w u (floorIn l w u) o t g d)
+      (λ h. summed l w u (floorIn l w u) o t g d) (λ h. unjoined l w u (floorIn l w u) o t g d) (λ h p. absurd (some p))
     where
-      told : Refused (row (x .number) (x .place)) ≡ setupOf (floorIn l w u)
-      told = unfold setupOf in rw (t .none, le-ltb (trianglesOf (floorIn l w u)) (trianglesOf (floorIn l w u)) (omega arith), ← answered l w u (floorIn l w u) o t g d, e)
+      some : l .points ≤ refusedPoint (floorIn l w u) → ⊥
+      some p =
+          let s : meansOf (floorIn l w u) ≡ check.Sound = all-sound (floorIn l w u) (omega (arith, n-of l w u (floorIn l w u) o t)) in
+          let q : c ≡ meansOf (floorIn l w u) = answered l w u (floorIn l w u) o t g d in
+          let z : _≡_ {A = ℕ} 0 1 = cc in
+          omega arith
+
+      told : Refused (faultAt (x .number) (x .place)) ≡ setupOf (floorIn l w u)
+      told = unfold setupOf in rw (t .none, le-ltb (triangleCount (floorIn l w u)) (triangleCount (floorIn l w u)) (omega arith), ← answered l w u (floorIn l w u) o t g d, e)
 
   pub still-averaged : c ≡ check.Sound → Averaged l (floorIn l w₂ u) w₂ u
   still-averaged e = subst (λ (f : Floor). Averaged l f w₂ u) (sym (stays l w u (floorIn l w u) o t g d .floor)) (averaged l w u (floorIn l w u) o t g d e)

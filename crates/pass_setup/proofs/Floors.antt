@@ -17,19 +17,20 @@ use Rattle.edges.specs.Table.{lower, upper}
 use Rattle.edges.proofs.Split.{length-map}
 use Rattle.floor.specs.declared.Check.{Check}
 use Rattle.floor.specs.declared.Check.the-variants as check
-use Rattle.floor.specs.Floor.{Floor, pointsOf, trianglesOf, valueAt, triangleAt}
-use Rattle.pass_geometries.specs.Geometries.{geometryOn, isDegenerate, cornersOf, areaOf, Cornered}
+use Rattle.floor.specs.Floor.{Floor, pointCount, triangleCount, valueAt, triangleAt}
+use Rattle.floor.proofs.Lowest.{lowest-holds}
+use Rattle.pass_geometries.specs.Geometries.{geometryOn, isDegenerate, cornersOf, areaOf, firstDegenerate, Cornered}
 use Rattle.pass_geometries.proofs.Steps.{kept-corners}
-use Rattle.pass_geometries.proofs.Good.{sound-before, first-most, good-at, good-swapped}
+use Rattle.pass_geometries.proofs.Good.{sound-before, first-most, degenerate-at, good-at, good-swapped}
 use Rattle.pass_transports.specs.declared.Answer.{Answer}
 use Rattle.pass_transports.specs.declared.Answer.the-variants as answer
 use Rattle.pass_transports.specs.Transports as transports
 use Rattle.pass_transports.proofs.Lists.{length-coefficients}
 use Rattle.mesh.specs.Claim.{InRange}
-use Rattle.pass_refusal.specs.Refusal.{row}
+use Rattle.pass_refusal.specs.Refusal.{faultAt}
 use Rattle.pass_setup.specs.declared.Setup.{Setup}
 use Rattle.pass_setup.specs.declared.Setup.the-variants.{Edges, Refused}
-use Rattle.pass_setup.specs.Setup.{geometryAt, degenerateOf, woundOf, areasOf, meansOf, gradientsX, gradientsY, edgesOf, lowersOf, uppersOf, pointsIn, transportsOf, afterTransports, afterMeans, setupOf}
+use Rattle.pass_setup.specs.Setup.{geometryAt, degenerateOf, woundOf, areasOf, meansOf, gradientsX, gradientsY, edgesOf, lowersOf, uppersOf, pointsIn, transportsOf, triangleFault, afterTransports, afterMeans, setupOf}
 
 -- ---- what holds of all of a list, place by place
 
@@ -51,21 +52,21 @@ getD-map f (x ∷ l) (suc i) a b h = getD-map f l i a b (omega arith)
 -- ---- lengths
 
 module _ (f : Floor) where
-  pub length-wound : length (woundOf f) ≡ trianglesOf f
+  pub length-wound : length (woundOf f) ≡ triangleCount f
   unfolding woundOf
-  length-wound = length-tab _ (trianglesOf f)
+  length-wound = length-tab _ (triangleCount f)
 
-  pub length-areas : length (areasOf f) ≡ trianglesOf f
+  pub length-areas : length (areasOf f) ≡ triangleCount f
   unfolding areasOf
-  length-areas = length-tab _ (trianglesOf f)
+  length-areas = length-tab _ (triangleCount f)
 
-  pub length-gradients-x : length (gradientsX f) ≡ pointsOf f
+  pub length-gradients-x : length (gradientsX f) ≡ pointCount f
   unfolding gradientsX
-  length-gradients-x = length-tab _ (pointsOf f)
+  length-gradients-x = length-tab _ (pointCount f)
 
-  pub length-gradients-y : length (gradientsY f) ≡ pointsOf f
+  pub length-gradients-y : length (gradientsY f) ≡ pointCount f
   unfolding gradientsY
-  length-gradients-y = length-tab _ (pointsOf f)
+  length-gradients-y = length-tab _ (pointCount f)
 
   pub length-lowers : length (lowersOf f) ≡ length (edgesOf f)
   unfolding lowersOf
@@ -81,16 +82,16 @@ module _ (f : Floor) where
 
   -- ---- one triangle
 
-  pub wound-at : (i : ℕ) → i < trianglesOf f → triangleAt (woundOf f) i ≡ cornersOf (geometryAt f i)
+  pub wound-at : (i : ℕ) → i < triangleCount f → triangleAt (woundOf f) i ≡ cornersOf (geometryAt f i)
   unfolding woundOf
-  wound-at i h = getD-tab _ (trianglesOf f) i (tri 0 0 0) h
+  wound-at i h = getD-tab _ (triangleCount f) i (tri 0 0 0) h
 
-  pub area-at : (i : ℕ) → i < trianglesOf f → valueAt (areasOf f) i ≡ areaOf (geometryAt f i)
+  pub area-at : (i : ℕ) → i < triangleCount f → valueAt (areasOf f) i ≡ areaOf (geometryAt f i)
   unfolding areasOf
-  area-at i h = getD-tab _ (trianglesOf f) i nan h
+  area-at i h = getD-tab _ (triangleCount f) i nan h
 
   -- counter-clockwise, it is the one given or that with its second and third corners exchanged
-  pub turned-at : degenerateOf f ≡ trianglesOf f → (i : ℕ) → i < trianglesOf f → (a b c : ℕ) → triangleAt (f .triangles) i ≡ tri a b c
+  pub turned-at : degenerateOf f ≡ triangleCount f → (i : ℕ) → i < triangleCount f → (a b c : ℕ) → triangleAt (f .triangles) i ≡ tri a b c
       → (triangleAt (woundOf f) i ≡ tri a b c) ⊎ (triangleAt (woundOf f) i ≡ tri a c b)
   unfolding geometryAt degenerateOf
   turned-at none i h a b c e =
@@ -98,32 +99,41 @@ module _ (f : Floor) where
       let Y = valueAt (f .ys) in
       let given : triangleAt (woundOf f) i ≡ cornersOf (geometryOn X Y (tri a b c) i) = wound-at i h ∙ ap (λ (s : Tri). cornersOf (geometryOn X Y s i)) e in
       let sound : isDegenerate (geometryOn X Y (tri a b c) i) ≡ false =
-      ap (λ (s : Tri). isDegenerate (geometryOn X Y s i)) (sym e) ∙ sound-before X Y (triangleAt (f .triangles)) (trianglesOf f) i (omega arith) in
+      ap (λ (s : Tri). isDegenerate (geometryOn X Y s i)) (sym e) ∙ sound-before X Y (triangleAt (f .triangles)) (triangleCount f) i (omega arith) in
       ⊎-elim (λ p. inl (given ∙ p)) (λ p. inr (given ∙ p)) (kept-corners X Y a b c i sound)
+
+  -- ---- row 19: the lowest degenerate triangle's number and place
+
+  pub fault-19 : degenerateOf f < triangleCount f → triangleFault (geometryAt f (degenerateOf f)) ≡ faultAt 19 (degenerateOf f)
+  unfolding degenerateOf firstDegenerate geometryAt
+  fault-19 h =
+      ap triangleFault
+      (degenerate-at (valueAt (f .xs)) (valueAt (f .ys)) (triangleAt (f .triangles) (degenerateOf f)) (degenerateOf f)
+      (lowest-holds (λ i. isDegenerate (geometryOn (valueAt (f .xs)) (valueAt (f .ys)) (triangleAt (f .triangles) i) i)) (triangleCount f) h))
 
   -- ---- no degenerate triangle: all are good
 
-  cornered : All (InRange (pointsOf f)) (f .triangles) → (i : ℕ) → i < trianglesOf f → Cornered (pointsOf f) (triangleAt (f .triangles) i)
-  cornered h i b = corner (triangleAt (f .triangles) i) (at-all (InRange (pointsOf f)) (tri 0 0 0) (f .triangles) h i b)
+  cornered : All (InRange (pointCount f)) (f .triangles) → (i : ℕ) → i < triangleCount f → Cornered (pointCount f) (triangleAt (f .triangles) i)
+  cornered h i b = corner (triangleAt (f .triangles) i) (at-all (InRange (pointCount f)) (tri 0 0 0) (f .triangles) h i b)
     where
-      corner : (s : Tri) → InRange (pointsOf f) s → Cornered (pointsOf f) s
+      corner : (s : Tri) → InRange (pointCount f) s → Cornered (pointCount f) s
       corner (tri a b c) r = (r .0, (r .1, r .2))
 
-  pub given-good : degenerateOf f ≡ trianglesOf f → All (InRange (pointsOf f)) (f .triangles) → All (Good (pointsOf f)) (f .triangles)
+  pub given-good : degenerateOf f ≡ triangleCount f → All (InRange (pointCount f)) (f .triangles) → All (Good (pointCount f)) (f .triangles)
   unfolding degenerateOf
-  given-good none h = all-at (Good (pointsOf f)) (tri 0 0 0) (f .triangles) (λ i b. good-at (valueAt (f .xs)) (valueAt (f .ys)) (pointsOf f) (trianglesOf f) (triangleAt (f .triangles)) (cornered h) i (omega arith))
+  given-good none h = all-at (Good (pointCount f)) (tri 0 0 0) (f .triangles) (λ i b. good-at (valueAt (f .xs)) (valueAt (f .ys)) (pointCount f) (triangleCount f) (triangleAt (f .triangles)) (cornered h) i (omega arith))
 
-  pub wound-good : degenerateOf f ≡ trianglesOf f → All (InRange (pointsOf f)) (f .triangles) → All (Good (pointsOf f)) (woundOf f)
+  pub wound-good : degenerateOf f ≡ triangleCount f → All (InRange (pointCount f)) (f .triangles) → All (Good (pointCount f)) (woundOf f)
   unfolding degenerateOf geometryAt
   wound-good none h =
-      all-at (Good (pointsOf f)) (tri 0 0 0) (woundOf f) (λ i b.
-      let l : i < trianglesOf f = omega (arith, length-wound) in
-      subst (Good (pointsOf f)) (sym (wound-at i l)) (good-swapped (valueAt (f .xs)) (valueAt (f .ys)) (pointsOf f) (trianglesOf f) (triangleAt (f .triangles)) (cornered h) i (omega arith)))
+      all-at (Good (pointCount f)) (tri 0 0 0) (woundOf f) (λ i b.
+      let l : i < triangleCount f = omega (arith, length-wound) in
+      subst (Good (pointCount f)) (sym (wound-at i l)) (good-swapped (valueAt (f .xs)) (valueAt (f .ys)) (pointCount f) (triangleCount f) (triangleAt (f .triangles)) (cornered h) i (omega arith)))
 
   -- then each edge goes from a lower to an upper point
-  pub edges-keyed : All (Good (pointsOf f)) (woundOf f) → All (Keyed (pointsOf f)) (edgesOf f)
+  pub edges-keyed : All (Good (pointCount f)) (woundOf f) → All (Keyed (pointCount f)) (edgesOf f)
   unfolding edgesOf
-  edges-keyed g = cuts-keyed (pointsOf f) [] (woundOf f) tt g
+  edges-keyed g = cuts-keyed (pointCount f) [] (woundOf f) tt g
 
 -- ---- the answer
 
@@ -136,27 +146,27 @@ after-transports k answer.Done h = (refl, cc)
 after-transports k (answer.MeanSize i j) h = let z : _≡_ {A = ℕ} 0 1 = cc in absurd (omega arith)
 
 module _ (f : Floor) {m : ℕ} (h : setupOf f ≡ Edges m) where
-  passed : (degenerateOf f ≡ trianglesOf f) × (afterMeans (meansOf f) (afterTransports (length (edgesOf f)) (transports.answerOf (pointsIn f) (lowersOf f) (uppersOf f))) ≡ Edges m)
+  passed : (degenerateOf f ≡ triangleCount f) × (afterMeans (meansOf f) (afterTransports (length (edgesOf f)) (transports.transportsAnswer (pointsIn f) (lowersOf f) (uppersOf f))) ≡ Edges m)
   unfolding setupOf
-  passed = go (ltb (degenerateOf f) (trianglesOf f)) refl h
+  passed = go (ltb (degenerateOf f) (triangleCount f)) refl h
     where
-      most : degenerateOf f ≤ trianglesOf f
-      most = unfold degenerateOf in first-most (valueAt (f .xs)) (valueAt (f .ys)) (triangleAt (f .triangles)) (trianglesOf f)
+      most : degenerateOf f ≤ triangleCount f
+      most = unfold degenerateOf in first-most (valueAt (f .xs)) (valueAt (f .ys)) (triangleAt (f .triangles)) (triangleCount f)
 
-      go : (b : Bool) → ltb (degenerateOf f) (trianglesOf f) ≡ b
-          → cond b (Refused (row 19 (degenerateOf f))) (afterMeans (meansOf f) (afterTransports (length (edgesOf f)) (transports.answerOf (pointsIn f) (lowersOf f) (uppersOf f)))) ≡ Edges m
-          → (degenerateOf f ≡ trianglesOf f) × (afterMeans (meansOf f) (afterTransports (length (edgesOf f)) (transports.answerOf (pointsIn f) (lowersOf f) (uppersOf f))) ≡ Edges m)
+      go : (b : Bool) → ltb (degenerateOf f) (triangleCount f) ≡ b
+          → cond b (Refused (triangleFault (geometryAt f (degenerateOf f)))) (afterMeans (meansOf f) (afterTransports (length (edgesOf f)) (transports.transportsAnswer (pointsIn f) (lowersOf f) (uppersOf f)))) ≡ Edges m
+          → (degenerateOf f ≡ triangleCount f) × (afterMeans (meansOf f) (afterTransports (length (edgesOf f)) (transports.transportsAnswer (pointsIn f) (lowersOf f) (uppersOf f))) ≡ Edges m)
       go true e z = let y : _≡_ {A = ℕ} 0 1 = cc in absurd (omega arith)
-      go false e z = (omega (arith, ltb-false (degenerateOf f) (trianglesOf f) e, most), z)
+      go false e z = (omega (arith, ltb-false (degenerateOf f) (triangleCount f) e, most), z)
 
   -- no triangle is degenerate, and m is the number of edges
-  pub setup-none : degenerateOf f ≡ trianglesOf f
+  pub setup-none : degenerateOf f ≡ triangleCount f
   setup-none = passed .0
 
   pub setup-edges : length (edgesOf f) ≡ m
   setup-edges =
-      let a : Answer = transports.answerOf (pointsIn f) (lowersOf f) (uppersOf f) in
+      let a : Answer = transports.transportsAnswer (pointsIn f) (lowersOf f) (uppersOf f) in
       after-transports (length (edgesOf f)) a (after-means (meansOf f) (afterTransports (length (edgesOf f)) a) (passed .1) .1) .1
 
-  pub setup-good : All (InRange (pointsOf f)) (f .triangles) → All (Good (pointsOf f)) (f .triangles) × All (Good (pointsOf f)) (woundOf f)
+  pub setup-good : All (InRange (pointCount f)) (f .triangles) → All (Good (pointCount f)) (f .triangles) × All (Good (pointCount f)) (woundOf f)
   setup-good r = (given-good f setup-none r, wound-good f setup-none r)

@@ -6,12 +6,13 @@ use mathlib.Core.Path.{_≡_, refl, sym, ap, _∙_, subst}
 use mathlib.Core.Logic.{⊎-elim, inl, inr}
 use mathlib.Core.List.{List, [], map}
 use lib.ListN.{length, getD}
-use lib.Seq.{ext-getD}
+use lib.Seq.{ext-getD, sets}
 use lib.Ieee.{Float}
 use Rattle.mesh.specs.Mesh.{Side, side, Tri, tri, sidesAfter, All}
 use Rattle.pass_setup.proofs.Keyed.{Keyed}
 use Rattle.linear_cells.specs.Region.{region}
 use Rattle.linear_cells.proofs.Regions.{length-region, getD-region}
+use Rattle.runs.proofs.Runs.{sets-behind}
 use Rattle.edges.specs.Table.{loOf, hiOf, sidesIn, lower, upper, split, NumbersOf}
 use Rattle.edges.specs.Numbering.{triFrom, trisFrom, NumberedTo}
 use Rattle.edges.specs.Numbering as numbering
@@ -22,7 +23,7 @@ use Rattle.linear_hermitian.specs.Work.{Graph}
 use Rattle.pass_boundary.specs.Work.{ListRoom}
 use Rattle.pass_boundary.proofs.Slices.{sided-kept, numbers-kept}
 use Rattle.pass_boundary.proofs.Given.{Alike, numbered-sided, numbered-numbers}
-use Rattle.floor.specs.Floor.{Floor, pointsOf, trianglesOf, triangleAt}
+use Rattle.floor.specs.Floor.{Floor, pointCount, triangleCount, triangleAt}
 use Rattle.pass_layout.specs.declared.Layout.{Layout}
 use Rattle.pass_layout.specs.Layout.{Ordered}
 use Rattle.pass_layout.specs.Matrices.{massAt}
@@ -38,7 +39,7 @@ use Rattle.pass_setup.proofs.Slices.{points-of, triangles-of, given-at,
 ends : (n : ℕ) (s : Side) → Keyed n s → (lower s < upper s) × (upper s < n)
 ends n (side a b) k = k
 
-pub graph-of : (l : Layout) (f : Floor) (m : ℕ) → pointsOf f ≡ l .points → m ≡ length (edgesOf f) → All (Keyed (pointsOf f)) (edgesOf f) → Graph (massAt l m) (lowersOf f) (uppersOf f)
+pub graph-of : (l : Layout) (f : Floor) (m : ℕ) → pointCount f ≡ l .points → m ≡ length (edgesOf f) → All (Keyed (pointCount f)) (edgesOf f) → Graph (massAt l m) (lowersOf f) (uppersOf f)
 unfolding lowersOf uppersOf
 graph-of l f m n-of e k = record {
   all-a = length-lowers f ∙ sym e;
@@ -48,8 +49,8 @@ graph-of l f m n-of e k = record {
   different = λ i h z. let q = at i (omega (arith, length-lowers f)) in omega (arith, low i (omega (arith, length-lowers f)), high i (omega (arith, length-lowers f)), q .0);
 }
   where
-    at : (i : ℕ) → i < length (edgesOf f) → (lower (getD (edgesOf f) i (side 0 0)) < upper (getD (edgesOf f) i (side 0 0))) × (upper (getD (edgesOf f) i (side 0 0)) < pointsOf f)
-    at i h = ends (pointsOf f) (getD (edgesOf f) i (side 0 0)) (at-all (Keyed (pointsOf f)) (side 0 0) (edgesOf f) k i h)
+    at : (i : ℕ) → i < length (edgesOf f) → (lower (getD (edgesOf f) i (side 0 0)) < upper (getD (edgesOf f) i (side 0 0))) × (upper (getD (edgesOf f) i (side 0 0)) < pointCount f)
+    at i h = ends (pointCount f) (getD (edgesOf f) i (side 0 0)) (at-all (Keyed (pointCount f)) (side 0 0) (edgesOf f) k i h)
 
     low : (i : ℕ) → i < length (edgesOf f) → getD (map lower (edgesOf f)) i 0 ≡ lower (getD (edgesOf f) i (side 0 0))
     low i h = getD-map lower (edgesOf f) i (side 0 0) 0 h
@@ -63,7 +64,7 @@ module _ (l : Layout) (w : List Float) (u : List ℕ) (f : Floor) (o : Ordered l
   pub number-room : numbering.NumberingRoom (l .wound) (l .numbers) (l .table) (l .buckets) (l .triangles) (length u)
   number-room = record { corners = o .wound-in; numbers = o .numbers-in; table = omega arith; narrow = omega arith; buckets = o .some-buckets; few-buckets = o .few-buckets }
 
-  t-of : trianglesOf f ≡ l .triangles
+  t-of : triangleCount f ≡ l .triangles
   t-of = triangles-of l w u f (a .turned .floor)
 
   tris : trisFrom (l .wound) u (l .triangles) ≡ woundOf f
@@ -98,6 +99,18 @@ module _ (l : Layout) (w : List Float) (u : List ℕ) (f : Floor) (o : Ordered l
     before-numbers : (j : ℕ) → j < l .numbers → getD u₂ j 0 ≡ getD u j 0
     before-numbers j h = before-from j (omega (arith, o .numbers-in, o .table-in)) ∙ made .elsewhere j (inl (omega (arith, o .numbers-in))) (inl h)
 
+    -- nothing behind the upper ends is written
+    after : (j : ℕ) → l .to + 3 * l .triangles ≤ j → getD u₂ j 0 ≡ getD u j 0
+    unfolding split
+    after j h =
+        ap (λ (v : List ℕ). getD v j 0) cut
+        ∙ sets-behind (sets u₁ (l .from) (map lower (sidesIn (l .table) (l .buckets) u₁ m))) (l .to) (map upper (sidesIn (l .table) (l .buckets) u₁ m)) j 0 (omega (arith, many upper, few))
+        ∙ sets-behind u₁ (l .from) (map lower (sidesIn (l .table) (l .buckets) u₁ m)) j 0 (omega (arith, many lower, few, o .from-in))
+        ∙ made .elsewhere j (inr (omega (arith, few, o .table-in, o .from-in))) (inr (omega (arith, o .numbers-in, o .table-in, o .from-in)))
+      where
+        many : (g : Side → ℕ) → length (map g (sidesIn (l .table) (l .buckets) u₁ m)) ≡ m
+        many g = length-map g (sidesIn (l .table) (l .buckets) u₁ m) ∙ length-pairs (loOf (l .table) (l .buckets) u₁) (hiOf (l .table) (l .buckets) u₁) m
+
     end : l .to + m ≤ length u₁
     end = omega (arith, few, o .to-in, o .counts-in, o .flags-in, made .same-length)
 
@@ -125,6 +138,8 @@ module _ (l : Layout) (w : List Float) (u : List ℕ) (f : Floor) (o : Ordered l
       all-words = same-length ∙ made .same-length;
       reals-below = λ j h. refl;
       words-below = λ j h. before-numbers j (omega (arith, o .wound-in));
+      reals-behind = λ j h. refl;
+      words-behind = after;
     }
 
     list-room : ListRoom (listingAt l m) (l .points) (length u)
@@ -169,6 +184,7 @@ module _ (l : Layout) (w : List Float) (u : List ℕ) (f : Floor) (o : Ordered l
           corners-below = λ j h. rw (before-numbers (l .wound + j) (omega (arith, o .wound-in))) (a .turned .corners-below j h);
         };
         sound = a .sound;
+        summed = a .summed;
         all-x = a .all-x;
         all-y = a .all-y;
       };

@@ -1,5 +1,7 @@
 pub mod Keyed
 pub mod Floors
+pub mod Rows
+pub mod Sides
 pub mod Slices
 pub mod Wind
 pub mod Average

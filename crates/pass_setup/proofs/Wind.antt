@@ -3,29 +3,32 @@
 use Prim.Native.Nat.{ℕ, _+_, _*_, _≤_, _<_}
 use native.Mathlib.Omega.{arith}
 use mathlib.Core.Path.{_≡_, refl, sym, ap, _∙_, subst}
+use mathlib.Core.Bool.{false}
 use mathlib.Core.List.{List}
 use borrow.Author.Tests.{lt-ltb}
-use lib.ListN.{length}
+use lib.ListN.{length, getD}
 use lib.Ieee.{Float, nan}
 use Rattle.linear_cells.specs.Region.{tab, region}
 use Rattle.linear_cells.proofs.Loops.{tab-ext}
+use Rattle.runs.proofs.Runs.{sets-behind}
 use Rattle.edges.specs.Numbering.{triFrom, Below}
-use Rattle.floor.specs.Floor.{Floor, valueAt, triangleAt}
-use Rattle.pass_geometries.specs.Geometries.{geometryIn, cornersOf, areaOf, firstDegenerate, coordsFrom, Cornered}
+use Rattle.floor.specs.Floor.{Floor, triangleCount, valueAt, triangleAt}
+use Rattle.pass_geometries.specs.Geometries.{geometryIn, isDegenerate, areaOn, cornersOf, areaOf, firstDegenerate, areasUpTo, woundUpTo, coordsFrom, Cornered}
 use Rattle.pass_geometries.specs.Geometries as geometries
-use Rattle.pass_geometries.proofs.Steps.{corners-below, kept-lengths}
-use Rattle.pass_geometries.proofs.Good.{first-most}
+use Rattle.pass_geometries.proofs.Steps.{corners-below, kept-lengths, one-area}
+use Rattle.pass_geometries.proofs.Joined.{joined-length}
+use Rattle.pass_geometries.proofs.Good.{sound-before, first-most, wound-length}
 use Rattle.pass_geometries.proofs.Lists as lists
 use Rattle.pass_layout.specs.declared.Layout.{Layout}
 use Rattle.pass_layout.specs.Layout.{Ordered}
 use Rattle.pass_layout.specs.Work.{floorIn}
 use Rattle.pass_layout.proofs.Regions.{floor-stays}
-use Rattle.pass_refusal.specs.Refusal.{row}
+use Rattle.pass_refusal.specs.Refusal.{faultAt}
 use Rattle.pass_setup.specs.declared.Setup.{Setup}
 use Rattle.pass_setup.specs.declared.Setup.the-variants.{Refused}
 use Rattle.pass_setup.specs.Setup.{geometryAt, degenerateOf, areasOf, setupOf}
-use Rattle.pass_setup.specs.Work.{geometriesAt, Wound, SetUp}
-use Rattle.pass_setup.proofs.Floors.{wound-at}
+use Rattle.pass_setup.specs.Work.{geometriesAt, Wound, Unjoined, SetUp}
+use Rattle.pass_setup.proofs.Floors.{wound-at, fault-19}
 use Rattle.pass_setup.proofs.Slices.{value-at, triangles-of, all-x, all-y, given-at, Stays, refused-by}
 
 module _ (l : Layout) (w : List Float) (u : List ℕ) (o : Ordered l (length w) (length u)) (below : Below (l .points) (l .given) u (3 * l .triangles)) where
@@ -56,6 +59,21 @@ module _ (l : Layout) (w : List Float) (u : List ℕ) (o : Ordered l (length w) 
     most : r ≤ l .triangles
     most = rw (k .first) (first-most _ _ (triFrom (l .given) u) (l .triangles))
 
+    sound : (i : ℕ) → i < r → isDegenerate (geometryIn (geometriesAt l) w u i) ≡ false
+    sound i h = sound-before (coordsFrom w (l .x)) (coordsFrom w (l .y)) (triFrom (l .given) u) (l .triangles) i (omega (arith, k .first))
+
+    -- nothing behind the areas, and nothing behind the corners, is written
+    reals-after : (j : ℕ) → l .areas + l .triangles ≤ j → getD w₁ j nan ≡ getD w j nan
+    unfolding areasUpTo
+    reals-after j h =
+        let size = joined-length (λ i. areaOn (geometryIn (geometriesAt l) w u i)) 1 r (λ i g. one-area (geometryIn (geometriesAt l) w u i) (sound i g) .0) in
+        ap (λ (v : List Float). getD v j nan) (k .areas) ∙ sets-behind w (l .areas) (areasUpTo (coordsFrom w (l .x)) (coordsFrom w (l .y)) (triFrom (l .given) u) r) j nan (omega (arith, size, most))
+
+    words-after : (j : ℕ) → l .wound + 3 * l .triangles ≤ j → getD u₁ j 0 ≡ getD u j 0
+    words-after j h =
+        let size = wound-length (coordsFrom w (l .x)) (coordsFrom w (l .y)) (triFrom (l .given) u) r sound in
+        ap (λ (v : List ℕ). getD v j 0) (k .wound) ∙ sets-behind u (l .wound) (woundUpTo (coordsFrom w (l .x)) (coordsFrom w (l .y)) (triFrom (l .given) u) r) j 0 (omega (arith, size, most))
+
     pub stays : Stays l w u w₁ u₁
     stays = record {
       floor = floor-stays l o w w₁ u u₁ (lists.reals-before room below k) (lists.words-before room below k);
@@ -63,19 +81,32 @@ module _ (l : Layout) (w : List Float) (u : List ℕ) (o : Ordered l (length w) 
       all-words = kept-lengths k .1;
       reals-below = lists.reals-before room below k;
       words-below = lists.words-before room below k;
+      reals-behind = λ j h. reals-after j (omega arith);
+      words-behind = λ j h. words-after j (omega arith);
     }
 
-    pub row-19 : r < l .triangles → {s : Setup} → s ≡ Refused (row 19 r) → SetUp l w u w₁ u₁ s
-    row-19 h e = refused-by (row 19 r) stays e told
+    pub unjoined : Unjoined l w u w₁ u₁
+    unjoined = record { reals-behind = λ j h. reals-after j (omega arith); words-behind = words-after }
+
+    pub row-19 : r < l .triangles → {s : Setup} → s ≡ Refused (faultAt 19 r) → SetUp l w u w₁ u₁ s
+    row-19 h e =
+        refused-by (faultAt 19 r) stays e told (λ g. subst (geometries.Kept (geometriesAt l) w u w₁ u₁) first k) (λ g. absurd (omega (arith, first)))
+        (λ g. absurd (omega (arith, first))) (λ g. unjoined) (λ g p. absurd (omega (arith, first)))
       where
-        told : Refused (row 19 r) ≡ setupOf (floorIn l w u)
-        told = unfold setupOf in rw (← first, triangles-of l w u (floorIn l w u) refl, lt-ltb r (l .triangles) h)
+        below-all : degenerateOf (floorIn l w u) < triangleCount (floorIn l w u)
+        below-all = rw (← first, triangles-of l w u (floorIn l w u) refl) h
+
+        told : Refused (faultAt 19 r) ≡ setupOf (floorIn l w u)
+        told = unfold setupOf in rw (fault-19 (floorIn l w u) below-all, ← first, triangles-of l w u (floorIn l w u) refl, lt-ltb r (l .triangles) h)
 
     all-areas : l .triangles ≤ r → region nan w₁ (l .areas) (l .triangles) ≡ areasOf (floorIn l w u)
     unfolding region areasOf
     all-areas e =
         tab-ext _ (λ i. areaOf (geometryAt (floorIn l w u) i)) (l .triangles) (λ i h. lists.area-at room below k i (omega arith) ∙ ap areaOf (same i h))
         ∙ ap (tab (λ i. areaOf (geometryAt (floorIn l w u) i))) (sym (triangles-of l w u (floorIn l w u) refl))
+
+    pub none : l .triangles ≤ r → l .triangles ≤ degenerateOf (floorIn l w u)
+    none h = omega (arith, first)
 
     pub turned : l .triangles ≤ r → Wound l (floorIn l w₁ u₁) w₁ u₁
     turned e = subst (λ (f : Floor). Wound l f w₁ u₁) (sym (stays .floor)) (record {

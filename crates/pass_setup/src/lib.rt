@@ -8,7 +8,7 @@ ghost use mathlib.Core.Path.{_≡_};
 ghost use Prim.Native.Nat.{_*_};
 ghost use lib.ListN.{length};
 ghost use Rattle.edges.specs.Numbering.{Below};
-ghost use Rattle.pass_refusal.specs.Refusal.{row, between};
+ghost use Rattle.pass_refusal.specs.Refusal.{faultAt, between};
 ghost use Rattle.pass_layout.specs.Layout.{Ordered};
 ghost use Rattle.pass_layout.specs.Work.{floorIn};
 ghost use Rattle.pass_setup.specs.Work.{Wound, Averaged, Joined, SetUp};
@@ -20,7 +20,7 @@ pub enum Setup {
 }
 
 fn refused(number: u64, place: u64) -> Setup
-    ensures { λ r. ⌜ r ≡ Setup.Refused (row number place) ⌝ }
+    ensures { λ r. ⌜ r ≡ Setup.Refused (faultAt number place) ⌝ }
 {
     Setup::Refused(Fault {
         number,

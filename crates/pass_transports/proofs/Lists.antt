@@ -19,13 +19,13 @@ use Rattle.linear_cells.proofs.Cells.{length-regionC, regionC-putC, putC-else-r
 use Rattle.pass_transports.specs.declared.Answer.{Answer}
 use Rattle.pass_transports.specs.declared.Answer.the-variants as answer
 use Rattle.pass_transports.specs.declared.TransportsPlan.{TransportsPlan}
-use Rattle.pass_transports.specs.Transports.{Points, pointsOf, endOf, transportAt, isRefused, coefficient, firstMean, coefficientAt, coefficientsOf, refusedAt, answerOf}
+use Rattle.pass_transports.specs.Transports.{Points, pointsOf, endOf, transportAt, isRefused, coefficient, firstMean, coefficientAt, coefficientsOf, refusedAt, transportsAnswer}
 use Rattle.pass_transports.specs.Work.{pointsFrom, TransportsRoom, Ends, keptTo, Transported}
 
 -- ---- accepted
 
-done-first : (p : Points) (a b : List ℕ) → answerOf p a b ≡ answer.Done → firstMean p a b (length a) ≡ length a
-unfolding answerOf firstMean
+done-first : (p : Points) (a b : List ℕ) → transportsAnswer p a b ≡ answer.Done → firstMean p a b (length a) ≡ length a
+unfolding transportsAnswer firstMean
 done-first p a b h = go (ltb (firstMean p a b (length a)) (length a)) refl h
   where
     go : (c : Bool) → ltb (firstMean p a b (length a)) (length a) ≡ c → cond c (refusedAt a b (firstMean p a b (length a))) answer.Done ≡ answer.Done → firstMean p a b (length a) ≡ length a
@@ -73,8 +73,8 @@ module _ (p q : Points) (n : ℕ) (a b : List ℕ) (g : Ends n a b) (h : (v : �
   unfolding firstMean
   first-same = lowest-same _ _ (length a) (λ e l. ap isRefused (at-same e l))
 
-  pub answer-same : answerOf p a b ≡ answerOf q a b
-  unfolding answerOf
+  pub answer-same : transportsAnswer p a b ≡ transportsAnswer q a b
+  unfolding transportsAnswer
   answer-same = rw first-same
 
   pub coefficients-same : coefficientsOf p a b ≡ coefficientsOf q a b

@@ -25,7 +25,7 @@ use Rattle.linear_cells.proofs.Over.{over, over-none, length-over, over-todo, o
 use Rattle.pass_transports.specs.declared.Answer.{Answer}
 use Rattle.pass_transports.specs.declared.Answer.the-variants as answer
 use Rattle.pass_transports.specs.declared.TransportsPlan.{TransportsPlan}
-use Rattle.pass_transports.specs.Transports.{Points, endOf, transportAt, isRefused, coefficient, firstMean, coefficientAt, refusedAt, answerOf}
+use Rattle.pass_transports.specs.Transports.{Points, endOf, transportAt, isRefused, coefficient, firstMean, coefficientAt, refusedAt, transportsAnswer}
 use Rattle.pass_transports.specs.Work.{pointsFrom, TransportsRoom, Ends, kept, Looked, keptTo, Transported}
 
 -- ---- the points of a slice that is the same below the coefficients
@@ -99,12 +99,12 @@ part : (p : Points) (a b : List ℕ) (e : ℕ) (v : List Complex) → e ≤ leng
 unfolding writtenTo keptTo
 part p a b e v h = over-part (λ j z. coefficientAt p a b j) cnan e v h
 
-told-refused : (p : Points) (a b : List ℕ) (e : ℕ) → e ≡ firstMean p a b (length a) → e < length a → refusedAt a b e ≡ answerOf p a b
-unfolding answerOf
+told-refused : (p : Points) (a b : List ℕ) (e : ℕ) → e ≡ firstMean p a b (length a) → e < length a → refusedAt a b e ≡ transportsAnswer p a b
+unfolding transportsAnswer
 told-refused p a b e f h = rw (← f, lt-ltb e (length a) h)
 
-told-done : (p : Points) (a b : List ℕ) → length a ≡ firstMean p a b (length a) → answer.Done ≡ answerOf p a b
-unfolding answerOf
+told-done : (p : Points) (a b : List ℕ) → length a ≡ firstMean p a b (length a) → answer.Done ≡ transportsAnswer p a b
+unfolding transportsAnswer
 told-done p a b f = rw (← f, le-ltb (length a) (length a) (omega arith))
 
 -- the first e edges have a coefficient, which is kept

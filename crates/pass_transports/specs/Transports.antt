@@ -2,9 +2,9 @@
 -- with its transport_coefficient, lines 697 to 720. Definitions only.
 -- Edge e goes from its lower end a e to its upper end b e, where a and b list the ends of the edges in the order first met.
 use Prim.Native.Nat.{ℕ}
-use mathlib.Core.Bool.{Bool, true, false, cond}
+use mathlib.Core.Bool.{Bool, not, cond}
 use mathlib.Core.List.{List, [], _∷_}
-use lib.Dec.{ltb}
+use lib.Dec.{eqb, ltb}
 use lib.ListN.{length, getD}
 use lib.Ieee.{Float, nan}
 use Rattle.complex.specs.declared.Complex.{Complex}
@@ -14,6 +14,7 @@ use Rattle.geometry.specs.declared.End.{End}
 use Rattle.geometry.specs.declared.Transport.{Transport}
 use Rattle.geometry.specs.declared.Transport.the-variants.{Coefficient, MeanSize}
 use Rattle.geometry.specs.Triangle.{at}
+use Rattle.geometry.specs.Edge as edge
 use Rattle.geometry.specs.Edge.{transportOf}
 use Rattle.linear_cells.specs.Region.{tab}
 use Rattle.pass_transports.specs.declared.Answer.{Answer}
@@ -43,10 +44,9 @@ endOf p v = record { vertex = v; position = at (p .x) (p .y) v; size = p .size v
 unfoldable pub transportAt : Points → List ℕ → List ℕ → ℕ → Transport
 transportAt p a b e = transportOf (endOf p (getD a e 0)) (endOf p (getD b e 0))
 
--- row 22: "mean size of an edge's ends not finite or not positive"
+-- row 22: "mean size of an edge not finite". The Rust also asks that it be positive, which the mean of two positive sizes always is
 abbrev pub isRefused : Transport → Bool
-isRefused (Coefficient z) = false
-isRefused (MeanSize i j) = true
+isRefused t = not (eqb (edge.number t) 0)
 
 abbrev pub coefficient : Transport → Complex
 coefficient (Coefficient z) = z
@@ -66,8 +66,8 @@ coefficientsOf p a b = tab (coefficientAt p a b) (length a)
 abbrev pub refusedAt : List ℕ → List ℕ → ℕ → Answer
 refusedAt a b e = answer.MeanSize (getD a e 0) (getD b e 0)
 
-unfoldable pub answerOf : Points → List ℕ → List ℕ → Answer
-answerOf p a b = cond (ltb (firstMean p a b (length a)) (length a)) (refusedAt a b (firstMean p a b (length a))) answer.Done
+unfoldable pub transportsAnswer : Points → List ℕ → List ℕ → Answer
+transportsAnswer p a b = cond (ltb (firstMean p a b (length a)) (length a)) (refusedAt a b (firstMean p a b (length a))) answer.Done
 
 -- the refusal's number and place that an answer stands for: 0 and none where it is no refusal
 abbrev pub number : Answer → ℕ

@@ -15,7 +15,7 @@ use Rattle.linear_cells.specs.Region.{tab}
 use Rattle.linear_cells.specs.Cell.{setC, regionC, putC}
 use Rattle.pass_transports.specs.declared.Answer.{Answer}
 use Rattle.pass_transports.specs.declared.TransportsPlan.{TransportsPlan}
-use Rattle.pass_transports.specs.Transports.{Points, transportAt, isRefused, firstMean, coefficientAt, answerOf}
+use Rattle.pass_transports.specs.Transports.{Points, transportAt, isRefused, firstMean, coefficientAt, transportsAnswer}
 
 -- the gradients' first parts, and then their second
 unfoldable pub pointsFrom : List Float → TransportsPlan → Points
@@ -57,5 +57,5 @@ keptTo p a b k v = tab (λ e. cond (ltb e k) (coefficientAt p a b e) (getD v e c
 
 -- the answer; the coefficients of the edges before the first that is refused are written, and all else is as it was
 pub record Transported (l : TransportsPlan) (a b : List ℕ) (w w′ : List Float) (r : Answer) : Type 0 where
-  pub result : r ≡ answerOf (pointsFrom w l) a b
+  pub result : r ≡ transportsAnswer (pointsFrom w l) a b
   pub work : w′ ≡ putC w (l .transports) (keptTo (pointsFrom w l) a b (firstMean (pointsFrom w l) a b (length a)) (regionC w (l .transports) (length a)))

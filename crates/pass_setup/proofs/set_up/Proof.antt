@@ -1,6 +1,6 @@
 -- `pass_setup::set_up` meets its contract: each return follows from the tests and the calls on its way; the laws are in proofs/Wind.
 use native.Mathlib.Omega.{arith}
-use Rattle.pass_setup.proofs.Wind.{stays, row-19, turned}
+use Rattle.pass_setup.proofs.Wind.{stays, unjoined, row-19, none, turned}
 use Rattle.pass_setup.proofs.Slices.{set-up-then, ordered-now}
 use borrow.Author.Needs.{needs}
 use Rattle.pass_setup.proofs.set_up.Statement.{statement}
@@ -44,7 +44,9 @@ returns-2 : tie.Need-returns-2
 returns-2 c =
     let start = c .before .before .before .before .before .before .before .before .before .before .before .before .before .before .before .before .before .before in
     let back13 = c .before .before .before .before .before .before .before .before .before .before .before .before .before in
-    set-up-then (stays (start .args .l) (start .args .work .now) (start .args .words .now) (start .pre .0) (start .pre .1) (back13 .geometries .ensures)) (c .before .before .before .before .take-gradients .ensures)
+    set-up-then (none (start .args .l) (start .args .work .now) (start .args .words .now) (start .pre .0) (start .pre .1) (back13 .geometries .ensures) (omega arith))
+    (stays (start .args .l) (start .args .work .now) (start .args .words .now) (start .pre .0) (start .pre .1) (back13 .geometries .ensures))
+    (λ h. unjoined (start .args .l) (start .args .work .now) (start .args .words .now) (start .pre .0) (start .pre .1) (back13 .geometries .ensures)) (c .before .before .before .before .take-gradients .ensures)
 
 pub set-up-spec : {M : Type 1} → statement M
 set-up-spec =
