@@ -23,7 +23,7 @@ use Rattle.pass_options.proofs.Table.{first-sound}
 use Rattle.calls.specs.declared.Lengths.{Lengths}
 use Rattle.calls.specs.Checks.{Call, pointsIn, trianglesIn, isAdaptive, mostPoints, mostTriangles, short, table, checkSolve, Ready}
 
-row-passed : (c : Call) (l : Lengths) → checkSolve c l ≡ Sound → (j : ℕ) → j < 18 → getD (table c l) j no-row .holds ≡ false
+pub row-passed : (c : Call) (l : Lengths) → checkSolve c l ≡ Sound → (j : ℕ) → j < 18 → getD (table c l) j no-row .holds ≡ false
 unfolding checkSolve
 row-passed c l e j h = first-sound (table c l) e j h
 

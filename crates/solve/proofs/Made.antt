@@ -21,7 +21,7 @@ use Rattle.calls.specs.Checks.{isAdaptive, mostPoints, mostTriangles}
 use Rattle.calls.specs.Solve.{firstPass, inPass}
 use Rattle.solve.specs.declared.Found.{Found}
 use Rattle.solve.specs.declared.Found.the-variants.{Once, Refused}
-use Rattle.solve.specs.Passes.{callFor, ReadyFor, firstIn, foundAfter, foundOf, FirstStands, SecondStands, SameLengths, SecondMade, PassesMade}
+use Rattle.solve.specs.Passes.{callFor, ReadyFor, firstIn, foundAfter, foundOf, FirstStands, SecondStands, SameLengths, SecondMade, PassesMade, toldIn}
 use Rattle.solve.proofs.Answers.{stage-faulty, stage-field}
 
 -- a call has room for a pass over the floor as given, whatever its threshold
@@ -67,12 +67,12 @@ module _ (points : List Float) (corners : List ℕ) (sizes angles : List Float) 
     same : SameLengths w w₁ u u₁
     same = record { all-reals = made .all-reals; all-words = made .all-words }
 
-    pub passes-refused : (x : Fault) → s ≡ stage.Refused x → {r : Found} → r ≡ Refused (inPass 1 x) → PassesMade (callFor points corners sizes angles o a) w w₁ u u₁ r
+    pub passes-refused : (x : Fault) → s ≡ stage.Refused x → {r : Found} → r ≡ toldIn 1 s → PassesMade (callFor points corners sizes angles o a) w w₁ u u₁ r
     unfolding foundOf
     passes-refused x h told =
         let p : firstPass passOf (callFor points corners sizes angles o a) ≡ faulty x = stage-faulty _ x (sym h ∙ made .answer) in
         record {
-          answer = rw p told;
+          answer = rw p (told ∙ ap (toldIn 1) h);
           first-stands = made .found;
           second-stands = λ alpha e. one-answer p e;
           lengths = same;

@@ -44,7 +44,7 @@ use Rattle.calls.proofs.Lists.{both-good}
 use Rattle.calls.proofs.Room.{points-in}
 use Rattle.solve.specs.declared.Found.{Found}
 use Rattle.solve.specs.declared.Found.the-variants.{Once, Twice, Refused}
-use Rattle.solve.specs.Passes.{callFor, again, ReadyFor, firstIn, foundAfter, FirstStands, SecondStands, SameLengths, CutRoom, CutsBy, SecondMade}
+use Rattle.solve.specs.Passes.{callFor, again, ReadyFor, firstIn, foundAfter, FirstStands, SecondStands, SameLengths, CutRoom, CutsBy, SecondMade, toldIn}
 use Rattle.solve.proofs.Answers.{stage-faulty, stage-field, both-true, front-stays}
 use Rattle.solve.proofs.Corners.{below-in-range, stored-tris, stored-below}
 
@@ -198,10 +198,10 @@ module _ (points : List Float) (corners : List ℕ) (sizes angles : List Float) 
         lengths : SameLengths w w′ u u′
         lengths = record { all-reals = made .all-reals; all-words = made .all-words ∙ long }
 
-        pub second-refused : (x : Fault) → s ≡ stage.Refused x → {r : Found} → r ≡ Refused (inPass 2 x) → SecondMade (callFor points corners sizes angles o a) w w′ u u′ r
+        pub second-refused : (x : Fault) → s ≡ stage.Refused x → {r : Found} → r ≡ toldIn 2 s → SecondMade (callFor points corners sizes angles o a) w w′ u u′ r
         unfolding foundAfter
         second-refused x h told = record {
-          answer = rw (some-flagged some, stage-faulty (secondPass passOf (callFor points corners sizes angles o a) (firstIn (length points / 3) w)) x (sym h ∙ answered)) told;
+          answer = rw (some-flagged some, stage-faulty (secondPass passOf (callFor points corners sizes angles o a) (firstIn (length points / 3) w)) x (sym h ∙ answered)) (told ∙ ap (toldIn 2) h);
           first-stays = stays;
           second-stands = second-stands;
           lengths = lengths;

@@ -9,6 +9,7 @@ use lib.ListN.{length, replicate}
 use lib.Ieee.{Float}
 use Rattle.float.specs.Double.{lit}
 use Rattle.floor.specs.declared.Refusal.{Refusal as Early}
+use Rattle.floor.specs.declared.Check.{Check}
 use Rattle.floor.specs.declared.Check.the-variants as check
 use Rattle.refinement.specs.Floor.{over}
 use Rattle.pass_options.specs.Pass.{Passed, field, faulty}
@@ -22,15 +23,19 @@ use Rattle.calls.proofs.Ready.{sound-ready}
 use Rattle.calls.proofs.Room.{second-points, second-few}
 use Rattle.solve.specs.declared.Found.{Found}
 use Rattle.solve.specs.declared.Found.the-variants.{Once, Twice, Refused}
-use Rattle.solve.specs.Passes.{foundSecond, foundAfter, foundFirst, foundOf, ReadyFor, PassesMade, FinishRoom, SecondFits, Finished, outcomeOf, coarseLeft, fineLeft}
+use Rattle.solve.specs.Passes.{toldEarly, foundSecond, foundAfter, foundFirst, foundOf, ReadyFor, PassesMade, FinishRoom, SecondFits, Finished, outcomeOf, coarseLeft, fineLeft}
 use Rattle.solve.proofs.Answers.{both-true}
 use Rattle.solve.proofs.Made.{some-points-fit}
 
 module _ (c : Call) (l : Lent) where
   -- rows 1 to 18: nothing is touched
-  pub ends-early : (x : Early) → checkSolve c (lengthsOf l) ≡ check.Refused x → Ends (solveOf passOf c l) (outcome.Refused (early x)) (l .coarse) (l .fine) (l .work) (l .numbers)
+  refused-ends : (x : Early) → checkSolve c (lengthsOf l) ≡ check.Refused x → Ends (solveOf passOf c l) (outcome.Refused (early x)) (l .coarse) (l .fine) (l .work) (l .numbers)
   unfolding solveOf
-  ends-early x e = rw e (record { outcome = refl; coarse-left = refl; fine-left = refl; work-left = refl; numbers-left = refl })
+  refused-ends x e = rw e (record { outcome = refl; coarse-left = refl; fine-left = refl; work-left = refl; numbers-left = refl })
+
+  pub ends-early : {k : Check} → k ≡ checkSolve c (lengthsOf l) → (x : Early) → k ≡ check.Refused x → {r : Outcome} → r ≡ toldEarly k
+      → Ends (solveOf passOf c l) r (l .coarse) (l .fine) (l .work) (l .numbers)
+  ends-early e x h told = rw (told ∙ ap toldEarly h) (refused-ends x (sym e ∙ h))
 
   module _ (sound : checkSolve c (lengthsOf l) ≡ check.Sound) {w′ : List Float} {u′ : List ℕ} {found : Found} (made : PassesMade c (l .work) w′ (l .numbers) u′ found) where
     module _ {coarse′ fine′ : List Float} {r : Outcome} (done : Finished found (pointsIn c) w′ (l .coarse) (l .fine) coarse′ fine′ r)

@@ -10,9 +10,13 @@ use Rattle.float.specs.Double.{lit}
 use Rattle.linear_cells.specs.Region.{region}
 use Rattle.mesh.specs.Mesh.{cuts, marked}
 use Rattle.edges.specs.Table.{Held, sidesIn}
+use Rattle.floor.specs.declared.Check.{Check}
+use Rattle.floor.specs.declared.Check.the-variants as check
 use Rattle.refinement.specs.declared.Cut.{Cut}
 use Rattle.refinement.specs.Flag.{flaggedTri}
 use Rattle.refinement.specs.Floor.{trisOf, over}
+use Rattle.pass_refusal.specs.declared.Stage.{Stage}
+use Rattle.pass_refusal.specs.declared.Stage.the-variants as stage
 use Rattle.pass_options.specs.declared.Options.{Options}
 use Rattle.pass_options.specs.Pass.{Passed, field, faulty}
 use Rattle.pass.specs.declared.Asked.{Asked}
@@ -22,7 +26,7 @@ use Rattle.calls.specs.declared.Lengths.{Lengths}
 use Rattle.calls.specs.declared.Outcome.{Outcome}
 use Rattle.calls.specs.declared.Outcome.the-variants as outcome
 use Rattle.calls.specs.Checks.{Call, Lent, callOf, pointsIn, trianglesIn, isAdaptive, Ready}
-use Rattle.calls.specs.Solve.{firstPass, secondPass, refinedBy, refines, inPass}
+use Rattle.calls.specs.Solve.{firstPass, secondPass, refinedBy, refines, early, inPass}
 use Rattle.solve.specs.declared.Found.{Found}
 use Rattle.solve.specs.declared.Found.the-variants.{Once, Twice, Refused}
 
@@ -46,6 +50,17 @@ lengthsFor c work numbers = record { coarse = pointsIn c; fine = pointsIn c + 3 
 
 abbrev pub ReadyFor : Call → List Float → List ℕ → Type 0
 ReadyFor c w u = Ready c (lengthsFor c (length w) (length u))
+
+-- ---- refusals, passed up
+
+-- what checks and a pass that refused stand for; where they did not, nothing is told
+abbrev pub toldEarly : Check → Outcome
+toldEarly check.Sound = outcome.Solved (record { flagged = 0; cut = 0 })
+toldEarly (check.Refused x) = outcome.Refused (early x)
+
+abbrev pub toldIn : ℕ → Stage → Found
+toldIn k stage.Done = Once
+toldIn k (stage.Refused x) = Refused (inPass k x)
 
 -- ---- what is found
 

@@ -9,17 +9,17 @@ use Rattle.solve.proofs.solve.Tie as tie
 check-solve-requires : tie.Need-check-solve-requires
 check-solve-requires c κs = search needs
 
-enum-known-checked : tie.Need-enum-known-checked
-enum-known-checked c = search needs
+enum-told : tie.Need-enum-told
+enum-told c = search needs
+
+enum-told-2 : tie.Need-enum-told-2
+enum-told-2 c = search needs
 
 refused-early-requires : tie.Need-refused-early-requires
 refused-early-requires c κs = search needs
 
 returns : tie.Need-returns
-returns c = rw (c .refused-early .ensures) (ends-early (callFor (c .before .before .before .before .before .before .before .before .before .before .before .before .before .args .points .now) (c .before .before .before .before .before .before .before .before .before .before .before .before .before .args .triangles .now) (c .before .before .before .before .before .before .before .before .before .before .before .before .before .args .sizes .now) (c .before .before .before .before .before .before .before .before .before .before .before .before .before .args .angles .now) (c .before .before .before .before .before .before .before .before .before .before .before .before .before .args .o) (c .before .before .before .before .before .before .before .before .before .before .before .before .before .args .a)) (lent (c .before .before .before .before .before .before .before .before .before .before .before .before .before .args .coarse .now) (c .before .before .before .before .before .before .before .before .before .before .before .before .before .args .fine .now) (c .before .before .before .before .before .before .before .before .before .before .before .before .before .args .work .now) (c .before .before .before .before .before .before .before .before .before .before .before .before .before .args .numbers .now)) _ (sym (c .before .before .before .before .check-solve .ensures) ∙ c .before .before .checked .given .1))
-
-enum-told : tie.Need-enum-told
-enum-told c = search needs
+returns c = ends-early (callFor (c .before .before .before .before .before .before .before .before .before .before .before .before .args .points .now) (c .before .before .before .before .before .before .before .before .before .before .before .before .args .triangles .now) (c .before .before .before .before .before .before .before .before .before .before .before .before .args .sizes .now) (c .before .before .before .before .before .before .before .before .before .before .before .before .args .angles .now) (c .before .before .before .before .before .before .before .before .before .before .before .before .args .o) (c .before .before .before .before .before .before .before .before .before .before .before .before .args .a)) (lent (c .before .before .before .before .before .before .before .before .before .before .before .before .args .coarse .now) (c .before .before .before .before .before .before .before .before .before .before .before .before .args .fine .now) (c .before .before .before .before .before .before .before .before .before .before .before .before .args .work .now) (c .before .before .before .before .before .before .before .before .before .before .before .before .args .numbers .now)) (c .before .before .before .check-solve .ensures) _ (c .before .enum-told2 .given .1) (c .refused-early .ensures)
 
 passes-requires : tie.Need-passes-requires
 passes-requires c κs = ready-for (callFor (c .before .before .before .before .before .before .before .before .before .before .before .before .before .args .points .now) (c .before .before .before .before .before .before .before .before .before .before .before .before .before .args .triangles .now) (c .before .before .before .before .before .before .before .before .before .before .before .before .before .args .sizes .now) (c .before .before .before .before .before .before .before .before .before .before .before .before .before .args .angles .now) (c .before .before .before .before .before .before .before .before .before .before .before .before .before .args .o) (c .before .before .before .before .before .before .before .before .before .before .before .before .before .args .a)) (lent (c .before .before .before .before .before .before .before .before .before .before .before .before .before .args .coarse .now) (c .before .before .before .before .before .before .before .before .before .before .before .before .before .args .fine .now) (c .before .before .before .before .before .before .before .before .before .before .before .before .before .args .work .now) (c .before .before .before .before .before .before .before .before .before .before .before .before .before .args .numbers .now)) (sym (c .before .before .before .before .check-solve .ensures) ∙ c .before .before .enum-told .given .1)
@@ -53,10 +53,10 @@ solve-spec =
     tie.close
     (tie.spec
     check-solve-requires
-    enum-known-checked
+    enum-told
+    enum-told-2
     refused-early-requires
     returns
-    enum-told
     passes-requires
     finish-requires
     zero-requires
