@@ -13,7 +13,7 @@ use Rattle.geometry.specs.Edge.{alignmentWeight}
 use Rattle.mesh.specs.Mesh.{Tri, tri, split}
 use Rattle.refinement.specs.Floor.{Refined, refinementOf}
 use Rattle.text_answer.specs.Printed.{printed}
-use Rattle.text_answer.proofs.Listing.{given, expected}
+use Rattle.text_answer.specs.Listing.{given, expected}
 use Rattle.singularities.specs.Charge.{charge}
 use Rattle.root.specs.Root.{rootOf}
 

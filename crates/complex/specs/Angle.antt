@@ -6,13 +6,17 @@ use Rattle.float.specs.Double.{lit, isFinite, remEuclid, FRAC-PI-2, PI, TAU, _�
 use Rattle.complex.specs.declared.Complex.{Complex}
 use Rattle.complex.specs.Complex.{argumentOf}
 
+-- FIELD_SYMMETRY, 4: a cross looks the same after a quarter turn
+abbrev pub FIELD-SYMMETRY : Float
+FIELD-SYMMETRY = lit 0x4010_0000_0000_0000
+
 -- an angle that lies in [0, FRAC_PI_2) stays, -0 too, and any other becomes 0
 unfoldable pub inRange : Float → Float
 inRange a = cond (le (lit 0) a && lt a FRAC-PI-2) a (lit 0)
 
 -- a quarter of the argument, moved by whole quarter turns
 unfoldable pub crossAngle : Complex → Float
-crossAngle z = inRange (remEuclid (argumentOf z ⊘ lit 0x4010_0000_0000_0000) FRAC-PI-2)
+crossAngle z = inRange (remEuclid (argumentOf z ⊘ FIELD-SYMMETRY) FRAC-PI-2)
 
 -- -PI itself, and what rounding leaves below it, go up by a whole turn
 unfoldable pub unwound : Float → Float

@@ -4,12 +4,12 @@ use mathlib.Core.Bool.{Bool, cond}
 use mathlib.Core.List.{List}
 use lib.ListN.{getD}
 use lib.Ieee.{Float, lt, neg}
-use Rattle.float.specs.Double.{lit, mag, recipOf, _⊕_, _⊖_, _⊗_, _⊘_}
+use Rattle.float.specs.Double.{HALF, whole, lit, mag, recipOf, _⊕_, _⊖_, _⊗_, _⊘_}
 use Rattle.complex.specs.declared.Complex.{Complex}
 use Rattle.complex.specs.Complex.{cnew, fromAngle, cadd, csub, cmul, cscale}
 use Rattle.plane.specs.declared.Pair.{Pair}
 use Rattle.plane.specs.Pair.{sub2, dot2, no-pair}
-use Rattle.integrals.specs.Consts.{one, half, quarter, tenth, n2, n3, n4, n5, n6, n7, n12, n24, n45, n60, n90, n120, n360, n504, n1008, n1120, n2520, n2688, n17280, n20160, n51840, n56700, n129600, n181440, n492800, n1108800, n1814400, n4790016, n10644480, n19958400, n239500800}
+use Rattle.integrals.specs.Consts.{quarter, tenth}
 
 -- the series serve strictly below 0.1, INTEGRAL_SERIES_THRESHOLD
 unfoldable pub bySeries : Float → Bool
@@ -22,16 +22,16 @@ massSeries ω =
     let o4 = o2 ⊗ o2 in
     let o6 = o4 ⊗ o2 in
     let o8 = o4 ⊗ o4 in
-    cnew (one ⊘ n12 ⊖ o2 ⊘ n360 ⊕ o4 ⊘ n20160 ⊖ o6 ⊘ n1814400 ⊕ o8 ⊘ n239500800) (ω ⊗ (one ⊘ n60 ⊖ o2 ⊘ n2520 ⊕ o4 ⊘ n181440 ⊖ o6 ⊘ n19958400))
+    cnew ((whole 1) ⊘ (whole 12) ⊖ o2 ⊘ (whole 360) ⊕ o4 ⊘ (whole 20160) ⊖ o6 ⊘ (whole 1814400) ⊕ o8 ⊘ (whole 239500800)) (ω ⊗ ((whole 1) ⊘ (whole 60) ⊖ o2 ⊘ (whole 2520) ⊕ o4 ⊘ (whole 181440) ⊖ o6 ⊘ (whole 19958400)))
 
 unfoldable pub massClosed : Float → Complex
 massClosed ω =
     let phase = fromAngle ω in
-    let a = csub (cscale phase n6) (cnew n6 (lit 0)) in
-    let b = csub a (cnew (lit 0) (n6 ⊗ ω)) in
-    let c = cadd b (cnew (n3 ⊗ ω ⊗ ω) (lit 0)) in
+    let a = csub (cscale phase (whole 6)) (cnew (whole 6) (lit 0)) in
+    let b = csub a (cnew (lit 0) ((whole 6) ⊗ ω)) in
+    let c = cadd b (cnew ((whole 3) ⊗ ω ⊗ ω) (lit 0)) in
     let numerator = cadd c (cnew (lit 0) (ω ⊗ ω ⊗ ω)) in
-    cscale numerator (recipOf (n3 ⊗ ω ⊗ ω ⊗ ω ⊗ ω))
+    cscale numerator (recipOf ((whole 3) ⊗ ω ⊗ ω ⊗ ω ⊗ ω))
 
 unfoldable pub massIntegral : Float → Complex
 massIntegral ω = cond (bySeries ω) (massSeries ω) (massClosed ω)
@@ -46,10 +46,10 @@ dirichletSeries ω g11 g12 g22 =
     let edges = g11 ⊕ g22 in
     cnew
     (neg quarter ⊗ g12
-    ⊕ edges ⊗ (o2 ⊘ n120 ⊖ o4 ⊘ n2688 ⊕ o6 ⊘ n129600 ⊖ o8 ⊘ n10644480)
-    ⊕ g12 ⊗ (o2 ⊘ n45 ⊖ o4 ⊘ n1120 ⊕ o6 ⊘ n56700 ⊖ o8 ⊘ n4790016))
-    (ω ⊗ (edges ⊗ (neg one ⊘ n24 ⊕ o2 ⊘ n504 ⊖ o4 ⊘ n17280 ⊕ o6 ⊘ n1108800)
-    ⊕ g12 ⊗ (neg one ⊘ n24 ⊕ n5 ⊗ o2 ⊘ n1008 ⊖ n7 ⊗ o4 ⊘ n51840 ⊕ o6 ⊘ n492800)))
+    ⊕ edges ⊗ (o2 ⊘ (whole 120) ⊖ o4 ⊘ (whole 2688) ⊕ o6 ⊘ (whole 129600) ⊖ o8 ⊘ (whole 10644480))
+    ⊕ g12 ⊗ (o2 ⊘ (whole 45) ⊖ o4 ⊘ (whole 1120) ⊕ o6 ⊘ (whole 56700) ⊖ o8 ⊘ (whole 4790016)))
+    (ω ⊗ (edges ⊗ (neg (whole 1) ⊘ (whole 24) ⊕ o2 ⊘ (whole 504) ⊖ o4 ⊘ (whole 17280) ⊕ o6 ⊘ (whole 1108800))
+    ⊕ g12 ⊗ (neg (whole 1) ⊘ (whole 24) ⊕ (whole 5) ⊗ o2 ⊘ (whole 1008) ⊖ (whole 7) ⊗ o4 ⊘ (whole 51840) ⊕ o6 ⊘ (whole 492800))))
 
 unfoldable pub dirichletClosed : Float → Float → Float → Float → Complex
 dirichletClosed ω g11 g12 g22 =
@@ -57,13 +57,13 @@ dirichletClosed ω g11 g12 g22 =
     let o3 = o2 ⊗ ω in
     let o4 = o2 ⊗ o2 in
     let o5 = o4 ⊗ ω in
-    let a = n3 ⊗ g11 ⊕ n4 ⊗ g12 ⊕ n3 ⊗ g22 in
+    let a = (whole 3) ⊗ g11 ⊕ (whole 4) ⊗ g12 ⊕ (whole 3) ⊗ g22 in
     let b = g11 ⊕ g12 ⊕ g22 in
-    let c = g11 ⊖ n2 ⊗ g12 ⊕ g22 in
-    let d = g11 ⊕ n2 ⊗ g12 ⊕ g22 in
-    let e = n2 ⊗ g11 ⊕ n3 ⊗ g12 ⊕ n2 ⊗ g22 in
-    let tail = cmul (cnew (neg a ⊕ half ⊗ o2 ⊗ d) (ω ⊗ e)) (fromAngle ω) in
-    let bracket = cadd (cnew (a ⊕ o4 ⊗ c ⊘ n24) (ω ⊗ b ⊖ o3 ⊗ g12 ⊘ n6 ⊖ o5 ⊗ c ⊘ n60)) tail in
+    let c = g11 ⊖ (whole 2) ⊗ g12 ⊕ g22 in
+    let d = g11 ⊕ (whole 2) ⊗ g12 ⊕ g22 in
+    let e = (whole 2) ⊗ g11 ⊕ (whole 3) ⊗ g12 ⊕ (whole 2) ⊗ g22 in
+    let tail = cmul (cnew (neg a ⊕ HALF ⊗ o2 ⊗ d) (ω ⊗ e)) (fromAngle ω) in
+    let bracket = cadd (cnew (a ⊕ o4 ⊗ c ⊘ (whole 24)) (ω ⊗ b ⊖ o3 ⊗ g12 ⊘ (whole 6) ⊖ o5 ⊗ c ⊘ (whole 60))) tail in
     cscale bracket (recipOf o4)
 
 unfoldable pub dirichletIntegral : Float → Float → Float → Float → Complex
@@ -75,8 +75,8 @@ diagonalAt ω area center next previous =
     let p-cu = sub2 next center in
     let p-cv = sub2 previous center in
     let opposite = sub2 previous next in
-    let numerator = dot2 opposite opposite ⊕ ω ⊗ ω ⊗ (dot2 p-cu p-cu ⊕ dot2 p-cu p-cv ⊕ dot2 p-cv p-cv) ⊘ n90 in
-    numerator ⊘ (n4 ⊗ area)
+    let numerator = dot2 opposite opposite ⊕ ω ⊗ ω ⊗ (dot2 p-cu p-cu ⊕ dot2 p-cu p-cv ⊕ dot2 p-cv p-cv) ⊘ (whole 90) in
+    numerator ⊘ ((whole 4) ⊗ area)
 
 abbrev pub dirichletDiagonal : Float → Float → List Pair → Float
 dirichletDiagonal ω area p = diagonalAt ω area (getD p 0 no-pair) (getD p 1 no-pair) (getD p 2 no-pair)

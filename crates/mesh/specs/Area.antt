@@ -6,7 +6,8 @@ use mathlib.Core.List.{List, [], _∷_}
 use mathlib.Core.Option.{Option, none, some}
 use lib.Dec.{eqb, leb}
 use lib.IntN.{ℤ, pos, negsuc, natAbs, _+ℤ_, _-ℤ_, _*ℤ_}
-use lib.Ieee.{Float, nan, inf, fin, binary64, up, down, add, mul, ofBits, toSigned}
+use lib.Ieee.{Float, nan, inf, fin, up, down, toSigned}
+use Rattle.float.specs.Double.{HALF, _⊕_, _⊗_}
 use Rattle.mesh.specs.Mesh.{Tri, tri, pieces}
 
 -- an even whole number of size at most 1,048,576: m * 2 ^ e, with no remainder by 2. A zero of either sign is one
@@ -27,7 +28,7 @@ coord x = toSigned 63 x
 
 -- refine_once's midpoint of two coordinates
 unfoldable pub halfway : Float → Float → Float
-halfway x y = mul binary64 (ofBits binary64 0x3fe0_0000_0000_0000) (add binary64 x y)
+halfway x y = HALF ⊗ (x ⊕ y)
 
 -- twice the signed area of the triangle (ax, ay) (bx, by) (cx, cy)
 abbrev pub cross : ℤ → ℤ → ℤ → ℤ → ℤ → ℤ → ℤ

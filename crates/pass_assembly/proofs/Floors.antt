@@ -14,7 +14,7 @@ use Rattle.linear_cells.specs.Cell.{getC}
 use Rattle.linear_hermitian.specs.declared.Hermitian.{Hermitian}
 use Rattle.pass_assembly.specs.declared.Triple.{Triple}
 use Rattle.pass_assembly.specs.declared.AssemblyPlan.{AssemblyPlan}
-use Rattle.pass_assembly.specs.Assembly.{Floor, transportsOn, termsOn, termsAt}
+use Rattle.pass_assembly.specs.Assembly.{Assembled, transportsOn, termsOn, termsAt}
 use Rattle.pass_assembly.specs.Work.{tripleFrom, floorFrom, Within, AssemblyRoom, TermsIn, Indexed}
 use Rattle.pass_assembly.proofs.Sums.{SameTo}
 
@@ -24,7 +24,7 @@ within n b u t k h l = corners-below n b u t (λ j m. h j (omega arith))
 
 -- ---- two floors with the same triangle t, where their planes agree at what it reads
 
-pub record Agree (f g : Floor) (c s : Triple) : Type 0 where
+pub record Agree (f g : Assembled) (c s : Triple) : Type 0 where
   pub p : at (f .x) (f .y) (c .i) ≡ at (g .x) (g .y) (c .i)
   pub q : at (f .x) (f .y) (c .j) ≡ at (g .x) (g .y) (c .j)
   pub r : at (f .x) (f .y) (c .k) ≡ at (g .x) (g .y) (c .k)
@@ -32,12 +32,12 @@ pub record Agree (f g : Floor) (c s : Triple) : Type 0 where
   pub jk : f .transports (s .j) ≡ g .transports (s .j)
   pub ki : f .transports (s .k) ≡ g .transports (s .k)
 
-terms-on : (m : Mode) (f g : Floor) (c s : Triple) (a : Float) → Agree f g c s
+terms-on : (m : Mode) (f g : Assembled) (c s : Triple) (a : Float) → Agree f g c s
     → termsOn m (f .x) (f .y) (f .transports) c s a ≡ termsOn m (g .x) (g .y) (g .transports) c s a
 unfolding termsOn transportsOn
 terms-on m f g c s a h = rw (h .p, h .q, h .r, h .ij, h .jk, h .ki)
 
-pub terms-agree : (m : Mode) (f g : Floor) (t : ℕ) → f .corners t ≡ g .corners t → f .numbers t ≡ g .numbers t → f .areas t ≡ g .areas t
+pub terms-agree : (m : Mode) (f g : Assembled) (t : ℕ) → f .corners t ≡ g .corners t → f .numbers t ≡ g .numbers t → f .areas t ≡ g .areas t
     → Agree f g (f .corners t) (f .numbers t) → termsAt m f t ≡ termsAt m g t
 unfolding termsAt
 terms-agree m f g t c s a h = terms-on m f g (f .corners t) (f .numbers t) (f .areas t) h ∙ rw (c, s, a)

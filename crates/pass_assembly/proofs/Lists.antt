@@ -23,8 +23,8 @@ use Rattle.linear_hermitian.specs.declared.Hermitian.{Hermitian}
 use Rattle.linear_hermitian.specs.Work.{matrix}
 use Rattle.pass_assembly.specs.declared.Triple.{Triple}
 use Rattle.pass_assembly.specs.declared.AssemblyPlan.{AssemblyPlan}
-use Rattle.pass_assembly.specs.Lists.{tripleOf, numberIn, numbersIn, floorOf}
-use Rattle.pass_assembly.specs.Assembly.{massOf, energyOf}
+use Rattle.pass_assembly.specs.Lists.{tripleOf, numberIn, numbersIn, assembledOf}
+use Rattle.pass_assembly.specs.Assembly.{massMatrix, energyMatrix}
 use Rattle.pass_assembly.specs.Work.{tripleFrom, floorFrom, assembledTo, AssemblyRoom, Indexed}
 use Rattle.pass_assembly.proofs.Sums.{SameTo}
 use Rattle.pass_assembly.proofs.Floors.{within, terms-agree}
@@ -45,8 +45,8 @@ unfolding numberIn
 numbers-in (tri a b c) l p q r h = sym (rw (h .0, h .1, h .2))
 
 pub floor-lists : (m : Mode) (w : List Float) (u : List ℕ) (l : AssemblyPlan) (n e : ℕ) (xs ys : List Float) (ts : List Tri) (areas : List Float) (sides : List Side) (rs : List Complex)
-    → Indexed u l n e → Holds w u l n e xs ys ts areas sides rs → SameTo m (floorFrom w u l e) (floorOf xs ys ts areas sides rs) (l .triangles)
-unfolding floorFrom floorOf
+    → Indexed u l n e → Holds w u l n e xs ys ts areas sides rs → SameTo m (floorFrom w u l e) (assembledOf xs ys ts areas sides rs) (l .triangles)
+unfolding floorFrom assembledOf
 floor-lists m w u l n e xs ys ts areas sides rs ix h t k =
     let c = within n (l .corners) u t (l .triangles) (ix .points) k in
     let s = within e (l .numbers) u t (l .triangles) (ix .sides) k in
@@ -55,7 +55,7 @@ floor-lists m w u l n e xs ys ts areas sides rs ix h t k =
       cs,
       (
         ns,
-        terms-agree m (floorFrom w u l e) (floorOf xs ys ts areas sides rs) t cs ns (sym (getD-region w (l .areas) (l .triangles) t nan k) ∙ ap (λ v. getD v t nan) (h .all-areas)) (record {
+        terms-agree m (floorFrom w u l e) (assembledOf xs ys ts areas sides rs) t cs ns (sym (getD-region w (l .areas) (l .triangles) t nan k) ∙ ap (λ v. getD v t nan) (h .all-areas)) (record {
           p = point (getD u (l .corners + 3 * t) 0) (c .0);
           q = point (getD u (l .corners + 3 * t + 1) 0) (c .1 .0);
           r = point (getD u (l .corners + 3 * t + 2) 0) (c .1 .1);
@@ -80,16 +80,16 @@ floor-lists m w u l n e xs ys ts areas sides rs ix h t k =
 module _ (m : Mode) (w : List Float) (u : List ℕ) (l : AssemblyPlan) (mass energy : Hermitian) {lenu : ℕ} (ok : AssemblyRoom (length w) lenu l mass energy) (ix : Indexed u l (mass .size) (mass .edges))
     (xs ys : List Float) (ts : List Tri) (areas : List Float) (sides : List Side) (rs : List Complex) (h : Holds w u l (mass .size) (mass .edges) xs ys ts areas sides rs) where
   pub mass-lists : (a b : List ℕ) → length a ≡ mass .edges
-      → matrix (assembledTo m w u l mass energy (l .triangles)) mass a b ≡ massOf m (floorOf xs ys ts areas sides rs) (mass .size) (l .triangles) a b
+      → matrix (assembledTo m w u l mass energy (l .triangles)) mass a b ≡ massMatrix m (assembledOf xs ys ts areas sides rs) (mass .size) (l .triangles) a b
   mass-lists a b k =
       mass-matrix m w u l mass energy ok (l .triangles) a b k
-      ∙ mass-same m (floorFrom w u l (mass .edges)) (floorOf xs ys ts areas sides rs) (mass .size) (l .triangles) a b (floor-lists m w u l (mass .size) (mass .edges) xs ys ts areas sides rs ix h)
+      ∙ mass-same m (floorFrom w u l (mass .edges)) (assembledOf xs ys ts areas sides rs) (mass .size) (l .triangles) a b (floor-lists m w u l (mass .size) (mass .edges) xs ys ts areas sides rs ix h)
 
   pub energy-lists : (a b : List ℕ) → length a ≡ mass .edges
-      → matrix (assembledTo m w u l mass energy (l .triangles)) energy a b ≡ energyOf m (floorOf xs ys ts areas sides rs) (mass .size) (l .triangles) a b
+      → matrix (assembledTo m w u l mass energy (l .triangles)) energy a b ≡ energyMatrix m (assembledOf xs ys ts areas sides rs) (mass .size) (l .triangles) a b
   energy-lists a b k =
       energy-matrix m w u l mass energy ok (l .triangles) a b k
-      ∙ energy-same m (floorFrom w u l (mass .edges)) (floorOf xs ys ts areas sides rs) (mass .size) (l .triangles) a b (floor-lists m w u l (mass .size) (mass .edges) xs ys ts areas sides rs ix h)
+      ∙ energy-same m (floorFrom w u l (mass .edges)) (assembledOf xs ys ts areas sides rs) (mass .size) (l .triangles) a b (floor-lists m w u l (mass .size) (mass .edges) xs ys ts areas sides rs ix h)
 
 -- ---- belongs in crate edges: the numbers that `NumberedTo` says of are those of sides
 

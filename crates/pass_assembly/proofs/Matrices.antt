@@ -16,30 +16,30 @@ use Rattle.linear_cells.proofs.Cells.{length-flat}
 use Rattle.linear_hermitian.specs.declared.Hermitian.{Hermitian}
 use Rattle.linear_hermitian.specs.Work.{matrix}
 use Rattle.pass_assembly.specs.declared.AssemblyPlan.{AssemblyPlan}
-use Rattle.pass_assembly.specs.Assembly.{Floor, massOf, energyOf}
+use Rattle.pass_assembly.specs.Assembly.{Assembled, massMatrix, energyMatrix}
 use Rattle.pass_assembly.specs.Work.{Sums, floorFrom, lay, sumsTo, assembledTo, AssemblyRoom}
 use Rattle.pass_assembly.proofs.Lays.{Sized, get-mass-diagonal, get-mass-off, get-energy-diagonal, get-energy-off, length-lay, lay-region}
 use Rattle.pass_assembly.proofs.Sums.{SameTo, sums-sized, sums-same}
 
 -- ---- the matrices, of floors whose triangles add the same
 
-of-mass : (m : Mode) (f : Floor) (n e t : ℕ) (a b : List ℕ) → length a ≡ e
-    → record { diagonal = sumsTo m f n e t .massDiagonal; off = sumsTo m f n e t .massOff; edgeA = a; edgeB = b } ≡ massOf m f n t a b
-unfolding sumsTo massOf
+of-mass : (m : Mode) (f : Assembled) (n e t : ℕ) (a b : List ℕ) → length a ≡ e
+    → record { diagonal = sumsTo m f n e t .massDiagonal; off = sumsTo m f n e t .massOff; edgeA = a; edgeB = b } ≡ massMatrix m f n t a b
+unfolding sumsTo massMatrix
 of-mass m f n e t a b k = rw k
 
-of-energy : (m : Mode) (f : Floor) (n e t : ℕ) (a b : List ℕ) → length a ≡ e
-    → record { diagonal = sumsTo m f n e t .energyDiagonal; off = sumsTo m f n e t .energyOff; edgeA = a; edgeB = b } ≡ energyOf m f n t a b
-unfolding sumsTo energyOf
+of-energy : (m : Mode) (f : Assembled) (n e t : ℕ) (a b : List ℕ) → length a ≡ e
+    → record { diagonal = sumsTo m f n e t .energyDiagonal; off = sumsTo m f n e t .energyOff; edgeA = a; edgeB = b } ≡ energyMatrix m f n t a b
+unfolding sumsTo energyMatrix
 of-energy m f n e t a b k = rw k
 
-pub mass-same : (m : Mode) (f g : Floor) (n t : ℕ) (a b : List ℕ) → SameTo m f g t → massOf m f n t a b ≡ massOf m g n t a b
+pub mass-same : (m : Mode) (f g : Assembled) (n t : ℕ) (a b : List ℕ) → SameTo m f g t → massMatrix m f n t a b ≡ massMatrix m g n t a b
 mass-same m f g n t a b h =
     sym (of-mass m f n (length a) t a b refl)
     ∙ ap (λ (s : Sums). record { diagonal = s .massDiagonal; off = s .massOff; edgeA = a; edgeB = b }) (sums-same m f g n (length a) t h)
     ∙ of-mass m g n (length a) t a b refl
 
-pub energy-same : (m : Mode) (f g : Floor) (n t : ℕ) (a b : List ℕ) → SameTo m f g t → energyOf m f n t a b ≡ energyOf m g n t a b
+pub energy-same : (m : Mode) (f g : Assembled) (n t : ℕ) (a b : List ℕ) → SameTo m f g t → energyMatrix m f n t a b ≡ energyMatrix m g n t a b
 energy-same m f g n t a b h =
     sym (of-energy m f n (length a) t a b refl)
     ∙ ap (λ (s : Sums). record { diagonal = s .energyDiagonal; off = s .energyOff; edgeA = a; edgeB = b }) (sums-same m f g n (length a) t h)
@@ -56,19 +56,19 @@ module _ (m : Mode) (w : List Float) (u : List ℕ) (l : AssemblyPlan) (mass ene
   sized = sums-sized m (floorFrom w u l (mass .edges)) t mass energy (ok .matrices .one-size) (ok .matrices .one-graph)
 
   pub mass-matrix : (a b : List ℕ) → length a ≡ mass .edges
-      → matrix (assembledTo m w u l mass energy t) mass a b ≡ massOf m (floorFrom w u l (mass .edges)) (mass .size) t a b
+      → matrix (assembledTo m w u l mass energy t) mass a b ≡ massMatrix m (floorFrom w u l (mass .edges)) (mass .size) t a b
   unfolding assembledTo
   mass-matrix a b k =
-      let f : Floor = floorFrom w u l (mass .edges) in
+      let f : Assembled = floorFrom w u l (mass .edges) in
       let v : Sums = sumsTo m f (mass .size) (mass .edges) t in
       matrix-by (lay w mass energy v) mass a b (get-mass-diagonal w mass energy (ok .matrices) v sized) (get-mass-off w mass energy (ok .matrices) v sized)
       ∙ of-mass m f (mass .size) (mass .edges) t a b k
 
   pub energy-matrix : (a b : List ℕ) → length a ≡ mass .edges
-      → matrix (assembledTo m w u l mass energy t) energy a b ≡ energyOf m (floorFrom w u l (mass .edges)) (mass .size) t a b
+      → matrix (assembledTo m w u l mass energy t) energy a b ≡ energyMatrix m (floorFrom w u l (mass .edges)) (mass .size) t a b
   unfolding assembledTo
   energy-matrix a b k =
-      let f : Floor = floorFrom w u l (mass .edges) in
+      let f : Assembled = floorFrom w u l (mass .edges) in
       let v : Sums = sumsTo m f (mass .size) (mass .edges) t in
       matrix-by (lay w mass energy v) energy a b (get-energy-diagonal w mass energy (ok .matrices) v sized) (get-energy-off w mass energy (ok .matrices) v sized)
       ∙ of-energy m f (mass .size) (mass .edges) t a b k

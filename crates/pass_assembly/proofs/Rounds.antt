@@ -15,7 +15,7 @@ use Rattle.linear_cells.proofs.Changes.{zeros as vector-zeros}
 use Rattle.linear_hermitian.specs.declared.Hermitian.{Hermitian}
 use Rattle.pass_assembly.specs.declared.Triple.{Triple}
 use Rattle.pass_assembly.specs.declared.AssemblyPlan.{AssemblyPlan}
-use Rattle.pass_assembly.specs.Assembly.{Floor, termsAt}
+use Rattle.pass_assembly.specs.Assembly.{Assembled, termsAt}
 use Rattle.pass_assembly.specs.Work.{Sums, tripleFrom, floorFrom, termsFrom, read, lay, sumsTo, assembledTo, AddRoom, AssemblyRoom, Indexed}
 use Rattle.pass_assembly.specs.Work.{cornersAdded, sidesAdded, correctionAdded, partAdded, added, triangleAdded, cleared}
 use Rattle.pass_assembly.proofs.Adds.{length-cornersAdded, length-sidesAdded, length-correctionAdded}
@@ -129,7 +129,7 @@ module _ (m : Mode) (w : List Float) (u : List ℕ) (l : AssemblyPlan) (mass ene
       → w₁ ≡ assembledTo m w u l mass energy t → w₂ ≡ triangleAdded m u l mass energy t w₁ → w₂ ≡ assembledTo m w u l mass energy (t + 1)
   unfolding assembledTo triangleAdded termsFrom termsAt floorFrom
   to-again ok ix t h {w₁} {w₂} e₁ e₂ =
-      let f : Floor = floorFrom w u l (mass .edges) in
+      let f : Assembled = floorFrom w u l (mass .edges) in
       let v : Sums = sumsTo m f (mass .size) (mass .edges) t in
       let y : Sized mass energy v = to-sized ok t in
       let c : Triple = tripleFrom (l .corners) u t in
@@ -194,14 +194,14 @@ cleared-room w l mass energy ok {w₁} {w₂} e₁ e₂ =
     rw k ok
 
 module _ (m : Mode) (w : List Float) (u : List ℕ) (l : AssemblyPlan) (mass energy : Hermitian) (ok : AssemblyRoom (length w) (length u) l mass energy) {w₁ w₂ : List Float} (e₁ : w₁ ≡ cleared mass w) (e₂ : w₂ ≡ cleared energy w₁) where
-  start : (f : Floor) → w₂ ≡ lay w mass energy (sumsTo m f (mass .size) (mass .edges) 0)
+  start : (f : Assembled) → w₂ ≡ lay w mass energy (sumsTo m f (mass .size) (mass .edges) 0)
   start f = both-cleared w mass energy (ok .matrices) e₁ e₂ ∙ ap (lay w mass energy) (sums-none m f (mass .size) (mass .edges))
 
   -- over zeros
   pub cleared-none : w₂ ≡ assembledTo m w₂ u l mass energy 0
   unfolding assembledTo
   cleared-none =
-      let f : Floor = floorFrom w₂ u l (mass .edges) in
+      let f : Assembled = floorFrom w₂ u l (mass .edges) in
       let v : Sums = sumsTo m f (mass .size) (mass .edges) 0 in
       let y : Sized mass energy v = sums-sized m f 0 mass energy (ok .matrices .one-size) (ok .matrices .one-graph) in
       start f ∙ sym (ap (λ t. lay t mass energy v) (start f) ∙ lay-then w mass energy (ok .matrices) v y v y)
@@ -209,7 +209,7 @@ module _ (m : Mode) (w : List Float) (u : List ℕ) (l : AssemblyPlan) (mass ene
   pub assemble-all : Indexed u l (mass .size) (mass .edges) → {w₃ : List Float} → w₃ ≡ assembledTo m w₂ u l mass energy (l .triangles) → w₃ ≡ assembledTo m w u l mass energy (l .triangles)
   unfolding assembledTo
   assemble-all ix e₃ =
-      let f : Floor = floorFrom w u l (mass .edges) in
+      let f : Assembled = floorFrom w u l (mass .edges) in
       let v : Sums = sumsTo m f (mass .size) (mass .edges) 0 in
       let y : Sized mass energy v = sums-sized m f 0 mass energy (ok .matrices .one-size) (ok .matrices .one-graph) in
       let z : Sums = sumsTo m f (mass .size) (mass .edges) (l .triangles) in

@@ -20,7 +20,7 @@ use Rattle.linear_cells.specs.Region.{tab}
 use Rattle.linear_cells.proofs.Loops.{length-tab, getD-tab, tab-ext, tab-replicate}
 use Rattle.linear_hermitian.specs.declared.Hermitian.{Hermitian}
 use Rattle.pass_assembly.specs.declared.Triple.{Triple}
-use Rattle.pass_assembly.specs.Assembly.{Floor, termsAt, addAt, addCorners, addSides, thrice, addCorrection, massDiagonalTo, massOffTo, energyDiagonalTo, energyOffTo}
+use Rattle.pass_assembly.specs.Assembly.{Assembled, termsAt, addAt, addCorners, addSides, thrice, addCorrection, massDiagonalTo, massOffTo, energyDiagonalTo, energyOffTo}
 use Rattle.pass_assembly.specs.Work.{Sums, sumsTo, Within, addIn, cornersAdded, sidesAdded, correctionAdded, added}
 use Rattle.pass_assembly.proofs.Lays.{Sized}
 
@@ -64,7 +64,7 @@ tab-correction f n w c x h = go (isPlain w)
 
 -- ---- the sums of a floor
 
-pub sums-sized : (m : Mode) (f : Floor) (t : ℕ) (mass energy : Hermitian) → energy .size ≡ mass .size → energy .edges ≡ mass .edges
+pub sums-sized : (m : Mode) (f : Assembled) (t : ℕ) (mass energy : Hermitian) → energy .size ≡ mass .size → energy .edges ≡ mass .edges
     → Sized mass energy (sumsTo m f (mass .size) (mass .edges) t)
 unfolding sumsTo
 sums-sized m f t mass energy p q = record {
@@ -78,12 +78,12 @@ sums-sized m f t mass energy p q = record {
 unfoldable pub zeros : ℕ → ℕ → Sums
 zeros n e = record { massDiagonal = replicate n (lit 0); massOff = replicate e czero; energyDiagonal = replicate n (lit 0); energyOff = replicate e czero }
 
-pub sums-none : (m : Mode) (f : Floor) (n e : ℕ) → zeros n e ≡ sumsTo m f n e 0
+pub sums-none : (m : Mode) (f : Assembled) (n e : ℕ) → zeros n e ≡ sumsTo m f n e 0
 unfolding sumsTo massDiagonalTo massOffTo energyDiagonalTo energyOffTo zeros
 sums-none m f n e = sym (rw (tab-replicate (lit 0) n, tab-replicate czero e))
 
 -- one more triangle
-sums-suc : (m : Mode) (f : Floor) (n e t : ℕ) → Within n (f .corners t) → Within e (f .numbers t)
+sums-suc : (m : Mode) (f : Assembled) (n e t : ℕ) → Within n (f .corners t) → Within e (f .numbers t)
     → added (m .holomorphic) (f .corners t) (f .numbers t) (termsAt m f t) (sumsTo m f n e t) ≡ sumsTo m f n e (suc t)
 unfolding added sumsTo massDiagonalTo massOffTo energyDiagonalTo energyOffTo
 sums-suc m f n e t hc hs =
@@ -97,13 +97,13 @@ sums-suc m f n e t hc hs =
     let o = tab-sides (λ v. energyOffTo m f v t) e s (termsAt m f t .energy .sides) hs in
     λ k. record { massDiagonal = p k; massOff = q k; energyDiagonal = r k; energyOff = o k }
 
-pub sums-more : (m : Mode) (f : Floor) (n e t : ℕ) → Within n (f .corners t) → Within e (f .numbers t)
+pub sums-more : (m : Mode) (f : Assembled) (n e t : ℕ) → Within n (f .corners t) → Within e (f .numbers t)
     → added (m .holomorphic) (f .corners t) (f .numbers t) (termsAt m f t) (sumsTo m f n e t) ≡ sumsTo m f n e (t + 1)
 sums-more m f n e t hc hs = rw (add-one t) (sums-suc m f n e t hc hs)
 
 -- ---- two floors whose triangles add the same
 
-abbrev pub SameTo : Mode → Floor → Floor → ℕ → Type 0
+abbrev pub SameTo : Mode → Assembled → Assembled → ℕ → Type 0
 SameTo m f g t = (i : ℕ) → i < t → (f .corners i ≡ g .corners i) × ((f .numbers i ≡ g .numbers i) × (termsAt m f i ≡ termsAt m g i))
 
 -- two sequences that begin alike, and go on alike, are alike
@@ -111,7 +111,7 @@ same-to : {A : Type 0} (x y : ℕ → A) → x 0 ≡ y 0 → (t : ℕ) → ((i :
 same-to x y z zero h = z
 same-to x y z (suc t) h = h t (omega arith) (same-to x y z t (λ i l. h i (omega arith)))
 
-module _ (m : Mode) (f g : Floor) where
+module _ (m : Mode) (f g : Assembled) where
   mass-diagonal-same : (v t : ℕ) → SameTo m f g t → massDiagonalTo m f v t ≡ massDiagonalTo m g v t
   unfolding massDiagonalTo
   mass-diagonal-same v t h = same-to (massDiagonalTo m f v) (massDiagonalTo m g v) refl t (λ i l e. let a = h i l in rw (a .0, a .1 .1, e))

@@ -22,7 +22,7 @@ use Rattle.pass_assembly.specs.declared.Triple.{Triple}
 
 -- a floor as it is assembled: the coordinates of each point; the corners of each triangle, counter-clockwise, its area, and the numbers of its sides
 -- from corner i to j, j to k and k to i; and the transport along each side from its lower to its upper end
-pub record Floor : Type 0 where
+pub record Assembled : Type 0 where
   pub x : ℕ → Float
   pub y : ℕ → Float
   pub corners : ℕ → Triple
@@ -33,11 +33,11 @@ pub record Floor : Type 0 where
 -- ---- one triangle
 
 -- lines 1318 to 1322, 1370 to 1374 and 1410 to 1414: a value along the side from i to j, as the value from its lower to its upper end, or back
-unfoldable pub directed : ℕ → ℕ → Complex → Complex
-directed i j z = cond (ltb i j) z (cconj z)
+unfoldable pub towardUpper : ℕ → ℕ → Complex → Complex
+towardUpper i j z = cond (ltb i j) z (cconj z)
 
 unfoldable pub directedSides : Triple → Sides → Sides
-directedSides c z = record { ij = directed (c .i) (c .j) (z .ij); jk = directed (c .j) (c .k) (z .jk); ki = directed (c .k) (c .i) (z .ki) }
+directedSides c z = record { ij = towardUpper (c .i) (c .j) (z .ij); jk = towardUpper (c .j) (c .k) (z .jk); ki = towardUpper (c .k) (c .i) (z .ki) }
 
 abbrev pub directedPart : Triple → Part → Part
 directedPart c p = record { corners = p .corners; sides = directedSides c (p .sides) }
@@ -53,7 +53,7 @@ transportsOn R c s = directedSides c (record { ij = R (s .i); jk = R (s .j); ki 
 unfoldable pub termsOn : Mode → (ℕ → Float) → (ℕ → Float) → (ℕ → Complex) → Triple → Triple → Float → Terms
 termsOn m X Y R c s a = directedTerms c (termsOf m a (transportsOn R c s) (at X Y (c .i)) (at X Y (c .j)) (at X Y (c .k)))
 
-unfoldable pub termsAt : Mode → Floor → ℕ → Terms
+unfoldable pub termsAt : Mode → Assembled → ℕ → Terms
 termsAt m f t = termsOn m (f .x) (f .y) (f .transports) (f .corners t) (f .numbers t) (f .areas t)
 
 -- ---- one point, one side
@@ -77,36 +77,36 @@ addCorrection h v c x sum = cond (isPlain h) sum (addCorners v c (thrice x) sum)
 
 -- ---- the sums over the first t triangles: on the diagonal at point v, off it for side e
 
-unfoldable pub massDiagonalTo : Mode → Floor → ℕ → ℕ → Float
+unfoldable pub massDiagonalTo : Mode → Assembled → ℕ → ℕ → Float
 massDiagonalTo m f v zero = lit 0
 massDiagonalTo m f v (suc t) = addCorners v (f .corners t) (termsAt m f t .mass .corners) (massDiagonalTo m f v t)
 
-unfoldable pub massOffTo : Mode → Floor → ℕ → ℕ → Complex
+unfoldable pub massOffTo : Mode → Assembled → ℕ → ℕ → Complex
 massOffTo m f e zero = czero
 massOffTo m f e (suc t) = addSides e (f .numbers t) (termsAt m f t .mass .sides) (massOffTo m f e t)
 
-unfoldable pub energyDiagonalTo : Mode → Floor → ℕ → ℕ → Float
+unfoldable pub energyDiagonalTo : Mode → Assembled → ℕ → ℕ → Float
 energyDiagonalTo m f v zero = lit 0
 energyDiagonalTo m f v (suc t) =
     addCorrection (m .holomorphic) v (f .corners t) (termsAt m f t .correction)
     (addCorners v (f .corners t) (termsAt m f t .energy .corners) (energyDiagonalTo m f v t))
 
-unfoldable pub energyOffTo : Mode → Floor → ℕ → ℕ → Complex
+unfoldable pub energyOffTo : Mode → Assembled → ℕ → ℕ → Complex
 energyOffTo m f e zero = czero
 energyOffTo m f e (suc t) = addSides e (f .numbers t) (termsAt m f t .energy .sides) (energyOffTo m f e t)
 
 -- ---- the matrices of n points and t triangles, whose sides have the lower ends a and the upper ends b
 
-unfoldable pub massOf : Mode → Floor → ℕ → ℕ → List ℕ → List ℕ → Matrix
-massOf m f n t a b = record {
+unfoldable pub massMatrix : Mode → Assembled → ℕ → ℕ → List ℕ → List ℕ → Matrix
+massMatrix m f n t a b = record {
   diagonal = tab (λ v. massDiagonalTo m f v t) n;
   off = tab (λ e. massOffTo m f e t) (length a);
   edgeA = a;
   edgeB = b;
 }
 
-unfoldable pub energyOf : Mode → Floor → ℕ → ℕ → List ℕ → List ℕ → Matrix
-energyOf m f n t a b = record {
+unfoldable pub energyMatrix : Mode → Assembled → ℕ → ℕ → List ℕ → List ℕ → Matrix
+energyMatrix m f n t a b = record {
   diagonal = tab (λ v. energyDiagonalTo m f v t) n;
   off = tab (λ e. energyOffTo m f e t) (length a);
   edgeA = a;

@@ -9,7 +9,7 @@ use Rattle.complex.specs.declared.Complex.{Complex}
 use Rattle.complex.specs.Complex.{cnan}
 use Rattle.mesh.specs.Mesh.{Side, Tri, tri, key, indexIn}
 use Rattle.pass_assembly.specs.declared.Triple.{Triple}
-use Rattle.pass_assembly.specs.Assembly.{Floor}
+use Rattle.pass_assembly.specs.Assembly.{Assembled}
 
 abbrev pub tripleOf : Tri → Triple
 tripleOf (tri i j k) = record { i = i; j = j; k = k }
@@ -25,8 +25,8 @@ numberIn l i j = found (indexIn (key i j) l)
 abbrev pub numbersIn : List Side → Tri → Triple
 numbersIn l (tri i j k) = record { i = numberIn l i j; j = numberIn l j k; k = numberIn l k i }
 
-unfoldable pub floorOf : List Float → List Float → List Tri → List Float → List Side → List Complex → Floor
-floorOf xs ys ts areas l rs = record {
+unfoldable pub assembledOf : List Float → List Float → List Tri → List Float → List Side → List Complex → Assembled
+assembledOf xs ys ts areas l rs = record {
   x = λ v. getD xs v nan;
   y = λ v. getD ys v nan;
   corners = λ t. tripleOf (getD ts t (tri 0 0 0));

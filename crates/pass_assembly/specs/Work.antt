@@ -22,7 +22,7 @@ use Rattle.linear_cells.specs.Rows.{Row, row, laid, Ranged}
 use Rattle.linear_hermitian.specs.declared.Hermitian.{Hermitian}
 use Rattle.pass_assembly.specs.declared.Triple.{Triple}
 use Rattle.pass_assembly.specs.declared.AssemblyPlan.{AssemblyPlan}
-use Rattle.pass_assembly.specs.Assembly.{Floor, thrice, termsOn, massDiagonalTo, massOffTo, energyDiagonalTo, energyOffTo}
+use Rattle.pass_assembly.specs.Assembly.{Assembled, thrice, termsOn, massDiagonalTo, massOffTo, energyDiagonalTo, energyOffTo}
 
 -- ---- the floor
 
@@ -30,7 +30,7 @@ abbrev pub tripleFrom : ℕ → List ℕ → ℕ → Triple
 tripleFrom b u t = record { i = getD u (b + 3 * t) 0; j = getD u (b + 3 * t + 1) 0; k = getD u (b + 3 * t + 2) 0 }
 
 -- its e sides have their transports in one vector
-unfoldable pub floorFrom : List Float → List ℕ → AssemblyPlan → ℕ → Floor
+unfoldable pub floorFrom : List Float → List ℕ → AssemblyPlan → ℕ → Assembled
 floorFrom w u l e = record {
   x = coordsFrom w (l .x);
   y = coordsFrom w (l .y);
@@ -72,7 +72,7 @@ unfoldable pub lay : List Float → Hermitian → Hermitian → Sums → List Fl
 lay w mass energy s = laid w (bases mass energy) (vectors s)
 
 -- the sums over the first t triangles, for n points and e sides
-unfoldable pub sumsTo : Mode → Floor → ℕ → ℕ → ℕ → Sums
+unfoldable pub sumsTo : Mode → Assembled → ℕ → ℕ → ℕ → Sums
 sumsTo m f n e t = record {
   massDiagonal = tab (λ v. massDiagonalTo m f v t) n;
   massOff = tab (λ s. massOffTo m f s t) e;

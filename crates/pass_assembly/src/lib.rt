@@ -19,7 +19,7 @@ ghost use Rattle.float.specs.Double.{_⊕_};
 ghost use Rattle.complex.specs.Complex.{cnan, cadd};
 ghost use Rattle.linear_cells.specs.Region.{region, put};
 ghost use Rattle.linear_cells.specs.Cell.{getC, regionC, putC};
-ghost use Rattle.pass_assembly.specs.Assembly.{directed, directedSides, directedPart, directedTerms, transportsOn};
+ghost use Rattle.pass_assembly.specs.Assembly.{towardUpper, directedSides, directedPart, directedTerms, transportsOn};
 ghost use Rattle.pass_assembly.specs.Work.{tripleFrom, termsFrom, assembledTo, AssemblyRoom, Indexed, Within, MatrixIn, AddRoom, TermsIn};
 ghost use Rattle.pass_assembly.specs.Work.{addIn, cornersAdded, sidesAdded, correctionAdded, partAdded, added, triangleAdded, cleared, read, lay};
 
@@ -56,7 +56,7 @@ fn triple_at(u: &[u32], base: usize, t: usize) -> Triple
 
 // A value along the side from i to j, as the value from its lower to its upper end, or back.
 fn directed_to(i: usize, j: usize, z: Complex) -> Complex
-    ensures { λ r. ⌜ r ≡ directed i j z ⌝ }
+    ensures { λ r. ⌜ r ≡ towardUpper i j z ⌝ }
 {
     if i < j {
         return z;

@@ -12,11 +12,11 @@ use Rattle.complex.specs.Complex.{czero, cone, cadd, cscale}
 use Rattle.linear_cells.specs.Region.{tab}
 use Rattle.mesh.specs.Mesh.{Side, side, key, Tri, tri, one}
 use Rattle.edges.specs.Numbering.{times, listed}
-use Rattle.complex.specs.Guidance.{fourfold, normOf}
+use Rattle.complex.specs.Guidance.{fourfold, normOf, SMALLEST-NORM}
 
 -- ---- which sides
 
--- lines 878 to 882: the sides of a triangle, each from u to v, in the order in which the Rust goes through them
+-- lines 876 to 880: the sides of a triangle, each from u to v, in the order in which the Rust goes through them
 abbrev pub around : Tri → List Side
 around (tri a b c) = side a b ∷ side b c ∷ side c a ∷ []
 
@@ -24,7 +24,7 @@ unfoldable pub walked : List Tri → List Side
 walked [] = []
 walked (t ∷ ts) = around t ++ walked ts
 
--- line 884: exactly one triangle has the side, by the count of listed sides, either way round, of lines 859 to 869
+-- line 882: exactly one triangle has the side, by the count of listed sides, either way round, of lines 859 to 869
 unfoldable pub once : List Tri → Side → Bool
 once ts (side u v) = eqb (times (key u v) (listed ts)) 1
 
@@ -43,7 +43,7 @@ boundarySides ts = kept (once ts) (walked ts)
 
 -- ---- what they add
 
--- lines 888 and 889: the fourfold direction of a side
+-- lines 886 and 887: the fourfold direction of a side
 unfoldable pub tangent : (ℕ → Float) → (ℕ → Float) → Side → Complex
 tangent X Y (side u v) = fourfold (atan2Of (Y v ⊖ Y u) (X v ⊖ X u))
 
@@ -55,7 +55,7 @@ pub record Mark : Type 0 where
 abbrev pub mark : ℕ → Complex → Mark
 mark v z = record { point = v; value = z }
 
--- line 890: `for vertex in [u, v]`
+-- line 888: `for vertex in [u, v]`
 abbrev pub ends : (ℕ → Float) → (ℕ → Float) → Side → List Mark
 ends X Y (side u v) = mark u (tangent X Y (side u v)) ∷ mark v (tangent X Y (side u v)) ∷ []
 
@@ -65,24 +65,24 @@ marks X Y (s ∷ ss) = ends X Y s ++ marks X Y ss
 
 -- ---- at a point
 
--- line 891: something is added there
+-- line 889: something is added there
 unfoldable pub isMarked : ℕ → List Mark → Bool
 isMarked v [] = false
 isMarked v (m ∷ ms) = eqb v (m .point) || isMarked v ms
 
--- line 892: the sum of what is added there, after z
+-- line 890: the sum of what is added there, after z
 unfoldable pub sumFrom : ℕ → Complex → List Mark → Complex
 sumFrom v z [] = z
 sumFrom v z (m ∷ ms) = sumFrom v (cond (eqb v (m .point)) (cadd z (m .value)) z) ms
 
--- lines 893 to 896: the first value that is added there, or z
+-- lines 891 to 894: the first value that is added there, or z
 unfoldable pub firstOr : ℕ → Complex → List Mark → Complex
 firstOr v z [] = z
 firstOr v z (m ∷ ms) = cond (eqb v (m .point)) (m .value) (firstOr v z ms)
 
 -- lines 907 to 911: `norm.is_finite() && norm > 1e-12`
 unfoldable pub normalised : Complex → Complex → Complex
-normalised sum first = cond (isFinite (normOf sum) && lt (lit 0x3d71_9799_812d_ea11) (normOf sum)) (cscale sum (recipOf (normOf sum))) first
+normalised sum first = cond (isFinite (normOf sum) && lt SMALLEST-NORM (normOf sum)) (cscale sum (recipOf (normOf sum))) first
 
 -- lines 902 to 912
 unfoldable pub targetAt : List Mark → ℕ → Complex

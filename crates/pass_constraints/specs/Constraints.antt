@@ -1,4 +1,4 @@
--- What the two boundary modes make of a system: the Rust's dirichlet_rows (lines 922 to 935) and the tangent and weak branches of solve_mesh, as far as
+-- What the two boundary modes make of a system: the Rust's dirichlet_rows (lines 922 to 934) and the tangent and weak branches of solve_mesh, as far as
 -- they are not a product or a shift, over lists. Definitions only.
 -- A flag of 1 says that a point lies on the boundary; `targets` are the directions asked for there.
 use Prim.Native.Nat.{ℕ}
@@ -60,7 +60,7 @@ coupledAt flags i target coupling z = cond (on flags i) target (csub z coupling)
 unfoldable pub coupled : List ℕ → List Complex → List Complex → List Complex → List Complex
 coupled flags targets coupling rhs = tab (λ i. coupledAt flags i (getD targets i cnan) (getD coupling i cnan) (getD rhs i cnan)) (length rhs)
 
--- ---- the weak branch, lines 1517 to 1525: the penalty is weight * M_ii
+-- ---- the weak branch, lines 1517 to 1523: the penalty is weight * M_ii
 
 unfoldable pub penalisedAt : List ℕ → Float → ℕ → Float → Float → Float
 penalisedAt flags weight i mass d = cond (on flags i) (d ⊕ weight ⊗ mass) d

@@ -21,7 +21,7 @@ use Rattle.linear_cells.proofs.Over.{over, over-none, length-over, over-all, ov
 use Rattle.pass_refusal.specs.declared.Stage.{Stage}
 use Rattle.pass_refusal.specs.declared.Stage.the-variants.{Done, Refused}
 use Rattle.pass_refusal.specs.Refusal.{gaveUp}
-use Rattle.pass_field.specs.Field.{angles, endless, finite, allFinite, crossAngles, fieldOf, FieldRoom, written, stageOf, Fields}
+use Rattle.pass_field.specs.Field.{angles, endless, finite, allFinite, crossAngles, fieldOf, FieldRoom, written, anglesStage, Fields}
 
 -- ---- all finite
 
@@ -107,13 +107,13 @@ module _ (w : List Float) (x at n : ℕ) where
 
 module _ (w : List Float) (x at n : ℕ) {b : Bool} (eb : b ≡ allFinite (regionC w x n)) where
   pub from-endless : not b ≡ true → {r : Stage} → r ≡ Refused (gaveUp 13 0) → Fields w w x at n r
-  unfolding fieldOf written stageOf
+  unfolding fieldOf written anglesStage
   from-endless t e =
       let q : allFinite (regionC w x n) ≡ false = sym eb ∙ not-true b t in
       record { work = rw q; stage = rw q e }
 
   pub from-angles : not b ≡ false → {w₁ : List Float} → w₁ ≡ put w at (crossAngles (regionC w x n)) → Fields w w₁ x at n Done
-  unfolding fieldOf written stageOf
+  unfolding fieldOf written anglesStage
   from-angles t e =
       let q : allFinite (regionC w x n) ≡ true = sym eb ∙ not-false b t in
       record { work = rw q e; stage = rw q }

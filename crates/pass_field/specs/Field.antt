@@ -1,4 +1,4 @@
--- The Rust's `angles_from`, lines 1210 to 1220: the cross angle of each value of a vector, or reason 13 where one is not finite. Definitions only.
+-- The Rust's `angles_from`, lines 1210 to 1219: the cross angle of each value of a vector, or reason 13 where one is not finite. Definitions only.
 use mathlib.Core.Path.{_≡_}
 use mathlib.Core.Bool.{Bool, true, cond, _&&_}
 use mathlib.Core.List.{List, [], _∷_}
@@ -45,10 +45,10 @@ unfoldable pub written : List Float → ℕ → Angles → List Float
 written w at (angles a) = put w at a
 written w at endless = w
 
-unfoldable pub stageOf : Angles → Stage
-stageOf (angles a) = Done
-stageOf endless = Refused (gaveUp 13 0)
+unfoldable pub anglesStage : Angles → Stage
+anglesStage (angles a) = Done
+anglesStage endless = Refused (gaveUp 13 0)
 
 pub record Fields (w w′ : List Float) (x at n : ℕ) (r : Stage) : Type 0 where
   pub work : w′ ≡ written w at (fieldOf (regionC w x n))
-  pub stage : r ≡ stageOf (fieldOf (regionC w x n))
+  pub stage : r ≡ anglesStage (fieldOf (regionC w x n))

@@ -11,7 +11,7 @@ use Rattle.floor.specs.Checks.{lowest, notFiniteOrBelowZero}
 use Rattle.pass_options.specs.declared.BoundaryMode.{BoundaryMode}
 use Rattle.pass_options.specs.declared.BoundaryMode.the-variants.{None, Tangent, Weak}
 use Rattle.pass_options.specs.declared.Options.{Options}
-use Rattle.pass_options.specs.Table.{Row, row, rowAmong}
+use Rattle.pass_options.specs.Table.{Row, rowIf, rowAmong}
 
 -- "guidance or none": a weight, and a target angle for each point
 pub data Guidance : Type 0 where
@@ -74,16 +74,16 @@ anyLarge axis angles = tooLarge axis || ltb (lowest (tooLargeAt angles) (length 
 
 abbrev pub optionRows : Options → List Row
 optionRows o =
-    row 9 (badHolomorphic (o .holomorphic)) ∷
-    row 10 (notPositive (o .anisotropy)) ∷
-    row 11 (not (isFinite (o .«anisotropy_angle»))) ∷
-    row 12 (notFiniteOrBelowZero (o .adaptive)) ∷
-    row 13 (badBoundary (o .boundary)) ∷ []
+    rowIf 9 (badHolomorphic (o .holomorphic)) ∷
+    rowIf 10 (notPositive (o .anisotropy)) ∷
+    rowIf 11 (not (isFinite (o .«anisotropy_angle»))) ∷
+    rowIf 12 (notFiniteOrBelowZero (o .adaptive)) ∷
+    rowIf 13 (badBoundary (o .boundary)) ∷ []
 
 abbrev pub guidanceRows : ℕ → Guidance → List Row
 guidanceRows n g =
-    row 14 (badWeight g) ∷
-    row 15 (badCount n g) ∷
+    rowIf 14 (badWeight g) ∷
+    rowIf 15 (badCount n g) ∷
     rowAmong 16 (notFiniteAt (anglesOf g)) (length (anglesOf g)) ∷ []
 
 abbrev pub largeRow : ℕ → Options → Guidance → Row

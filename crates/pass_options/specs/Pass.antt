@@ -10,7 +10,7 @@ use Rattle.linear_cells.specs.Region.{tab}
 use Rattle.mesh.specs.Points.{xOf, yOf}
 use Rattle.mesh.specs.Mesh.{Tri, tri, All}
 use Rattle.mesh.specs.Claim.{InRange}
-use Rattle.floor.specs.Floor.{Floor, pointsOf}
+use Rattle.floor.specs.Floor.{Floor, pointCount}
 use Rattle.pass_refusal.specs.declared.Fault.{Fault}
 use Rattle.pass_refusal.specs.declared.Stage.{Stage}
 use Rattle.pass_refusal.specs.declared.Stage.the-variants.{Done, Refused}
@@ -47,10 +47,10 @@ ThreeCorners (tri a b c) = (a ≢ b) × (b ≢ c) × (c ≢ a)
 -- the facts of a pass that the claim rests on, over any floor whose corners are in range; the pass of this project has them
 pub record PassFacts (pass : Pass) : Type 0 where
   -- an accepted pass has three pairwise different corners in every triangle: row 19 refuses any other
-  pub three-corners : (f : Floor) (o : Options) (g : Guidance) (k : ℕ) (alpha : List Float) → All (InRange (pointsOf f)) (f .triangles)
+  pub three-corners : (f : Floor) (o : Options) (g : Guidance) (k : ℕ) (alpha : List Float) → All (InRange (pointCount f)) (f .triangles)
       → pass f o g k ≡ field alpha → All ThreeCorners (f .triangles)
   -- it has as many angles as points
-  pub as-many : (f : Floor) (o : Options) (g : Guidance) (k : ℕ) (alpha : List Float) → pass f o g k ≡ field alpha → length alpha ≡ pointsOf f
+  pub as-many : (f : Floor) (o : Options) (g : Guidance) (k : ℕ) (alpha : List Float) → pass f o g k ≡ field alpha → length alpha ≡ pointCount f
   -- and each lies in [0, FRAC_PI_2), -0 counted in
   pub range : (f : Floor) (o : Options) (g : Guidance) (k : ℕ) (alpha : List Float) → pass f o g k ≡ field alpha
       → (i : ℕ) → i < length alpha → IsCross (getD alpha i nan)

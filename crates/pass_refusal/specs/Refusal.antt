@@ -3,8 +3,8 @@ use Prim.Native.Nat.{ℕ}
 use Rattle.pass_refusal.specs.declared.Fault.{Fault}
 
 -- rows 19, 20, 21 and 23
-abbrev pub row : ℕ → ℕ → Fault
-row k i = record { number = k; place = i; other = 0; reason = 0 }
+abbrev pub faultAt : ℕ → ℕ → Fault
+faultAt k i = record { number = k; place = i; other = 0; reason = 0 }
 
 -- row 22, "edge's ends"
 abbrev pub between : ℕ → ℕ → Fault

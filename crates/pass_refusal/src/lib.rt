@@ -1,7 +1,7 @@
 // What a stage of a pass answers: done, or what it refuses by, rows 19 to 24 of document 01's table, which is passed up unaltered. Which of the two passes
 // refused is added above the pass, by the solve: the pass is one function.
 ghost use mathlib.Core.Path.{_≡_};
-ghost use Rattle.pass_refusal.specs.Refusal.{row, between, gaveUp};
+ghost use Rattle.pass_refusal.specs.Refusal.{faultAt, between, gaveUp};
 ghost use Rattle.pass_refusal.specs.declared.Stage.the-variants.{Refused};
 
 // A row of the table with its place, for row 22 the edge's other end, and for row 24 the reason: each 0 where the table says "none".
@@ -19,7 +19,7 @@ pub enum Stage {
 
 // A row with a triangle or a point for its place, or with none, which is 0.
 pub fn refused(number: u64, place: usize) -> Stage
-    ensures { λ r. ⌜ r ≡ Refused (row number place) ⌝ }
+    ensures { λ r. ⌜ r ≡ Refused (faultAt number place) ⌝ }
 {
     Stage::Refused(Fault {
         number,

@@ -19,9 +19,13 @@ tracesOf mass energy = record { energy = traceOf energy; mass = traceOf mass }
 unfoldable pub tracesStage : Traces → Stage
 tracesStage t = cond (notPositive (t .energy)) (Refused (gaveUp 1 0)) (cond (notPositive (t .mass)) (Refused (gaveUp 2 0)) Done)
 
+-- ENERGY_SHIFT, 1e-8
+abbrev pub ENERGY-SHIFT : Float
+ENERGY-SHIFT = lit 0x3e45_798e_e230_8c3a
+
 -- `ENERGY_SHIFT * energy_trace / mass_trace`
 unfoldable pub shiftOf : Traces → Float
-shiftOf t = lit 0x3e45_798e_e230_8c3a ⊗ t .energy ⊘ t .mass
+shiftOf t = ENERGY-SHIFT ⊗ t .energy ⊘ t .mass
 
 unfoldable pub shiftedEnergy : Matrix → Matrix → Matrix
 shiftedEnergy mass energy = shiftedBy (shiftOf (tracesOf (mass .diagonal) (energy .diagonal))) mass energy

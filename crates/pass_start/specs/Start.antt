@@ -1,10 +1,10 @@
--- The start vector of the inverse iteration, lines 1555 to 1584 of the Rust: a constant direction plus a small ramp over the bounding box. Definitions only.
+-- The start vector of the inverse iteration, lines 1558 to 1583 of the Rust: a constant direction plus a small ramp over the bounding box. Definitions only.
 use Prim.Native.Nat.{ℕ, _+_, _*_, _≤_}
 use mathlib.Core.Bool.{cond}
 use mathlib.Core.List.{List}
 use lib.ListN.{length, getD}
 use lib.Ieee.{Float, nan, lt}
-use Rattle.float.specs.Double.{lit, maxOf, minOf, recipOf, _⊕_, _⊖_, _⊗_}
+use Rattle.float.specs.Double.{lit, HALF, maxOf, minOf, recipOf, _⊕_, _⊖_, _⊗_}
 use Rattle.complex.specs.declared.Complex.{Complex}
 use Rattle.complex.specs.Complex.{cnew, cone, cadd, cscale}
 use Rattle.linear_cells.specs.Iter.{iter}
@@ -30,7 +30,7 @@ boundsOf xs = record {
 -- ---- the ramp
 
 unfoldable pub centerOf : Extent → Float
-centerOf b = lit 0x3fe0_0000_0000_0000 ⊗ (b .low ⊕ b .high)
+centerOf b = HALF ⊗ (b .low ⊕ b .high)
 
 unfoldable pub spanOf : Extent → Extent → Float
 spanOf x y = maxOf (x .high ⊖ x .low) (y .high ⊖ y .low)

@@ -4,19 +4,18 @@ use mathlib.Core.Bool.{false}
 use mathlib.Core.List.{List}
 use lib.ListN.{getD}
 use lib.Ieee.{Float}
-use Rattle.float.specs.Double.{lit, _⊘_}
+use Rattle.float.specs.Double.{whole, lit, _⊘_}
 use Rattle.complex.specs.declared.Complex.{Complex}
 use Rattle.complex.specs.Complex.{cnew}
 use Rattle.plane.specs.declared.Pair.{Pair}
 use Rattle.plane.specs.Pair.{no-pair}
-use Rattle.integrals.specs.Consts.{one, n12}
 use Rattle.pass_terms.specs.declared.Sides.{Sides}
 use Rattle.pass_terms.specs.declared.Entry.{Entry}
 use Rattle.pass_terms.specs.declared.Terms.{Terms}
 use Rattle.pass_terms.specs.Terms.{massCorner, energyCorners, massEntry, scaleIn, flatEntry, partsOf}
 
 unfoldable pub flatEntries : Float → Float → Complex → Pair → Pair → Pair → Entry
-flatEntries area scale z p q o = record { mass = massEntry (cnew (one ⊘ n12) (lit 0)) area z; energy = flatEntry scale z p q o }
+flatEntries area scale z p q o = record { mass = massEntry (cnew ((whole 1) ⊘ (whole 12)) (lit 0)) area z; energy = flatEntry scale z p q o }
 
 unfoldable pub flatTerms : Float → Sides → Pair → Pair → Pair → Terms
 flatTerms area z p q r =

@@ -4,12 +4,11 @@ use mathlib.Core.Bool.{Bool, cond}
 use mathlib.Core.List.{List}
 use lib.ListN.{getD}
 use lib.Ieee.{Float, neg, eq}
-use Rattle.float.specs.Double.{lit, recipOf, _⊗_, _⊘_}
+use Rattle.float.specs.Double.{HALF, whole, lit, recipOf, _⊗_, _⊘_}
 use Rattle.complex.specs.declared.Complex.{Complex}
 use Rattle.complex.specs.Complex.{cone, cnew, cadd, csub, cmul, cscale, cconj, argumentOf}
 use Rattle.plane.specs.declared.Pair.{Pair}
 use Rattle.plane.specs.Pair.{sub2, dot2, no-pair}
-use Rattle.integrals.specs.Consts.{one, half, n4, n6, n12}
 use Rattle.integrals.specs.Integrals.{massIntegral, dirichletIntegral, diagonalAt}
 use Rattle.pass_terms.specs.declared.Mode.{Mode}
 use Rattle.pass_terms.specs.declared.Corners.{Corners}
@@ -25,11 +24,11 @@ holonomyOf z = argumentOf (cmul (cmul (cmul cone (z .ij)) (z .jk)) (z .ki))
 
 -- lines 1302 to 1304
 unfoldable pub massCorner : Float → Float
-massCorner area = area ⊘ n6
+massCorner area = area ⊘ (whole 6)
 
 -- lines 1332 to 1338: at the first of three corners, in cyclic order, from the side opposite to it
 unfoldable pub flatCorner : Float → Pair → Pair → Float
-flatCorner area next previous = dot2 (sub2 previous next) (sub2 previous next) ⊗ recipOf (n4 ⊗ area)
+flatCorner area next previous = dot2 (sub2 previous next) (sub2 previous next) ⊗ recipOf ((whole 4) ⊗ area)
 
 -- lines 1327 to 1339
 unfoldable pub energyCorner : Bool → Float → Float → Pair → Pair → Pair → Float
@@ -47,7 +46,7 @@ abbrev pub isPlain : Float → Bool
 isPlain h = eq h (lit 0)
 
 unfoldable pub correctionOf : Float → Float → Float
-correctionOf h ω = neg h ⊗ ω ⊘ n6
+correctionOf h ω = neg h ⊗ ω ⊘ (whole 6)
 
 -- 0 stands for it elsewhere
 unfoldable pub correctionIn : Float → Float → Float
@@ -57,14 +56,14 @@ correctionIn h ω = cond (isPlain h) (lit 0) (correctionOf h ω)
 
 -- lines 1384 to 1389
 unfoldable pub massScalar : Bool → Float → Complex
-massScalar accurate ω = cond accurate (massIntegral ω) (cnew (one ⊘ n12) (lit 0))
+massScalar accurate ω = cond accurate (massIntegral ω) (cnew ((whole 1) ⊘ (whole 12)) (lit 0))
 
 unfoldable pub massEntry : Complex → Float → Complex → Complex
 massEntry scalar area z = cscale (cmul (cconj z) scalar) area
 
 -- lines 1378 to 1382, 1390 to 1396, from the reciprocal that the energy is scaled by, which depends on the area alone
 unfoldable pub scaleIn : Bool → Float → Float
-scaleIn accurate area = cond accurate (recipOf area) (recipOf (n4 ⊗ area))
+scaleIn accurate area = cond accurate (recipOf area) (recipOf ((whole 4) ⊗ area))
 
 unfoldable pub accurateEntry : Float → Float → Complex → Pair → Pair → Pair → Complex
 accurateEntry ω scale z p q o =
@@ -81,7 +80,7 @@ energyEntry accurate ω scale z p q o = cond accurate (accurateEntry ω scale z 
 -- lines 1402 to 1406, where h is not 0
 unfoldable pub correctedEntry : Float → Float → Float → Complex → Complex → Complex → Complex
 correctedEntry h ω area z mass energy =
-    cadd (csub energy (cscale mass (h ⊗ ω ⊘ area))) (cmul (cnew (lit 0) (half ⊗ h)) (cconj z))
+    cadd (csub energy (cscale mass (h ⊗ ω ⊘ area))) (cmul (cnew (lit 0) (HALF ⊗ h)) (cconj z))
 
 unfoldable pub holomorphicEntry : Float → Float → Float → Complex → Complex → Complex → Complex
 holomorphicEntry h ω area z mass energy = cond (isPlain h) energy (correctedEntry h ω area z mass energy)

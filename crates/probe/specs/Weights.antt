@@ -6,7 +6,7 @@ use lib.Ieee.{Float, neg, lt, le}
 use Rattle.float.specs.Double.{lit, mag, isFinite, _⊕_, _⊗_, _⊘_}
 use Rattle.complex.specs.declared.Complex.{Complex}
 use Rattle.complex.specs.Complex.{fromAngle, cadd, cscale, isZero}
-use Rattle.complex.specs.Angle.{crossAngle}
+use Rattle.complex.specs.Angle.{FIELD-SYMMETRY, crossAngle}
 use Rattle.plane.specs.declared.Pair.{Pair}
 use Rattle.plane.specs.Pair.{sub2, cross2, no-pair}
 use Rattle.probe.specs.declared.Weights.{Weights}
@@ -19,9 +19,13 @@ use Rattle.probe.specs.declared.Visit.the-variants.{Vanished, Found}
 unfoldable pub usable : Float → Bool
 usable d = isFinite d && not (le (mag d) (lit 0x0010_0000_0000_0000))
 
+-- 1e-12
+abbrev pub WEIGHT-SLACK : Float
+WEIGHT-SLACK = lit 0x3d71_9799_812d_ea11
+
 -- the 1e-12 test: neither below -1e-12 nor above 1 + 1e-12. A NaN passes it
 unfoldable pub within : Float → Bool
-within w = not (lt w (neg (lit 0x3d71_9799_812d_ea11))) && not (lt (lit 0x3ff0_0000_0000_0000 ⊕ lit 0x3d71_9799_812d_ea11) w)
+within w = not (lt w (neg WEIGHT-SLACK)) && not (lt (lit 0x3ff0_0000_0000_0000 ⊕ WEIGHT-SLACK) w)
 
 -- of the corner across from the side a b, seen from p, d being twice the triangle's signed area
 unfoldable pub weight : Pair → Pair → Pair → Float → Float
@@ -37,7 +41,7 @@ weighed p ps d = weighedAt p (getD ps 0 no-pair) (getD ps 1 no-pair) (getD ps 2 
 -- the sum of the fourfold directions, by weights
 unfoldable pub interpolated : Weights → Float → Float → Float → Complex
 interpolated w a b c =
-    let four = lit 0x4010_0000_0000_0000 in
+    let four = FIELD-SYMMETRY in
     cadd (cadd (cscale (fromAngle (four ⊗ a)) (w .i)) (cscale (fromAngle (four ⊗ b)) (w .j))) (cscale (fromAngle (four ⊗ c)) (w .k))
 
 unfoldable pub answered : Complex → Visit

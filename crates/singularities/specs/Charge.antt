@@ -3,11 +3,11 @@ use mathlib.Core.Bool.{cond, _&&_}
 use lib.IntN.{ℤ, pos}
 use lib.Ieee.{Float, toSigned}
 use Rattle.float.specs.Double.{lit, isFinite, roundAway, TAU, _⊕_, _⊖_, _⊗_, _⊘_}
-use Rattle.complex.specs.Angle.{wrapToPi}
+use Rattle.complex.specs.Angle.{FIELD-SYMMETRY, wrapToPi}
 
 -- the turn of the fourfold direction along a side, wrapped to (-PI, PI]
 abbrev pub along : Float → Float → Float
-along a b = wrapToPi (lit 0x4010_0000_0000_0000 ⊗ (b ⊖ a))
+along a b = wrapToPi (FIELD-SYMMETRY ⊗ (b ⊖ a))
 
 unfoldable pub winding : Float → Float → Float → Float
 winding a b c = along a b ⊕ along b c ⊕ along c a

@@ -1,4 +1,5 @@
 -- `integrals::dirichlet_closed` meets its contract: each return opens the definition and rewrites it by the tests and the calls on its way.
+use lib.Ieee.{ofInt, ofBits}
 use Rattle.integrals.specs.Integrals.{dirichletClosed}
 use Rattle.integrals.specs.Factors.{closedOf}
 use borrow.Author.Needs.{needs}
@@ -21,7 +22,7 @@ scale-requires : tie.Need-scale-requires
 scale-requires c κs = search needs
 
 returns : tie.Need-returns
-unfolding dirichletClosed closedOf
+unfolding dirichletClosed closedOf ofInt ofBits
 returns c = simp (c .scale .ensures, c .before .add .ensures, c .before .before .new2 .ensures, c .before .before .before .mul .ensures, c .before .before .before .before .new .ensures, c .before .before .before .before .before .pre)
 
 pub dirichlet-closed-spec : {M : Type 1} → statement M

@@ -1,4 +1,5 @@
 -- `integrals::dirichlet_diagonal` meets its contract: each return opens the definition and rewrites it by the tests and the calls on its way.
+use lib.Ieee.{ofInt, ofBits}
 use Rattle.integrals.specs.Integrals.{diagonalAt}
 use borrow.Author.Needs.{needs}
 use Rattle.integrals.proofs.dirichlet_diagonal.Statement.{statement}
@@ -35,7 +36,7 @@ dot2-requires-4 : tie.Need-dot2-requires-4
 dot2-requires-4 c κs = search needs
 
 returns : tie.Need-returns
-unfolding diagonalAt
+unfolding diagonalAt ofInt ofBits
 returns c = simp (c .dot24 .ensures, c .before .dot23 .ensures, c .before .before .dot22 .ensures, c .before .before .before .dot2 .ensures, c .before .before .before .before .sub23 .ensures, c .before .before .before .before .before .sub22 .ensures, c .before .before .before .before .before .before .sub2 .ensures)
 
 pub dirichlet-diagonal-spec : {M : Type 1} → statement M

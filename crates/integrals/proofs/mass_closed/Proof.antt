@@ -1,4 +1,5 @@
 -- `integrals::mass_closed` meets its contract: each return opens the definition and rewrites it by the tests and the calls on its way.
+use lib.Ieee.{ofInt, ofBits}
 use Rattle.integrals.specs.Integrals.{massClosed}
 use borrow.Author.Needs.{needs}
 use Rattle.integrals.proofs.mass_closed.Statement.{statement}
@@ -38,7 +39,7 @@ scale-requires-2 : tie.Need-scale-requires-2
 scale-requires-2 c κs = search needs
 
 returns : tie.Need-returns
-unfolding massClosed
+unfolding massClosed ofInt ofBits
 returns c = cc
 
 pub mass-closed-spec : {M : Type 1} → statement M

@@ -1,4 +1,5 @@
 -- `integrals::mass_series` meets its contract: each return opens the definition and rewrites it by the tests and the calls on its way.
+use lib.Ieee.{ofInt, ofBits}
 use Rattle.integrals.specs.Integrals.{massSeries}
 use borrow.Author.Needs.{needs}
 use Rattle.integrals.proofs.mass_series.Statement.{statement}
@@ -8,7 +9,7 @@ new-requires : tie.Need-new-requires
 new-requires c κs = search needs
 
 returns : tie.Need-returns
-unfolding massSeries
+unfolding massSeries ofInt ofBits
 returns c = simp (c .new .ensures)
 
 pub mass-series-spec : {M : Type 1} → statement M

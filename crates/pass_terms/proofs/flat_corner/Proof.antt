@@ -1,4 +1,5 @@
 -- `pass_terms::flat_corner` meets its contract: each return opens the definition and rewrites it by the tests and the calls on its way.
+use lib.Ieee.{ofInt, ofBits}
 use Rattle.pass_terms.specs.Terms.{flatCorner}
 use borrow.Author.Needs.{needs}
 use Rattle.pass_terms.proofs.flat_corner.Statement.{statement}
@@ -14,7 +15,7 @@ recip-requires : tie.Need-recip-requires
 recip-requires c κs = search needs
 
 returns : tie.Need-returns
-unfolding flatCorner
+unfolding flatCorner ofInt ofBits
 returns c = cc
 
 pub flat-corner-spec : {M : Type 1} → statement M

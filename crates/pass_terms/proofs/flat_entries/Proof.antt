@@ -1,4 +1,5 @@
 -- `pass_terms::flat_entries` meets its contract: the definition is its calls.
+use lib.Ieee.{ofInt, ofBits}
 use borrow.Author.Needs.{needs}
 use Rattle.pass_terms.specs.Flat.{flatEntries}
 use Rattle.pass_terms.proofs.flat_entries.Statement.{statement}
@@ -14,7 +15,7 @@ flat-entry-requires : tie.Need-flat-entry-requires
 flat-entry-requires c κs = search needs
 
 returns : tie.Need-returns
-unfolding flatEntries
+unfolding flatEntries ofInt ofBits
 returns c = simp (c .flat-entry .ensures, c .before .mass-entry .ensures, c .before .before .new .ensures)
 
 pub flat-entries-spec : {M : Type 1} → statement M

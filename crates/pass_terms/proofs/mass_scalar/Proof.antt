@@ -1,4 +1,5 @@
 -- `pass_terms::mass_scalar` meets its contract: each return opens the definition and rewrites it by the tests and the calls on its way.
+use lib.Ieee.{ofInt, ofBits}
 use Rattle.pass_terms.specs.Terms.{massScalar}
 use Rattle.pass_terms.specs.Factors.{factorsIn}
 use borrow.Author.Needs.{needs}
@@ -17,7 +18,7 @@ new-requires : tie.Need-new-requires
 new-requires c κs = search needs
 
 returns-2 : tie.Need-returns-2
-unfolding massScalar
+unfolding massScalar ofInt ofBits
 returns-2 c = simp (c .new .ensures, c .before .if1 .left)
 
 pub mass-scalar-spec : {M : Type 1} → statement M

@@ -1,4 +1,5 @@
 -- `pass_terms::scale_in` meets its contract: each return opens the definition and rewrites it by the tests and the calls on its way.
+use lib.Ieee.{ofInt, ofBits}
 use borrow.Author.Needs.{needs}
 use Rattle.pass_terms.specs.Terms.{scaleIn}
 use Rattle.pass_terms.proofs.scale_in.Statement.{statement}
@@ -15,7 +16,7 @@ recip-requires-2 : tie.Need-recip-requires-2
 recip-requires-2 c κs = search needs
 
 returns-2 : tie.Need-returns-2
-unfolding scaleIn
+unfolding scaleIn ofInt ofBits
 returns-2 c = simp (c .recip2 .ensures, c .before .if1 .left)
 
 pub scale-in-spec : {M : Type 1} → statement M
