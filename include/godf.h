@@ -42,7 +42,7 @@ double godf_sqrt(double x);
  * The refined floor: its first n points are those given, and point n + k is the midpoint of cut side k, in the order in which the sides are
  * first met; a midpoint has z 0, half the sum of its ends' coordinates and sizes, and may overflow to an infinity. The pieces of a triangle
  * with k cut sides are the next k + 1 triangles, in the order of the triangles given; a triangle with two cut sides may have pieces of the
- * other winding. Where the corners of each triangle are three different points, no side is cracked.
+ * other winding. Where the corners of each triangle are three different points and no two triangles have the same three, no side is cracked.
  *
  * With n points and T triangles, the four result arrays must have room for 3 (n + 3 T) numbers of points, n + 3 T sizes, 12 T
  * corner numbers and 8 T ends of cut sides (two a side). Accepted, the front of each is filled, as far as the counts in the report say, and
