@@ -28,7 +28,7 @@ over-length new old h = length-append new (drop (length new) old) ∙ omega (ari
 -- no call changes the length of a slice: with `Ends`, what the contract of the code needs
 module _ (pass : Pass) (facts : PassFacts pass) (c : Call) (lent : Lent) where
   wiped-lengths : (coarse fine : List Float) → length coarse ≡ length (lent .coarse) → length fine ≡ length (lent .fine) → lengthsOf (wiped lent coarse fine) ≡ lengthsOf lent
-  wiped-lengths coarse fine e g = rw (e, g, length-replicate (length (lent .work)) (lit 0), length-replicate {A = ℕ} (length (lent .numbers)) 0)
+  wiped-lengths coarse fine e g = rw (e, g, length-replicate (length (lent .work)) (lit 0), length-replicate {A = ℕ} (length (lent .words)) 0)
 
   module _ (s : checkSolve c (lengthsOf lent) ≡ check.Sound) where
     coarse-kept : (alpha : List Float) → firstPass pass c ≡ field alpha → length (over alpha (lent .coarse)) ≡ length (lent .coarse)

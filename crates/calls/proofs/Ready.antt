@@ -62,7 +62,7 @@ record LengthsRoom (adaptive : Bool) (n t : ℕ) (l : Lengths) : Type 0 where
   coarse : n ≤ l .coarse
   fine : adaptive ≡ true → mostPoints true n t ≤ l .fine
   reals : 64 * mostPoints adaptive n t + 32 * mostTriangles adaptive t ≤ l .work
-  words : 16 * mostPoints adaptive n t + 32 * mostTriangles adaptive t ≤ l .numbers
+  words : 16 * mostPoints adaptive n t + 32 * mostTriangles adaptive t ≤ l .words
 
 roomy : (adaptive : Bool) (n t : ℕ) (l : Lengths) → short adaptive n t l ≡ false → LengthsRoom adaptive n t l
 unfolding short
@@ -74,7 +74,7 @@ roomy adaptive n t l e =
       coarse = ltb-false (l .coarse) n (a .0);
       fine = λ h. ltb-false (l .fine) (mostPoints true n t) (ap (λ (z : Bool). ltb (l .fine) (mostPoints z n t)) (sym h) ∙ and-none adaptive _ h (b .0));
       reals = ltb-false (l .work) _ (d .0);
-      words = ltb-false (l .numbers) _ (d .1);
+      words = ltb-false (l .words) _ (d .1);
     }
 
 -- ---- the call

@@ -21,7 +21,9 @@ unfolding square angles ones two seven refinementOf flaggedTri flagged variation
 seven-points = refl
 
 pub cases : Cases
-unfolding square angles ones two refinementOf flaggedTri flagged variation turnAlong marked cuts sidesAfter metAll met indexIn key refine mid add sub mul div rem neg lt le eq ne ofBits toBits ofInt toUnsigned toSigned mag roundSize roundAway atanTail atanNear atanSize atanOf atanRatio inQuadrant atInfinity atan2Of argumentOf inRange crossAngle unwound wrapToPi winding turns charge alignmentWeight rootIn rootBits rootOf
+unfolding square angles ones two refinementOf flaggedTri flagged variation turnAlong marked cuts sidesAfter metAll met indexIn key refine mid add
+    sub mul div rem neg lt le eq ne ofBits toBits ofInt toUnsigned toSigned mag roundSize roundAway atanTail atanNear atanSize atanOf atanRatio
+    inQuadrant atInfinity atan2Of argumentOf inRange crossAngle unwound wrapToPi winding turns charge alignmentWeight rootIn rootBits rootOf
 cases = record {
   case-1 = (listing, seven-points);
   case-2 = (refl, refl);

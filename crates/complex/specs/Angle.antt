@@ -10,6 +10,10 @@ use Rattle.complex.specs.Complex.{argumentOf}
 abbrev pub FIELD-SYMMETRY : Float
 FIELD-SYMMETRY = lit 0x4010_0000_0000_0000
 
+-- 131,072: no call takes an angle above it in size
+abbrev pub LARGEST-ANGLE : Float
+LARGEST-ANGLE = lit 0x4100_0000_0000_0000
+
 -- an angle that lies in [0, FRAC_PI_2) stays, -0 too, and any other becomes 0
 unfoldable pub inRange : Float → Float
 inRange a = cond (le (lit 0) a && lt a FRAC-PI-2) a (lit 0)

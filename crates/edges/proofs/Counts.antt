@@ -12,13 +12,13 @@ use mathlib.Core.Option.{some}
 use borrow.Author.Tests.{eq-eqb, ne-eqb}
 use lib.Dec.{eqb}
 use lib.ListN.{length, getD}
-use Rattle.mesh.specs.Mesh.{Side, side, key, same, Tri, tri, indexIn, sides, one, total, count, Numbered, All, Same}
+use Rattle.mesh.specs.Mesh.{Side, side, key, same, Tri, tri, indexIn, sides, one, total, count, Numbered, All, Same, Distinct}
 use Rattle.mesh.proofs.Cuts.{key-same, same-key, same-cases, index-only}
 use Rattle.mesh.proofs.Weigh.{F, F-cases, F-one, around}
-use Rattle.mesh.proofs.Local.{Distinct}
 use Rattle.mesh.proofs.Whole.{count-around}
 use Rattle.edges.specs.Table.{loOf, hiOf, sidesIn, NumbersOf}
-use Rattle.edges.specs.Numbering.{triFrom, trisFrom, NumberedTo, occurs, times, listed, EachCounted}
+use Rattle.edges.specs.Numbering.{triFrom, trisFrom, NumberedTo, occurs, EachCounted}
+use Rattle.edges.specs.Sides.{times, listed}
 use Rattle.edges.proofs.Tree.{length-pairs}
 
 -- ---- listed sides

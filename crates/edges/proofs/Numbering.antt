@@ -14,7 +14,7 @@ use lib.ListN.{length, length-append, getD, List·getD-append, set, length-set, 
 use lib.Seq.{getD-at, getD-set-same, getD-set-other, sets, length-sets}
 use Rattle.mesh.specs.Mesh.{Side, side, key, Tri, tri, indexIn, met, metAll, sides, sidesAfter, one}
 use Rattle.mesh.proofs.Theorem.{index-below}
-use Rattle.runs.proofs.Runs.{sets-before, sets-behind}
+use Rattle.slices.proofs.Runs.{sets-before, sets-behind}
 use Rattle.edges.specs.Table.{pairs, loOf, hiOf, sidesIn, Held, MetTri, NumbersOf}
 use Rattle.edges.specs.Numbering.{triFrom, trisFrom, NumberingRoom, NumberStep, NumberedTo, occurs, Below, Counted}
 use Rattle.edges.proofs.Tree.{length-pairs, trees-same, met-keeps}

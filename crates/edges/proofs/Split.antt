@@ -7,9 +7,10 @@ use mathlib.Core.List.{List, [], _∷_, map, map-append}
 use lib.ListN.{length, length-append, getD, set}
 use lib.Seq.{sets, length-sets}
 use Rattle.mesh.specs.Mesh.{Side, side}
-use Rattle.runs.proofs.Runs.{sets-before, sets-within, sets-next}
+use Rattle.slices.proofs.Runs.{sets-before, sets-within, sets-next}
 use Rattle.edges.proofs.Tree.{length-pairs}
-use Rattle.edges.specs.Table.{pairs, loOf, hiOf, sidesIn, lower, upper, fourths, split}
+use Rattle.edges.specs.Table.{pairs, loOf, hiOf, sidesIn, fourths, split}
+use Rattle.edges.specs.Sides.{lower, upper}
 
 length-fourths : (a : ℕ) (w : List ℕ) (m : ℕ) → length (fourths a w m) ≡ m
 unfolding fourths

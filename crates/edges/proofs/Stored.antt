@@ -14,7 +14,7 @@ use lib.ListN.{length, getD, set, length-set, replicate}
 use lib.Seq.{getD-set-same, getD-set-other, sets, length-sets}
 use borrow.Author.Tests.{lt-ltb, le-ltb}
 use Rattle.mesh.specs.Mesh.{Side, side, key, tri, indexIn, met}
-use Rattle.runs.proofs.Runs.{sets-before}
+use Rattle.slices.proofs.Runs.{sets-before}
 use Rattle.mesh.proofs.Cuts.{index-end, met-old, met-new, met-numbered}
 use Rattle.edges.specs.Table.{slotOf, pairs, Spot, bucket, link, Trees, holdOf, loOf, hiOf, underOf, sidesIn, Held, WalkedIn, Outside, Met, MetTri}
 use Rattle.edges.proofs.Tree.{Put, trees-more, no-trees, new-pairs, length-pairs, some-of, none-of, pairs-most, three-met}
@@ -201,10 +201,6 @@ met-three {o} {N} {w} {m = m} a b c x y z =
     }
 
 -- ---- an empty table
-
-pub zeros-more : (l : List ℕ) (i k : ℕ) → set (sets l i (replicate k 0)) (i + k) 0 ≡ sets l i (replicate (suc k) 0)
-zeros-more l i zero = let e : i + 0 ≡ i = omega arith in ap (λ (j : ℕ). set l j 0) e
-zeros-more l i (suc k) = let e : i + suc k ≡ suc i + k = omega arith in ap (λ (j : ℕ). set (sets (set l i 0) (suc i) (replicate k 0)) j 0) e ∙ zeros-more (set l i 0) (suc i) k
 
 pub zeros-at : (l : List ℕ) (i k j : ℕ) → i + k ≤ length l → j < k → getD (sets l i (replicate k 0)) (i + j) 0 ≡ 0
 zeros-at l i zero j r h = absurd (omega arith)

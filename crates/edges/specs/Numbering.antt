@@ -6,8 +6,9 @@ use mathlib.Core.Logic.{_⊎_}
 use mathlib.Core.List.{List, [], _∷_, _++_}
 use lib.Dec.{eqb}
 use lib.ListN.{length, getD}
-use Rattle.mesh.specs.Mesh.{Side, side, Tri, tri, same, sides, metAll, sidesAfter, one}
+use Rattle.mesh.specs.Mesh.{side, Tri, tri, sides, metAll, sidesAfter, one}
 use Rattle.edges.specs.Table.{sidesIn, Held, NumbersOf}
+use Rattle.edges.specs.Sides.{times, listed}
 
 -- triangle i of those whose corners stand from c on
 abbrev pub triFrom : ℕ → List ℕ → ℕ → Tri
@@ -60,16 +61,6 @@ pub record Counted (e k a m : ℕ) (w w′ : List ℕ) : Type 0 where
   pub same-length : length w′ ≡ length w
   pub counts : (s : ℕ) → s < m → getD w′ (a + s) 0 ≡ occurs s e w k
   pub elsewhere : (j : ℕ) → (j < a) ⊎ (a + m ≤ j) → getD w′ j 0 ≡ getD w j 0
-
--- how often a side is listed: the Rust's count of a side, in the HashMap of boundary_targets
-unfoldable pub times : Side → List Side → ℕ
-times s [] = 0
-times s (t ∷ ts) = one (same s t) + times s ts
-
--- the three sides of each triangle, one after the other
-unfoldable pub listed : List Tri → List Side
-listed [] = []
-listed (t ∷ ts) = sides t ++ listed ts
 
 -- how often a number occurs among the numbers of a list of triangles is how often its side is listed there
 abbrev pub EachCounted : ℕ → ℕ → ℕ → ℕ → ℕ → List ℕ → List ℕ → ℕ → Type 0

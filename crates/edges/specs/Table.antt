@@ -14,6 +14,7 @@ use lib.ListN.{length, getD}
 use lib.Seq.{sets}
 use Rattle.mesh.specs.Mesh.{Side, side, key, Tri, tri, sides, met, metAll, indexIn, Numbered}
 use Rattle.edges.specs.declared.Table.{Table}
+use Rattle.edges.specs.Sides.{lower, upper}
 
 -- the bucket of a side, of N buckets: its lower end, where there are so many
 unfoldable pub slotOf : ℕ → ℕ → ℕ → ℕ
@@ -109,13 +110,6 @@ cutsIn t u = sidesIn (t .base) (t .buckets) u (t .sides)
 -- where a table ends in its slice
 abbrev pub endOf : Table → ℕ
 endOf t = t .base + t .buckets + 4 * t .sides
-
--- a side's lower and its upper end
-abbrev pub lower : Side → ℕ
-lower (side a b) = a
-
-abbrev pub upper : Side → ℕ
-upper (side a b) = b
 
 -- w with the lower ends of the first m sides of a table from f on, and their upper ends from t on
 unfoldable pub split : ℕ → ℕ → ℕ → ℕ → ℕ → List ℕ → List ℕ

@@ -71,24 +71,12 @@ fn same_side(a: u32, b: u32, c: u32, d: u32) -> bool
     a == c && b == d
 }
 
-// Zeros at n places from `base` on.
-pub fn zeros(w: &mut [u32], base: usize, n: usize)
-    requires { ⌜ base + n ≤ length (now w) ⌝ }
-    ensures { λ _. ⌜ now (w .exit) ≡ sets (now (w .entry)) base (replicate n 0) ⌝ }
-{
-    let mut i = 0;
-    while i < n {
-        w[base + i] = 0;
-        i += 1;
-    }
-}
-
 // A table of n buckets with no sides.
 pub fn clear(w: &mut [u32], base: usize, n: usize)
     requires { ⌜ ((0 < n) × (n ≤ 2 ^ 32)) × (base + n ≤ length (now w)) ⌝ }
     ensures { λ _. ⌜ (now (w .exit) ≡ sets (now (w .entry)) base (replicate n 0)) × Held base n (now (w .exit)) 0 ⌝ }
 {
-    zeros(w, base, n);
+    slices::zeros_u32(w, base, n);
 }
 
 // Where the walk to a side ends: one more than the side's number, or 0 and the empty position.

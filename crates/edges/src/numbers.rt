@@ -126,6 +126,6 @@ pub fn count_numbers(w: &mut [u32], e: usize, k: usize, a: usize, m: usize)
     requires { ⌜ Below m e (now w) k ⌝ }
     ensures { λ _. ⌜ Counted e k a m (now (w .entry)) (now (w .exit)) ⌝ }
 {
-    crate::zeros(w, a, m);
+    slices::zeros_u32(w, a, m);
     count_all(w, e, k, a, m);
 }

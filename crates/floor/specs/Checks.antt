@@ -7,16 +7,9 @@ use lib.ListN.{length, getD}
 use lib.Ieee.{Float, nan, lt}
 use Rattle.float.specs.Double.{lit, isFinite, notPositive}
 use Rattle.mesh.specs.Points.{xOf, yOf}
-use Rattle.floor.specs.declared.Refusal.{Refusal}
+use Rattle.refusals.specs.Refusal.{row, rowAt}
 use Rattle.floor.specs.declared.Check.{Check}
 use Rattle.floor.specs.declared.Check.the-variants.{Sound, Refused}
-
--- a refusal by its number in the table; its place is 0 where the table says "none"
-abbrev pub row : ℕ → Refusal
-row k = record { number = k; place = 0 }
-
-abbrev pub rowAt : ℕ → ℕ → Refusal
-rowAt k i = record { number = k; place = i }
 
 -- what was found below i, or else i where it holds here, or else the next
 abbrev pub orHere : Bool → ℕ → ℕ → ℕ

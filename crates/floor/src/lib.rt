@@ -1,15 +1,11 @@
 // What is wrong with a floor, by document 01's table: rows 1 and 3 to 8, tested in table order, the lowest index first.
+use refusals::Refusal;
 ghost use mathlib.Core.Path.{_≡_};
 ghost use Prim.Native.Nat.{_+_, _*_, _/_, _≤_};
 ghost use lib.ListN.{length, getD};
 ghost use lib.Ieee.{nan};
-ghost use Rattle.floor.specs.Checks.{lowest, wellFormed, badPoint, badSize, badCorner, notFiniteOrBelowZero, rowAt, checkFloor};
-
-// A row of the table, and the place that it reports: 0 where the table says "none".
-pub struct Refusal {
-    pub number: u64,
-    pub place: u64,
-}
+ghost use Rattle.refusals.specs.Refusal.{rowAt};
+ghost use Rattle.floor.specs.Checks.{lowest, wellFormed, badPoint, badSize, badCorner, notFiniteOrBelowZero, checkFloor};
 
 pub enum Check {
     Sound,
@@ -126,6 +122,9 @@ pub fn refused(number: u64, place: usize) -> Check
     Check::Refused(Refusal {
         number,
         place: place as u64,
+        other: 0,
+        pass: 0,
+        reason: 0,
     })
 }
 

@@ -18,7 +18,8 @@ use Rattle.float.proofs.Less.{level-self}
 use Rattle.float.proofs.Sign.{Flat, Plain, Number, Opposite, flat-round, plain-round, mul-either, sub-opposite, mag-neg, lt-neg, flat-between, square-plain, add-plain, max-plain, mul-plain, flat-le}
 use Rattle.plane.specs.declared.Pair.{Pair}
 use Rattle.geometry.specs.declared.Geometry.the-variants.{Degenerate}
-use Rattle.geometry.specs.Triangle.{orientation, side2, longest, areaOf, degenerate, placed, geometry, number, at}
+use Rattle.plane.specs.Pair.{orientation}
+use Rattle.geometry.specs.Triangle.{side2, longest, areaOf, degenerate, placed, geometry, number, at}
 
 -- ---- zeros
 zero-sum : (f : Format) (s t : Bool) (a b c : ℕ) → 0 < c → a ≡ 0 → b ≡ 0 → Flat (sum f s a t b c)

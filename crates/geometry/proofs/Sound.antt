@@ -17,7 +17,8 @@ use Rattle.float.proofs.Far.{Far, Large, far-apart, far-square, large-or}
 use Rattle.plane.specs.declared.Pair.{Pair}
 use Rattle.geometry.specs.declared.Geometry.{Geometry}
 use Rattle.geometry.specs.declared.Geometry.the-variants.{Degenerate}
-use Rattle.geometry.specs.Triangle.{orientation, side2, longest, areaOf, SMALLEST-AREA, degenerate, placed, geometry, number}
+use Rattle.plane.specs.Pair.{orientation}
+use Rattle.geometry.specs.Triangle.{side2, longest, areaOf, SMALLEST-AREA, degenerate, placed, geometry, number}
 use Rattle.geometry.proofs.Orientation.{Bare, side-bare, Way, longest-plain, orientation-ways, scaled-plain, sub-self, sub-flat, mul-flat, flat-degenerate}
 
 -- ---- the area

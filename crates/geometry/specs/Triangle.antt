@@ -6,13 +6,9 @@ use lib.ListN.{getD}
 use lib.Ieee.{Float, nan, lt, le}
 use Rattle.float.specs.Double.{lit, HALF, mag, isFinite, maxOf, recipOf, _⊕_, _⊗_}
 use Rattle.plane.specs.declared.Pair.{Pair}
-use Rattle.plane.specs.Pair.{sub2, dot2, cross2, rotate90, scale2, no-pair}
+use Rattle.plane.specs.Pair.{sub2, dot2, rotate90, scale2, no-pair, orientation}
 use Rattle.geometry.specs.declared.Geometry.{Geometry}
 use Rattle.geometry.specs.declared.Geometry.the-variants.{Triangle, Degenerate}
-
--- twice the signed area of a b c
-unfoldable pub orientation : Pair → Pair → Pair → Float
-orientation a b c = cross2 (sub2 b a) (sub2 c a)
 
 -- the squared length of the side from p to q
 unfoldable pub side2 : Pair → Pair → Float
@@ -62,9 +58,6 @@ gradient p q r sp sq sr area =
     record { x = sp ⊗ g0 .x ⊕ sq ⊗ g1 .x ⊕ sr ⊗ g2 .x; y = sp ⊗ g0 .y ⊕ sq ⊗ g1 .y ⊕ sr ⊗ g2 .y }
 
 -- ---- the same of arrays of three, which is how the program passes corners and positions
-abbrev pub twiceArea : List Pair → Float
-twiceArea ps = orientation (getD ps 0 no-pair) (getD ps 1 no-pair) (getD ps 2 no-pair)
-
 abbrev pub longestOf : List Pair → Float
 longestOf ps = longest (getD ps 0 no-pair) (getD ps 1 no-pair) (getD ps 2 no-pair)
 

@@ -1,7 +1,7 @@
 // The geometry of one triangle and one edge of a pass: corners put counter-clockwise, area, size gradient, transport
 // along an edge; and the weight of an anisotropic metric. Positions are pairs x, y: no z is ever read.
 ghost use mathlib.Core.Path.{_≡_};
-ghost use Rattle.geometry.specs.Triangle.{twiceArea, side2, longestOf, placedOf, geometryOf, hatGradient, gradientOf};
+ghost use Rattle.geometry.specs.Triangle.{side2, longestOf, placedOf, geometryOf, hatGradient, gradientOf};
 ghost use Rattle.geometry.specs.Edge.{transportAngle, transportOf, alignmentWeight};
 use complex::Complex;
 use plane::Pair;
@@ -21,13 +21,6 @@ pub struct TriangleGeometry {
 pub enum Geometry {
     Triangle(TriangleGeometry),
     Degenerate(usize),
-}
-
-fn twice_signed_area(positions: [Pair; 3]) -> f64
-    ensures { λ r. ⌜ r ≡ twiceArea positions ⌝ }
-{
-    let a = positions[0];
-    plane::cross2(plane::sub2(positions[1], a), plane::sub2(positions[2], a))
 }
 
 fn squared_side(from: Pair, to: Pair) -> f64
@@ -76,7 +69,7 @@ fn judge(vertices: [usize; 3], positions: [Pair; 3], area: f64, index: usize) ->
 pub fn triangle_geometry(vertices: [usize; 3], positions: [Pair; 3], index: usize) -> Geometry
     ensures { λ r. ⌜ r ≡ geometryOf vertices positions index ⌝ }
 {
-    let twice = twice_signed_area(positions);
+    let twice = plane::twice_signed_area(positions);
     let area = 0.5 * float::abs(twice);
     if twice < 0.0 {
         return judge(

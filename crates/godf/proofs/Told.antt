@@ -13,15 +13,15 @@ use Rattle.solve.specs.Passes.{callFor}
 use Rattle.godf.specs.Solve.{reportOf, SolveTold}
 
 module _ (points : List Float) (triangles : List ℕ) (sizes angles : List Float) (l : Lent) {o o′ : Options} {a a′ : Asked}
-    {r : Outcome} {coarse fine work : List Float} {numbers : List ℕ} {number : ℕ} {report : List ℕ} where
+    {r : Outcome} {coarse fine work : List Float} {words : List ℕ} {number : ℕ} {report : List ℕ} where
   -- the options and what is asked, as read from C's numbers
-  pub solve-told : o ≡ o′ → a ≡ a′ → Ends (solveOf passOf (callFor points triangles sizes angles o a) l) r coarse fine work numbers →
-      number ≡ numberOf r → report ≡ reportOf r → SolveTold (solveOf passOf (callFor points triangles sizes angles o′ a′) l) number coarse fine work numbers report
+  pub solve-told : o ≡ o′ → a ≡ a′ → Ends (solveOf passOf (callFor points triangles sizes angles o a) l) r coarse fine work words →
+      number ≡ numberOf r → report ≡ reportOf r → SolveTold (solveOf passOf (callFor points triangles sizes angles o′ a′) l) number coarse fine work words report
   solve-told eo ea e en er = rw (← eo, ← ea) (record {
     told = en ∙ ap numberOf (e .outcome);
     coarse-left = e .coarse-left;
     fine-left = e .fine-left;
     work-left = e .work-left;
-    numbers-left = e .numbers-left;
+    words-left = e .words-left;
     reported = er ∙ ap reportOf (e .outcome);
   })

@@ -51,12 +51,12 @@ reportOf (Solved c) = 0 ∷ 0 ∷ 0 ∷ 0 ∷ 0 ∷ c .flagged ∷ c .cut ∷ []
 reportOf (Refused x) = x .number ∷ x .place ∷ x .other ∷ x .pass ∷ x .reason ∷ 0 ∷ 0 ∷ []
 
 -- the solve as C sees it: the number that it returns, the four slices and the report
-pub record SolveTold (e : Ended) (number : ℕ) (coarse fine work : List Float) (numbers report : List ℕ) : Type 0 where
+pub record SolveTold (e : Ended) (number : ℕ) (coarse fine work : List Float) (words report : List ℕ) : Type 0 where
   pub told : number ≡ numberOf (e .outcome)
   pub coarse-left : coarse ≡ e .lent .coarse
   pub fine-left : fine ≡ e .lent .fine
   pub work-left : work ≡ e .lent .work
-  pub numbers-left : numbers ≡ e .lent .numbers
+  pub words-left : words ≡ e .lent .words
   pub reported : report ≡ reportOf (e .outcome)
 
 -- ---- how long the lent slices have to be, by row 18

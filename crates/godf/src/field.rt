@@ -1,12 +1,12 @@
-// The two calls that read a field: the probe and the count of singularities. An answer's case is a code, and its numbers go to
-// places that the caller lends, which keep what they hold where the answer has none.
+// The two calls that read a field: the probe and the count of singularities. They return a code. Numbers are written through the caller's
+// references, which keep their value if the answer has none.
 ghost use Rattle.probe.specs.Probe.{probeOf};
 ghost use Rattle.singularities.specs.Count.{singularities};
 ghost use Rattle.godf.specs.Answers.{Probed, CountedIn};
 use probe::Probe;
 use singularities::Singularities;
 
-// 0: the angle at (x, y) is in `angle`; 1: a slice is not of whole triples; 2: no angle; 3: an angle given is above 131,072 in size.
+// 0: `angle` is the angle at (x, y); 1: a length is not a multiple of 3; 2: no angle; 3: an angle of `alpha` is over 131,072 in absolute value.
 #[no_mangle]
 pub extern "C" fn godf_interp_angle(
     alpha: &[f64],
@@ -30,7 +30,7 @@ pub extern "C" fn godf_interp_angle(
     }
 }
 
-// 0: the counts of triangles of charge above and below 0 are in `valence_3` and `valence_5`; 1: the corners are not of whole triples.
+// 0: `valence_3` and `valence_5` count the triangles of positive and of negative charge; 1: the number of corners is not a multiple of 3.
 #[no_mangle]
 pub extern "C" fn godf_count_singularities(
     alpha: &[f64],

@@ -1,8 +1,9 @@
-// What C and Rust call. Each function is one of a layer below under C's calling rules, and include/godf.h mirrors this file.
+// The C interface. Each function calls one of a lower layer; include/godf.h declares and documents it.
 pub mod field;
 pub mod product;
 pub mod refine;
 pub mod solve_call;
+pub mod version;
 
 ghost use mathlib.Core.Path.{_≡_};
 ghost use mathlib.Core.Bool.{true};
@@ -13,7 +14,7 @@ ghost use Rattle.arctangent.specs.Arc.{atan2Of};
 ghost use Rattle.root.specs.Root.{rootOf};
 ghost use Rattle.root.specs.Nearest.{Nearest};
 
-// The sine.
+// Sine of x radians.
 #[no_mangle]
 pub extern "C" fn godf_sin(x: f64) -> f64
     ensures { λ r. ⌜ r ≡ sinOf x ⌝ }
@@ -21,7 +22,7 @@ pub extern "C" fn godf_sin(x: f64) -> f64
     sine::sin(x)
 }
 
-// The cosine.
+// Cosine of x radians.
 #[no_mangle]
 pub extern "C" fn godf_cos(x: f64) -> f64
     ensures { λ r. ⌜ r ≡ cosOf x ⌝ }
@@ -29,7 +30,7 @@ pub extern "C" fn godf_cos(x: f64) -> f64
     sine::cos(x)
 }
 
-// The arc of the point (x, y).
+// Angle of the point (x, y), from -pi to pi.
 #[no_mangle]
 pub extern "C" fn godf_atan2(y: f64, x: f64) -> f64
     ensures { λ r. ⌜ r ≡ atan2Of y x ⌝ }
@@ -37,7 +38,7 @@ pub extern "C" fn godf_atan2(y: f64, x: f64) -> f64
     arctangent::atan2(y, x)
 }
 
-// The square root; of a positive finite double the nearest double to it.
+// Square root: for a positive finite x the nearest double.
 #[no_mangle]
 pub extern "C" fn godf_sqrt(x: f64) -> f64
     ensures { λ r. ⌜ r ≡ rootOf x ⌝ }

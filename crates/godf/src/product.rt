@@ -1,9 +1,9 @@
-// The product of a Hermitian matrix and a vector, one vertex at a time: for callers that spread it over threads. A complex number is a pair re, im.
+// The product of a Hermitian matrix and a vector, one vertex at a time, for callers that spread it over threads. A complex number is two doubles, re and im.
 ghost use Rattle.linear_rows.specs.Vertex.{pairsOf, lentMatrix, vertexProduct};
 ghost use Rattle.godf.specs.Product.{ListsTold, ProductTold};
 use linear_rows::lent::Product;
 
-// 0: `lists` has the lists of the edges at n vertices; 1: an edge has not two different ends below n, or a slice is too short, and nothing is written.
+// 0: `lists` has the edges at each of n vertices; 1: an edge does not have two different ends below n, or a slice is too short; then nothing is written.
 #[no_mangle]
 pub extern "C" fn godf_vertex_lists(n: usize, from: &[u32], to: &[u32], lists: &mut [u32]) -> u32
     ensures { λ r. ⌜ ListsTold n (now (from .entry)) (now (to .entry)) (now (lists .entry)) r (now (lists .exit)) ⌝ }
@@ -14,7 +14,7 @@ pub extern "C" fn godf_vertex_lists(n: usize, from: &[u32], to: &[u32], lists: &
     1
 }
 
-// 0: `re` and `im` have the product at `vertex`; 1: an index lies outside its slice, and nothing is written.
+// 0: `re` and `im` are the product at `vertex`; 1: an index is outside of its slice; then nothing is written.
 #[no_mangle]
 pub extern "C" fn godf_vertex_product(
     diagonal: &[f64],

@@ -1,11 +1,11 @@
-// The refinement call, with the angles given. A slice is a pointer and a length.
+// The refinement call. For C a slice is a pointer and a length.
 ghost use mathlib.Core.Path.{_≡_};
 ghost use mathlib.Core.List.{[], _∷_};
 ghost use lib.ListN.{set};
 ghost use lib.Seq.{sets};
 ghost use Rattle.godf.specs.Report.{codeOf, numbersOf, ToldOn};
 
-// x at i, if the slice goes so far.
+// Sets report[i] to x if the slice is long enough.
 fn put(report: &mut [u64], i: usize, x: u64)
     ensures { λ _. ⌜ now (report .exit) ≡ set (now (report .entry)) i x ⌝ }
 {
@@ -23,7 +23,7 @@ fn put_four(report: &mut [u64], a: u64, b: u64, c: u64, d: u64)
     put(report, 3, d);
 }
 
-// Tells an answer: its code, and as many of its four numbers as the slice has room for.
+// Returns the refusal number, or 0, and writes at most report.len() of the four numbers of the report.
 fn tell(answer: refine_call::Answer, report: &mut [u64]) -> u64
     ensures { λ r. ⌜ (r ≡ codeOf answer) × (now (report .exit) ≡ sets (now (report .entry)) 0 (numbersOf answer)) ⌝ }
 {
@@ -45,7 +45,7 @@ fn tell(answer: refine_call::Answer, report: &mut [u64]) -> u64
     }
 }
 
-// Refinement with the angles given: refine_call::refine. 0 and the counts of points, triangles, flagged triangles and cut sides in `report`, or the number of a refusal and its place.
+// refine_call::refine. Returns 0, with the numbers of points, triangles, flagged triangles and cut edges in `report`; or a refusal number, with its place.
 #[no_mangle]
 pub extern "C" fn godf_refine(
     points: &[f64],

@@ -1,5 +1,5 @@
-// The solve. A slice is a pointer and a length, a reference to an array a pointer: C sees seven doubles as a struct godf_options, and seven numbers as a
-// struct godf_report.
+// The solve call. For C a slice is a pointer and a length, and a reference to an array is a pointer: seven doubles are a struct godf_options, seven
+// numbers a struct godf_report.
 ghost use mathlib.Core.Path.{_≡_};
 ghost use Prim.Native.Nat.{_≤_};
 ghost use Rattle.pass.specs.Pass.{passOf};
@@ -11,14 +11,14 @@ use pass::Asked;
 use pass_options::BoundaryMode;
 use pass_options::Options;
 
-// The boundary modes as numbers.
+// Boundary modes: GODF_BOUNDARY_NONE, _TANGENT and _WEAK in godf.h.
 const NONE: f64 = 0.0;
 
 const TANGENT: f64 = 1.0;
 
 const WEAK: f64 = 2.0;
 
-// Any other number is a weak mode of this weight, which row 13 refuses.
+// Any other number becomes a weak mode of this weight, which is refusal 13.
 const NO_WEIGHT: f64 = -1.0;
 
 fn boundary_of(mode: f64, weight: f64) -> BoundaryMode
@@ -60,7 +60,7 @@ fn asked_of(guided: u32, weight: f64, iterations: usize) -> Asked
     }
 }
 
-// Tells an outcome: its number, and all seven of the report.
+// Fills the report and returns the refusal number, or 0.
 fn tell_outcome(outcome: Outcome, report: &mut [u64; 7]) -> u64
     ensures { λ r. ⌜ (r ≡ numberOf outcome) × (now (report .exit) ≡ reportOf outcome) ⌝ }
 {
@@ -76,7 +76,7 @@ fn tell_outcome(outcome: Outcome, report: &mut [u64; 7]) -> u64
     }
 }
 
-// A solve: solve::solve. 0, or the number of a refusal.
+// solve::solve. Returns 0, or a refusal number.
 #[no_mangle]
 pub extern "C" fn godf_solve(
     points: &[f64],
@@ -90,14 +90,14 @@ pub extern "C" fn godf_solve(
     coarse: &mut [f64],
     fine: &mut [f64],
     work: &mut [f64],
-    numbers: &mut [u32],
+    words: &mut [u32],
     report: &mut [u64; 7],
 ) -> u64
     ensures { λ r. ⌜ SolveTold
         (solveOf passOf
         (callFor (now (points .entry)) (now (triangles .entry)) (now (sizes .entry)) (now (guidance .entry)) (optionsOf (now (options .entry))) (askedOf guided weight iterations))
-        (lent (now (coarse .entry)) (now (fine .entry)) (now (work .entry)) (now (numbers .entry))))
-        r (now (coarse .exit)) (now (fine .exit)) (now (work .exit)) (now (numbers .exit)) (now (report .exit)) ⌝ }
+        (lent (now (coarse .entry)) (now (fine .entry)) (now (work .entry)) (now (words .entry))))
+        r (now (coarse .exit)) (now (fine .exit)) (now (work .exit)) (now (words .exit)) (now (report .exit)) ⌝ }
 {
     let o = options_of(options);
     let a = asked_of(guided, weight, iterations);
@@ -109,14 +109,14 @@ pub extern "C" fn godf_solve(
         coarse,
         fine,
         work,
-        numbers,
+        words,
         o,
         a,
     );
     tell_outcome(outcome, report)
 }
 
-// Row 18's n' and t'.
+// n' and t' of refusal 18: the most points and triangles after refinement.
 pub struct Most {
     pub points: usize,
     pub triangles: usize,
@@ -144,7 +144,7 @@ fn most_of(n: usize, triangles: usize, threshold: f64) -> Most
     }
 }
 
-// How long the fine slice has to be by row 18; 0 where row 1 refuses so many points and triangles.
+// Length of the fine slice by refusal 18; 0 above the limits of refusal 1.
 #[no_mangle]
 pub extern "C" fn godf_fine_count(n: usize, triangles: usize, threshold: f64) -> usize
     ensures { λ r. ⌜ r ≡ fineCount n triangles threshold ⌝ }
@@ -155,7 +155,7 @@ pub extern "C" fn godf_fine_count(n: usize, triangles: usize, threshold: f64) ->
     0
 }
 
-// The f64 work likewise.
+// Length of the f64 work by refusal 18; 0 above the limits of refusal 1.
 #[no_mangle]
 pub extern "C" fn godf_work_f64(n: usize, triangles: usize, threshold: f64) -> usize
     ensures { λ r. ⌜ r ≡ workReals n triangles threshold ⌝ }
@@ -164,7 +164,7 @@ pub extern "C" fn godf_work_f64(n: usize, triangles: usize, threshold: f64) -> u
     64 * m.points + 32 * m.triangles
 }
 
-// The u32 work likewise.
+// Length of the u32 work by refusal 18; 0 above the limits of refusal 1.
 #[no_mangle]
 pub extern "C" fn godf_work_u32(n: usize, triangles: usize, threshold: f64) -> usize
     ensures { λ r. ⌜ r ≡ workWords n triangles threshold ⌝ }
@@ -173,7 +173,7 @@ pub extern "C" fn godf_work_u32(n: usize, triangles: usize, threshold: f64) -> u
     16 * m.points + 32 * m.triangles
 }
 
-// The answer of a solve: calls::answer, as the first `count` angles of `coarse` (0) or of `fine` (1).
+// calls::answer: the field is the first `count` angles of `coarse` (0 is returned) or of `fine` (1).
 #[no_mangle]
 pub extern "C" fn godf_answer<'a>(
     coarse: &'a [f64],

@@ -1,12 +1,13 @@
 -- Laws of `region` and `put`, over any kind of element: what is read after a store, and in which order stores may be taken. Assumes nothing.
 use mathlib.Core.Path.{_≡_, refl, sym, ap, _∙_}
 use mathlib.Core.Logic.{_⊎_, ⊎-elim}
-use mathlib.Core.List.{List, [], _∷_}
+use mathlib.Core.List.{List, [], _∷_, _++_}
 use Prim.Native.Nat.{ℕ, zero, suc, _+_, _≤_, _<_}
 use native.Mathlib.Nat.{le-of-suc-le-suc, not-suc-le-zero, zero-add, add-zero, add-suc, suc-add}
 use native.Mathlib.Omega.{arith}
-use lib.ListN.{length, getD, set, length-set}
-use lib.Seq.{getD-set-same, getD-set-other, set-comm, set-set, set-getD, ext-getD}
+use lib.ListN.{length, getD, set}
+use lib.Seq.{sets, length-sets, set-comm, set-set, set-getD, ext-getD}
+use Rattle.slices.proofs.Runs.{sets-append, sets-before, sets-behind, sets-at}
 use Rattle.linear_cells.specs.Region.{region, put, Apart}
 use Rattle.linear_cells.proofs.Loops.{apart-cases, length-tab, getD-tab, tab-ext}
 
@@ -21,27 +22,32 @@ module _ {ℓ} {A : Type ℓ} where
 
   pub length-put : (xs : List A) (at : ℕ) (vs : List A) → length (put xs at vs) ≡ length xs
   unfolding put
-  length-put xs at [] = refl
-  length-put xs at (v ∷ vs) = length-put (set xs at v) (suc at) vs ∙ length-set xs at v
+  length-put xs at vs = length-sets xs at vs
+
+  pub put-sets : (xs : List A) (at : ℕ) (vs : List A) → put xs at vs ≡ sets xs at vs
+  unfolding put
+  put-sets xs at vs = refl
+
+  pub put-append : (w : List A) (at : ℕ) (xs ys : List A) → put w at (xs ++ ys) ≡ put (put w at xs) (at + length xs) ys
+  unfolding put
+  put-append w at xs ys = sym (sets-append w at xs ys)
+
+  -- the second run's place given as a number
+  pub put-next : (w : List A) (at : ℕ) (xs ys : List A) {n : ℕ} → length xs ≡ n → put (put w at xs) (at + n) ys ≡ put w at (xs ++ ys)
+  put-next w at xs ys e = rw (sym e) (sym (put-append w at xs ys))
 
   -- ---- one element after a put: below it, above it, within it
   put-below : (xs : List A) (at : ℕ) (vs : List A) (i : ℕ) (d : A) → i < at → getD (put xs at vs) i d ≡ getD xs i d
   unfolding put
-  put-below xs at [] i d l = refl
-  put-below xs at (v ∷ vs) i d l = put-below (set xs at v) (suc at) vs i d (omega arith) ∙ getD-set-other xs at i v d (λ e. omega arith)
+  put-below xs at vs i d l = sets-before xs at vs i d l
 
   put-above : (xs : List A) (at : ℕ) (vs : List A) (i : ℕ) (d : A) → at + length vs ≤ i → getD (put xs at vs) i d ≡ getD xs i d
   unfolding put
-  put-above xs at [] i d l = refl
-  put-above xs at (v ∷ vs) i d l = put-above (set xs at v) (suc at) vs i d (omega arith) ∙ getD-set-other xs at i v d (λ e. omega arith)
+  put-above xs at vs i d l = sets-behind xs at vs i d l
 
   pub put-within : (xs : List A) (at : ℕ) (vs : List A) (i : ℕ) (d : A) → i < length vs → at + i < length xs → getD (put xs at vs) (at + i) d ≡ getD vs i d
   unfolding put
-  put-within xs at [] i d l h = absurd (not-suc-le-zero l)
-  put-within xs at (v ∷ vs) zero d l h =
-      rw add-zero (put-below (set xs at v) (suc at) vs at d (omega arith) ∙ getD-set-same xs at v d (omega arith))
-  put-within xs at (v ∷ vs) (suc i) d l h =
-      rw (add-suc, ← suc-add) (put-within (set xs at v) (suc at) vs i d (le-of-suc-le-suc l) (rw length-set (omega arith)))
+  put-within xs at vs i d l h = sets-at xs at vs i d h l
 
   -- ---- a store after a put
   set-put-below : (xs : List A) (at : ℕ) (vs : List A) (i : ℕ) (x : A) → i < at → set (put xs at vs) i x ≡ put (set xs i x) at vs

@@ -1,14 +1,13 @@
 -- The iterations of the loops that fill, copy and zero. Assumes nothing.
-use mathlib.Core.Path.{_≡_, sym, ap, _∙_}
+use mathlib.Core.Path.{_≡_, ap, _∙_}
 use mathlib.Core.List.{List}
 use Prim.Native.Nat.{ℕ, _+_, _≤_, _<_}
-use native.Mathlib.Nat.{zero-add}
 use native.Mathlib.Omega.{arith}
 use lib.Ieee.{Float, nan}
-use lib.ListN.{length, getD, set, replicate, length-replicate}
+use lib.ListN.{length, getD, set, replicate}
 use Rattle.linear_cells.specs.Region.{tab, region, put, Apart}
 use Rattle.linear_cells.proofs.Loops.{tab-replicate}
-use Rattle.linear_cells.proofs.Regions.{length-region, put-region, put-else, put-all}
+use Rattle.linear_cells.proofs.Regions.{length-region, put-region, put-else}
 use Rattle.linear_cells.proofs.Over.{over, over-none, length-over, over-all, over-region}
 
 -- ---- f i is stored at b + i, for each i below n
@@ -53,24 +52,6 @@ module _ {ℓ} {A : Type ℓ} (d : A) (w : List A) (b n : ℕ) (v : A) where
   pub fill-done : {w₁ : List A} {i : ℕ} → i ≤ n → n ≤ i → w₁ ≡ put w b (fillTo i) → w₁ ≡ put w b (replicate n v)
   unfolding fillTo
   fill-done l g e = write-done d w b n (λ j. v) l g e ∙ ap (put w b) (tab-replicate v n)
-
--- ---- zero: a fill of the whole slice
-
-module _ {ℓ} {A : Type ℓ} (d : A) (w : List A) (v : A) where
-  unfoldable pub zeroTo : ℕ → List A
-  zeroTo i = put w 0 (fillTo d w 0 (length w) v i)
-
-  pub zero-none : w ≡ zeroTo 0
-  unfolding zeroTo
-  zero-none = fill-none d w 0 (length w) v
-
-  pub zero-again : (i : ℕ) → i < length w → {w₁ w₂ : List A} → w₁ ≡ zeroTo i → w₂ ≡ set w₁ i v → w₂ ≡ zeroTo (i + 1)
-  unfolding zeroTo
-  zero-again i l {w₁} e₁ e₂ = fill-again d w 0 (length w) v (omega arith) i l e₁ (e₂ ∙ ap (λ j. set w₁ j v) (sym (zero-add i)))
-
-  pub zero-done : {w₁ : List A} {i : ℕ} → i ≤ length w → length w ≤ i → w₁ ≡ zeroTo i → w₁ ≡ replicate (length w) v
-  unfolding zeroTo
-  zero-done l g e = fill-done d w 0 (length w) v l g e ∙ put-all d w (replicate (length w) v) (length-replicate (length w) v)
 
 -- ---- copy
 

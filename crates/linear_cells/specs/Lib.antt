@@ -1,4 +1,4 @@
 pub mod Iter
 pub mod Region
 pub mod Cell
-pub mod Rows
+pub mod Spans

@@ -97,20 +97,3 @@ pub fn copy(work: &mut [f64], to: usize, from: usize, n: usize)
         copy_at(work, to, from, i);
     }
 }
-
-// The whole slice becomes zeros, by a memset.
-pub fn zero(work: &mut [f64])
-    ensures { λ _. ⌜ now (work .exit) ≡ replicate (length (now (work .entry))) (lit 0) ⌝ }
-{
-    for i in 0..work.len() {
-        work[i] = 0.0;
-    }
-}
-
-pub fn zero_u32(work: &mut [u32])
-    ensures { λ _. ⌜ now (work .exit) ≡ replicate (length (now (work .entry))) 0 ⌝ }
-{
-    for i in 0..work.len() {
-        work[i] = 0;
-    }
-}

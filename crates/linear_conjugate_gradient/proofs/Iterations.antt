@@ -13,7 +13,7 @@ use Rattle.linear_cells.specs.Cell.{regionC, putC}
 use Rattle.linear_cells.proofs.Regions.{length-region}
 use Rattle.linear_cells.proofs.Changes.{zeros as vector-zeros}
 use Rattle.linear_hermitian.specs.declared.Hermitian.{Hermitian}
-use Rattle.linear_hermitian.specs.Hermitian.{Matrix, dotOf, normOf, scaled, applied}
+use Rattle.linear_hermitian.specs.Hermitian.{Matrix, dotOf, vectorNorm, scaled, applied}
 use Rattle.linear_hermitian.specs.Work.{matrix}
 use Rattle.linear_hermitian.proofs.Product.{length-applied, length-scaled}
 use Rattle.linear_conjugate_gradient.specs.declared.Vectors.{Vectors}
@@ -104,8 +104,8 @@ module _ (w : List Float) (n : ℕ) (l : Vectors) (alpha dot limit : Float) (ok 
       let z : Sized n s = reduced-sized n alpha (read w n l) (read-sized w n l) in
       lay-then w n l ok s z now (advanced-sized n alpha s z) e₁ (e₂ ∙ rw (e₁, get-all w n l ok s z))
 
-  norm-now : {w₁ : List Float} {sums : Sums} {r : Float} → Updated w w₁ n l alpha sums → r ≡ rootOf (maxOf (sums .square) (lit 0)) → r ≡ normOf (now .r)
-  unfolding normOf advanced
+  norm-now : {w₁ : List Float} {sums : Sums} {r : Float} → Updated w w₁ n l alpha sums → r ≡ rootOf (maxOf (sums .square) (lit 0)) → r ≡ vectorNorm (now .r)
+  unfolding vectorNorm advanced
   norm-now u e = e ∙ rw (u .square)
 
   next-now : {w₁ : List Float} {sums : Sums} → Updated w w₁ n l alpha sums → sums .next ≡ residualDot now
@@ -116,14 +116,14 @@ module _ (w : List Float) (n : ℕ) (l : Vectors) (alpha dot limit : Float) (ok 
       → w₂ ≡ lay w₁ n l (advanced alpha (read w₁ n l)) → Ended w w₂ n l (judged limit dot now) Converged
   unfolding judged
   step-converged u er t e₂ =
-      let q : le (normOf (now .r)) limit ≡ true = rw (norm-now u er) at t in
+      let q : le (vectorNorm (now .r)) limit ≡ true = rw (norm-now u er) at t in
       rw q (record { work = advanced-now (u .work) e₂; result = refl })
 
   pub step-lost : {w₁ w₂ : List Float} {sums : Sums} {r : Float} {b : Bool} → Updated w w₁ n l alpha sums → r ≡ rootOf (maxOf (sums .square) (lit 0)) → le r limit ≡ false
       → b ≡ notPositive (sums .next) → b ≡ true → w₂ ≡ lay w₁ n l (advanced alpha (read w₁ n l)) → Ended w w₂ n l (judged limit dot now) (Broken LostDefiniteness)
   unfolding judged
   step-lost u er t eb tb e₂ =
-      let q : le (normOf (now .r)) limit ≡ false = rw (norm-now u er) at t in
+      let q : le (vectorNorm (now .r)) limit ≡ false = rw (norm-now u er) at t in
       let v : notPositive (residualDot now) ≡ true = ap (λ x. notPositive x) (sym (next-now u)) ∙ sym eb ∙ tb in
       rw (q, v) (record { work = advanced-now (u .work) e₂; result = refl })
 
@@ -131,7 +131,7 @@ module _ (w : List Float) (n : ℕ) (l : Vectors) (alpha dot limit : Float) (ok 
       → b ≡ notPositive (sums .next) → b ≡ false → w₂ ≡ lay w₁ n l (directed (sums .next ⊘ dot) (advanced alpha (read w₁ n l))) → Ended w w₂ n l (judged limit dot now) (Going (sums .next))
   unfolding judged
   step-going {w₁} {w₂} {sums} u er t eb tb e₂ =
-      let q : le (normOf (now .r)) limit ≡ false = rw (norm-now u er) at t in
+      let q : le (vectorNorm (now .r)) limit ≡ false = rw (norm-now u er) at t in
       let v : notPositive (residualDot now) ≡ false = ap (λ x. notPositive x) (sym (next-now u)) ∙ sym eb ∙ tb in
       let s : State = reduced alpha (read w n l) in
       let z : Sized n s = reduced-sized n alpha (read w n l) (read-sized w n l) in
@@ -150,7 +150,7 @@ picked-sized n false s t y z = z
 judged-sized : (n : ℕ) (limit dot : Float) (s : State) → Sized n s → Sized n (judged limit dot s .state)
 unfolding judged
 judged-sized n limit dot s z =
-    picked-sized n (le (normOf (s .r)) limit) _ _ z (picked-sized n (notPositive (residualDot s)) _ _ z (directed-sized n (residualDot s ⊘ dot) s z))
+    picked-sized n (le (vectorNorm (s .r)) limit) _ _ z (picked-sized n (notPositive (residualDot s)) _ _ z (directed-sized n (residualDot s ⊘ dot) s z))
 
 pub iteration-sized : (n : ℕ) (m : Matrix) (limit dot : Float) (s : State) → Sized n s → Sized n (iterationOf m limit dot s .state)
 unfolding iterationOf stepped

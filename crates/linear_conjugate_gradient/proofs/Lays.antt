@@ -8,7 +8,7 @@ use lib.ListN.{length, getD, set}
 use Rattle.complex.specs.declared.Complex.{Complex}
 use Rattle.linear_cells.specs.Region.{region, put}
 use Rattle.linear_cells.specs.Cell.{flat, regionC, putC}
-use Rattle.linear_cells.specs.Rows.{row, rows, laid, Rowed}
+use Rattle.linear_cells.specs.Spans.{span, contents, laid, Spanned}
 use Rattle.linear_cells.proofs.Regions.{length-region}
 use Rattle.linear_cells.proofs.Cells.{length-flat, length-regionC, flat-regionC, regionC-flat, regionC-same}
 use Rattle.linear_cells.proofs.Rows.{laid-rows, laid-below, laid-at, laid-set, laid-laid, length-laid}
@@ -26,7 +26,7 @@ pub record Sized (n : ℕ) (s : State) : Type 0 where
   pub q-n : length (s .q) ≡ n
   pub inverse-n : length (s .inverse) ≡ n
 
-rowed : (n : ℕ) (l : Vectors) (s : State) → Sized n s → Rowed (bases n l) (vectors s)
+rowed : (n : ℕ) (l : Vectors) (s : State) → Sized n s → Spanned (bases n l) (vectors s)
 rowed n l s z =
     (length-flat (s .x) (z .x-n), (length-flat (s .r) (z .r-n), (length-flat (s .p) (z .p-n), (length-flat (s .q) (z .q-n), (z .inverse-n, tt)))))
 
@@ -41,7 +41,7 @@ read-sized w n l = record {
 }
 
 pub lay-read : (w : List Float) (n : ℕ) (l : Vectors) → w ≡ lay w n l (read w n l)
-unfolding lay read rows
+unfolding lay read contents
 lay-read w n l =
     sym (rw (flat-regionC w (l .x) n, flat-regionC w (l .residual) n, flat-regionC w (l .direction) n, flat-regionC w (l .applied) n) (laid-rows nan w (bases n l)))
 
@@ -50,11 +50,11 @@ unfolding lay
 length-lay w n l s = length-laid nan w (bases n l) (vectors s)
 
 module _ (w : List Float) (n : ℕ) (l : Vectors) (ok : VectorRoom (length w) n l) (s : State) (z : Sized n s) where
-  get : (j : ℕ) → j < 5 → region nan (laid w (bases n l) (vectors s)) (getD (bases n l) j (row 0 0) .base) (getD (bases n l) j (row 0 0) .size) ≡ getD (vectors s) j []
+  get : (j : ℕ) → j < 5 → region nan (laid w (bases n l) (vectors s)) (getD (bases n l) j (span 0 0) .base) (getD (bases n l) j (span 0 0) .size) ≡ getD (vectors s) j []
   get j h = laid-at nan w (l .x) (bases n l) (vectors s) (ok .vectors-in) (rowed n l s z) j h
 
-  store : (j : ℕ) → j < 5 → (v : List Float) → length v ≡ getD (bases n l) j (row 0 0) .size
-      → put (laid w (bases n l) (vectors s)) (getD (bases n l) j (row 0 0) .base) v ≡ laid w (bases n l) (set (vectors s) j v)
+  store : (j : ℕ) → j < 5 → (v : List Float) → length v ≡ getD (bases n l) j (span 0 0) .size
+      → put (laid w (bases n l) (vectors s)) (getD (bases n l) j (span 0 0) .base) v ≡ laid w (bases n l) (set (vectors s) j v)
   store j h v k = laid-set nan w (l .x) (length w) (bases n l) (vectors s) (ok .vectors-in) (rowed n l s z) j h v k
 
   -- ---- one vector read, one written

@@ -10,7 +10,7 @@ use lib.ListN.{length}
 use lib.Ieee.{Float, le}
 use Rattle.float.specs.Double.{notPositive, _⊗_, _⊘_}
 use Rattle.complex.specs.declared.Complex.{Complex}
-use Rattle.linear_hermitian.specs.Hermitian.{Matrix, normOf}
+use Rattle.linear_hermitian.specs.Hermitian.{Matrix, vectorNorm}
 use Rattle.linear_conjugate_gradient.specs.declared.Answer.{Answer}
 use Rattle.linear_conjugate_gradient.specs.declared.Answer.the-variants.{Iterate, GaveUp}
 use Rattle.linear_conjugate_gradient.specs.declared.Progress.the-variants.{Going, Converged, Broken}
@@ -18,7 +18,7 @@ use Rattle.linear_conjugate_gradient.specs.declared.Reason.the-variants.
 use Rattle.linear_conjugate_gradient.specs.Answer.{reason, place}
 use Rattle.linear_conjugate_gradient.specs.Found.{Found, vector, gave}
 use Rattle.linear_conjugate_gradient.specs.Method.{firstNotPositive, LoopState, stepBy, steps, conjugateGradient}
-use Rattle.linear_conjugate_gradient.specs.Solve.{State, Iteration, Outcome, iteration, preconditioned, residualDot, begun, multiplied, denominator, reduced, advanced, directed, judged, stepped, iterationOf, after, answerOf, run, started, solved}
+use Rattle.linear_conjugate_gradient.specs.Solve.{State, Iteration, Outcome, iteration, preconditioned, residualDot, begun, multiplied, denominator, reduced, advanced, directed, judged, stepped, iterationOf, after, endAnswer, run, started, solved}
 use Rattle.linear_conjugate_gradient.proofs.Lays.{Sized}
 use Rattle.linear_conjugate_gradient.proofs.Iterations.{begun-sized}
 use Rattle.linear_conjugate_gradient.proofs.Runs.{run-sized}
@@ -49,7 +49,7 @@ either false o q f g y z = z
 tests : (b c d : Bool) (t u v : State) (dot : Float) (count : ℕ) (f : Float → State → Outcome) (g : Found) → foundIn (f dot v) ≡ g
     → (i : Iteration) → i ≡ cond b (iteration (Broken Denominator) t) (cond c (iteration Converged u) (cond d (iteration (Broken LostDefiniteness) u) (iteration (Going dot) v)))
     → foundIn (after (i .result) (i .state) count f) ≡ cond b (gave 6 0) (cond c (vector (u .x)) (cond d (gave 7 0) g))
-unfolding after answerOf answered reason place
+unfolding after endAnswer answered reason place
 tests true c d t u v dot count f g h i e = rw e
 tests false true d t u v dot count f g h i e = rw e
 tests false false true t u v dot count f g h i e = rw e
@@ -69,15 +69,15 @@ module _ (m : Matrix) (limit : Float) where
       let u : State = advanced alpha (reduced alpha t) in
       let next : Float = residualDot u in
       let v : State = directed (next ⊘ dot) u in
-      tests (notPositive (denominator t)) (le (normOf (u .r)) limit) (notPositive next) t u v next (suc i) (run m limit k (suc i))
+      tests (notPositive (denominator t)) (le (vectorNorm (u .r)) limit) (notPositive next) t u v next (suc i) (run m limit k (suc i))
       (steps m (s .inverse) limit k (loopState next v)) (run-steps k (suc i) next v) (iterationOf m limit dot s) refl
 
 pub solved-method : (m : Matrix) (tolerance : Float) (k : ℕ) (s : State) → foundIn (solved m tolerance k s) ≡ conjugateGradient m tolerance k (s .r)
 unfolding solved started conjugateGradient begun residualDot preconditioned answered reason place
 solved-method m tolerance k s =
     let t : State = begun (m .diagonal) s in
-    let limit : Float = tolerance ⊗ normOf (s .r) in
-    either (notPositive (normOf (s .r))) _ _ _ _ refl
+    let limit : Float = tolerance ⊗ vectorNorm (s .r) in
+    either (notPositive (vectorNorm (s .r))) _ _ _ _ refl
     (either (ltb (firstNotPositive (m .diagonal)) (length (m .diagonal))) _ _ _ _ refl
     (either (notPositive (residualDot t)) _ _ _ _ refl (run-steps m limit k 0 (residualDot t) t)))
 
@@ -92,7 +92,7 @@ unfolding solved started
 solved-sized n m tolerance k s h z =
     let t : State = begun (m .diagonal) s in
     let y : Sized n t = begun-sized n (m .diagonal) s h z in
-    let limit : Float = tolerance ⊗ normOf (s .r) in
-    picked-sized n (notPositive (normOf (s .r))) _ _ z
+    let limit : Float = tolerance ⊗ vectorNorm (s .r) in
+    picked-sized n (notPositive (vectorNorm (s .r))) _ _ z
     (picked-sized n (ltb (firstNotPositive (m .diagonal)) (length (m .diagonal))) _ _ z
     (picked-sized n (notPositive (residualDot t)) _ _ y (run-sized n m limit k 0 (residualDot t) t y)))

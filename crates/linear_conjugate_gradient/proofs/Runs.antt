@@ -14,7 +14,7 @@ use Rattle.linear_cells.specs.Region.{region}
 use Rattle.linear_cells.specs.Cell.{regionC}
 use Rattle.linear_cells.proofs.Regions.{length-region}
 use Rattle.linear_hermitian.specs.declared.Hermitian.{Hermitian}
-use Rattle.linear_hermitian.specs.Hermitian.{Matrix, normOf}
+use Rattle.linear_hermitian.specs.Hermitian.{Matrix, vectorNorm}
 use Rattle.linear_hermitian.specs.Work.{matrix}
 use Rattle.linear_conjugate_gradient.specs.declared.Vectors.{Vectors}
 use Rattle.linear_conjugate_gradient.specs.declared.Progress.{Progress}
@@ -23,7 +23,7 @@ use Rattle.linear_conjugate_gradient.specs.declared.Reason.the-variants.
 use Rattle.linear_conjugate_gradient.specs.declared.Answer.{Answer}
 use Rattle.linear_conjugate_gradient.specs.declared.Answer.the-variants.{GaveUp}
 use Rattle.linear_conjugate_gradient.specs.Method.{firstNotPositive}
-use Rattle.linear_conjugate_gradient.specs.Solve.{State, Outcome, begun, residualDot, iterationOf, answerOf, after, run, started, solved}
+use Rattle.linear_conjugate_gradient.specs.Solve.{State, Outcome, begun, residualDot, iterationOf, endAnswer, after, run, started, solved}
 use Rattle.linear_conjugate_gradient.specs.Work.{read, lay, SolverRoom, Begun, Ended, Solved}
 use Rattle.linear_conjugate_gradient.proofs.Lays.{Sized, read-sized, lay-read, get-all, get-matrix, lay-then}
 use Rattle.linear_conjugate_gradient.proofs.Iterations.{begun-sized, iteration-sized}
@@ -35,7 +35,7 @@ unfolding after
 after-going next s count f e = rw e
 
 after-ended : (t : Progress) (s : State) (count : ℕ) (f : Float → State → Outcome) → ((next : Float) → t ≡ Going next → ⊥)
-    → after t s count f ≡ record { answer = answerOf t count; state = s }
+    → after t s count f ≡ record { answer = endAnswer t count; state = s }
 unfolding after
 after-ended Converged s count f h = refl
 after-ended (Broken r) s count f h = refl
@@ -103,13 +103,13 @@ module _ (w : List Float) (h : Hermitian) (l : Vectors) (from to : List ℕ) (li
           ∙ ap (λ j. run (matrix w h from to) limit (most - (i + 1)) j next (read w₂ (h .size) l)) (sym (add-one i));
     }
 
-    pub run-ended : ((next : Float) → t ≡ Going next → ⊥) → {r : Answer} → r ≡ answerOf t (i + 1) → Solved w w₂ (h .size) l whole r
+    pub run-ended : ((next : Float) → t ≡ Going next → ⊥) → {r : Answer} → r ≡ endAnswer t (i + 1) → Solved w w₂ (h .size) l whole r
     run-ended g er =
-        let o : whole ≡ record { answer = answerOf t (suc i); state = then } =
+        let o : whole ≡ record { answer = endAnswer t (suc i); state = then } =
         whole-is ∙ after-ended t then (suc i) (run (matrix w h from to) limit (most - (i + 1)) (suc i)) g in
         record {
           work = work-is ∙ ap (λ (q : Outcome). lay w (h .size) l (q .state)) (sym o);
-          result = er ∙ ap (answerOf t) (add-one i) ∙ ap (λ (q : Outcome). q .answer) (sym o);
+          result = er ∙ ap (endAnswer t) (add-one i) ∙ ap (λ (q : Outcome). q .answer) (sym o);
         }
 
   pub run-done : {w₁ : List Float} {i : ℕ} {dot : Float} → i ≤ most → most ≤ i → RunAt w₁ i dot → Solved w w₁ (h .size) l whole (GaveUp CountSpent)
@@ -139,21 +139,21 @@ run-sized n m limit (suc k) i dot s z =
     after-sized n _ _ (suc i) (run m limit k (suc i)) (iteration-sized n m limit dot s z) (λ d t y. run-sized n m limit k (suc i) d t y)
 
 module _ (w : List Float) (h : Hermitian) (l : Vectors) (from to : List ℕ) (tolerance : Float) (most : ℕ)
-    {nm : Float} (en : nm ≡ normOf (regionC w (l .residual) (h .size))) {b : Bool} (eb : b ≡ notPositive nm) where
+    {nm : Float} (en : nm ≡ vectorNorm (regionC w (l .residual) (h .size))) {b : Bool} (eb : b ≡ notPositive nm) where
   abbrev pub answer : Outcome
   answer = solved (matrix w h from to) tolerance most (read w (h .size) l)
 
-  norm-not-positive : notPositive (normOf (regionC w (l .residual) (h .size))) ≡ b
+  norm-not-positive : notPositive (vectorNorm (regionC w (l .residual) (h .size))) ≡ b
   norm-not-positive = ap (λ x. notPositive x) (sym en) ∙ sym eb
 
   pub solve-norm : b ≡ true → Solved w w (h .size) l answer (GaveUp RightHandNorm)
   unfolding solved read
   solve-norm t =
-      let q : notPositive (normOf (regionC w (l .residual) (h .size))) ≡ true = norm-not-positive ∙ t in
+      let q : notPositive (vectorNorm (regionC w (l .residual) (h .size))) ≡ true = norm-not-positive ∙ t in
       rw q (record { work = lay-read w (h .size) l; result = refl })
 
   module _ (t : b ≡ false) {v : ℕ} (ev : v ≡ firstNotPositive (region nan w (h .diagonal) (h .size))) where
-    fit : notPositive (normOf (regionC w (l .residual) (h .size))) ≡ false
+    fit : notPositive (vectorNorm (regionC w (l .residual) (h .size))) ≡ false
     fit = norm-not-positive ∙ t
 
     length-diagonal : length (region nan w (h .diagonal) (h .size)) ≡ h .size
@@ -171,7 +171,7 @@ module _ (w : List Float) (h : Hermitian) (l : Vectors) (from to : List ℕ) (to
       vectors = begun (region nan w (h .diagonal) (h .size)) (read w (h .size) l)
 
       abbrev limit : Float
-      limit = tolerance ⊗ normOf (regionC w (l .residual) (h .size))
+      limit = tolerance ⊗ vectorNorm (regionC w (l .residual) (h .size))
 
       -- both tests of the right-hand side passed
       answer-is : answer ≡ started (matrix w h from to) limit most vectors

@@ -11,7 +11,7 @@ use Rattle.float.specs.Double.{notPositive, recipOf, _⊗_, _⊘_}
 use Rattle.root.specs.Root.{rootOf}
 use Rattle.complex.specs.declared.Complex.{Complex}
 use Rattle.complex.specs.Complex.{czero}
-use Rattle.linear_hermitian.specs.Hermitian.{Matrix, dotOf, normOf, scaled, applied}
+use Rattle.linear_hermitian.specs.Hermitian.{Matrix, dotOf, vectorNorm, scaled, applied}
 use Rattle.linear_vectors.specs.Vectors.{zipOf, addScaled, subScaled, recipsOf, scaledBy}
 use Rattle.linear_conjugate_gradient.specs.Found.{Found, vector, gave}
 
@@ -41,7 +41,7 @@ stepBy m inverse limit s next =
     let nextDot = dotOf preconditioned residual .re in
     let direction = zipOf (addScaled (nextDot ⊘ s .residualDot)) preconditioned (s .direction) in
     cond (notPositive denominator) (gave 6 0)
-    (cond (le (normOf residual) limit) (vector x)
+    (cond (le (vectorNorm residual) limit) (vector x)
     (cond (notPositive nextDot) (gave 7 0)
     (next (record { x = x; residual = residual; direction = direction; residualDot = nextDot }))))
 
@@ -57,10 +57,10 @@ conjugateGradient m tolerance k rhs =
     let preconditioned = scaled inverse rhs in
     let dot = dotOf preconditioned rhs .re in
     let vertex = firstNotPositive (m .diagonal) in
-    cond (notPositive (normOf rhs)) (gave 3 0)
+    cond (notPositive (vectorNorm rhs)) (gave 3 0)
     (cond (ltb vertex (length (m .diagonal))) (gave 4 vertex)
     (cond (notPositive dot) (gave 5 0)
-    (steps m inverse (tolerance ⊗ normOf rhs) k
+    (steps m inverse (tolerance ⊗ vectorNorm rhs) k
     (record { x = replicate (length rhs) czero; residual = rhs; direction = preconditioned; residualDot = dot }))))
 
 -- ---- normalize_in_mass

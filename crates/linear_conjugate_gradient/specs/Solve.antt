@@ -10,7 +10,7 @@ use Rattle.float.specs.Double.{notPositive, recipOf, _⊗_, _⊘_}
 use Rattle.root.specs.Root.{rootOf}
 use Rattle.complex.specs.declared.Complex.{Complex}
 use Rattle.complex.specs.Complex.{czero}
-use Rattle.linear_hermitian.specs.Hermitian.{Matrix, dotOf, normOf, scaled, applied}
+use Rattle.linear_hermitian.specs.Hermitian.{Matrix, dotOf, vectorNorm, scaled, applied}
 use Rattle.linear_vectors.specs.Vectors.{zipOf, addScaled, subScaled, recipsOf, scaledBy}
 use Rattle.linear_vectors.specs.Residual.{productsOf}
 use Rattle.linear_conjugate_gradient.specs.Method.{firstNotPositive}
@@ -90,7 +90,7 @@ iteration t s = record { result = t; state = s }
 -- after the step by alpha, s being the vectors after it
 unfoldable pub judged : Float → Float → State → Iteration
 judged limit dot s =
-    cond (le (normOf (s .r)) limit) (iteration Converged s)
+    cond (le (vectorNorm (s .r)) limit) (iteration Converged s)
     (cond (notPositive (residualDot s)) (iteration (Broken LostDefiniteness) s)
     (iteration (Going (residualDot s)) (directed (residualDot s ⊘ dot) s)))
 
@@ -116,15 +116,15 @@ abbrev pub outcome : Answer → State → Outcome
 outcome a s = record { answer = a; state = s }
 
 -- what the method answers where it ends with an iteration, the count-th
-unfoldable pub answerOf : Progress → ℕ → Answer
-answerOf Converged count = Iterate count
-answerOf (Broken r) count = GaveUp r
-answerOf (Going dot) count = GaveUp CountSpent
+unfoldable pub endAnswer : Progress → ℕ → Answer
+endAnswer Converged count = Iterate count
+endAnswer (Broken r) count = GaveUp r
+endAnswer (Going dot) count = GaveUp CountSpent
 
 -- it goes on by f where the iteration says so
 unfoldable pub after : Progress → State → ℕ → (Float → State → Outcome) → Outcome
-after Converged s count f = outcome (answerOf Converged count) s
-after (Broken r) s count f = outcome (answerOf (Broken r) count) s
+after Converged s count f = outcome (endAnswer Converged count) s
+after (Broken r) s count f = outcome (endAnswer (Broken r) count) s
 after (Going dot) s count f = f dot s
 
 -- at most k iterations more, after i iterations
@@ -139,9 +139,9 @@ started m limit k s = cond (notPositive (residualDot s)) (outcome (GaveUp FirstR
 -- the right-hand side's norm and the diagonal are tested, and then the method begins
 unfoldable pub solved : Matrix → Float → ℕ → State → Outcome
 solved m tolerance k s =
-    cond (notPositive (normOf (s .r))) (outcome (GaveUp RightHandNorm) s)
+    cond (notPositive (vectorNorm (s .r))) (outcome (GaveUp RightHandNorm) s)
     (cond (ltb (firstNotPositive (m .diagonal)) (length (m .diagonal))) (outcome (GaveUp (Diagonal (firstNotPositive (m .diagonal)))) s)
-    (started m (tolerance ⊗ normOf (s .r)) k (begun (m .diagonal) s)))
+    (started m (tolerance ⊗ vectorNorm (s .r)) k (begun (m .diagonal) s)))
 
 -- ---- normalize_in_mass
 

@@ -6,7 +6,7 @@ use lib.ListN.{length}
 use lib.Ieee.{Float, nan}
 use Rattle.linear_cells.specs.Region.{region}
 use Rattle.linear_cells.specs.Cell.{flat, regionC, putC}
-use Rattle.linear_cells.specs.Rows.{Row, row, laid, Ranged}
+use Rattle.linear_cells.specs.Spans.{Span, span, laid, Ranged}
 use Rattle.linear_hermitian.specs.declared.Hermitian.{Hermitian}
 use Rattle.linear_hermitian.specs.Hermitian.{Matrix, dotOf, applied}
 use Rattle.linear_hermitian.specs.Work.{matrix}
@@ -23,8 +23,8 @@ use Rattle.linear_conjugate_gradient.specs.Solve.{State, Iteration, Outc
 -- ---- the layout
 
 -- where each vector begins, and how many numbers it takes
-abbrev pub bases : ℕ → Vectors → List Row
-bases n l = row (l .x) (2 * n) ∷ row (l .residual) (2 * n) ∷ row (l .direction) (2 * n) ∷ row (l .applied) (2 * n) ∷ row (l .inverse) n ∷ []
+abbrev pub bases : ℕ → Vectors → List Span
+bases n l = span (l .x) (2 * n) ∷ span (l .residual) (2 * n) ∷ span (l .direction) (2 * n) ∷ span (l .applied) (2 * n) ∷ span (l .inverse) n ∷ []
 
 -- the numbers of each vector, a complex one split
 abbrev pub vectors : State → List (List Float)

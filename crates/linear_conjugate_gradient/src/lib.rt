@@ -13,7 +13,7 @@ ghost use Rattle.root.specs.Root.{rootOf};
 ghost use Rattle.linear_cells.specs.Region.{region};
 ghost use Rattle.linear_hermitian.specs.Work.{matrix, Graph, ApplyRoom};
 ghost use Rattle.linear_conjugate_gradient.specs.Method.{firstNotPositive};
-ghost use Rattle.linear_conjugate_gradient.specs.Solve.{reduced, advanced, directed, judged, iterationOf, answerOf, run, solved};
+ghost use Rattle.linear_conjugate_gradient.specs.Solve.{reduced, advanced, directed, judged, iterationOf, endAnswer, run, solved};
 ghost use Rattle.linear_conjugate_gradient.specs.Work.{read, lay, VectorRoom, SolverRoom, Engine, Begun, Multiplied, Updated, Ended, Solved, InMass};
 
 // Why the solver gave up: number 24's reasons 3 to 9, in their order.
@@ -180,7 +180,7 @@ fn iterate_once(
 
 // The answer where the method ends with this iteration, the count-th.
 fn answer_of(t: Progress, count: usize) -> Answer
-    ensures { λ r. ⌜ r ≡ answerOf t count ⌝ }
+    ensures { λ r. ⌜ r ≡ endAnswer t count ⌝ }
 {
     match t {
         Progress::Converged => Answer::Iterate(count),

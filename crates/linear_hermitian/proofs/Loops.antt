@@ -8,7 +8,7 @@ use lib.ListN.{length, getD}
 use Rattle.float.specs.Double.{lit, maxOf, _⊕_}
 use Rattle.root.specs.Root.{rootOf}
 use Rattle.complex.specs.declared.Complex.{Complex}
-use Rattle.complex.specs.Complex.{cnew, czero, cnan, cadd, cmul, cconj, cscale}
+use Rattle.complex.specs.Complex.{czero, cnan, cscale}
 use Rattle.linear_cells.specs.Iter.{iter}
 use Rattle.linear_cells.specs.Region.{region}
 use Rattle.linear_cells.specs.Cell.{getC, setC, regionC, putC, reOf}
@@ -16,7 +16,7 @@ use Rattle.linear_cells.proofs.Loops.{iter-none, iter-more}
 use Rattle.linear_cells.proofs.Regions.{getD-region}
 use Rattle.linear_cells.proofs.Cells.{putC-regionC, getD-regionC, length-regionC, putC-else, putC-else-real}
 use Rattle.linear_cells.proofs.Over.{over, over-none, length-over, over-all, over-cell}
-use Rattle.linear_hermitian.specs.Hermitian.{dotStep, dotOf, normOf, scaled}
+use Rattle.linear_hermitian.specs.Hermitian.{dotStep, dotOf, vectorNorm, scaled}
 use Rattle.linear_hermitian.specs.Work.{ScaleRoom, reTerm}
 use Rattle.linear_hermitian.proofs.Floats.{re-term}
 
@@ -38,26 +38,9 @@ module _ (u v : List Complex) where
   unfolding reSum dotOf
   re-sum-all e = rw e
 
--- ---- dot
+-- ---- the real part of a product
 
 module _ (w : List Float) (a b n : ℕ) where
-  unfoldable pub dotTo : ℕ → Complex
-  dotTo i = iter (dotStep (regionC w a n) (regionC w b n)) i czero
-
-  pub dot-none : {r : Complex} → r ≡ cnew (lit 0) (lit 0) → r ≡ dotTo 0
-  unfolding dotTo
-  dot-none e = e ∙ sym (iter-none _ czero)
-
-  pub dot-again : (i : ℕ) → i < n → {s r : Complex} → s ≡ dotTo i → r ≡ cadd s (cmul (cconj (getC w a n i)) (getC w b n i)) → r ≡ dotTo (i + 1)
-  unfolding dotTo dotStep
-  dot-again i l e₁ e₂ = e₂ ∙ rw (e₁, iter-more, getD-regionC w a n i l, getD-regionC w b n i l)
-
-  pub dot-done : {i : ℕ} {s : Complex} → i ≤ n → n ≤ i → s ≡ dotTo i → s ≡ dotOf (regionC w a n) (regionC w b n)
-  unfolding dotTo dotOf
-  dot-done {i} l g e = let z : i ≡ n = omega arith in e ∙ rw (z, length-regionC)
-
-  -- ---- its real part alone
-
   unfoldable pub reTo : ℕ → Float
   reTo i = reSum (regionC w a n) (regionC w b n) i
 
@@ -75,8 +58,8 @@ module _ (w : List Float) (a b n : ℕ) where
       let z : i ≡ n = omega arith in
       e ∙ rw z (re-sum-all (regionC w a n) (regionC w b n) (length-regionC w a n))
 
-pub norm-all : (v : List Complex) {d m r : Float} → d ≡ dotOf v v .re → m ≡ maxOf d (lit 0) → r ≡ rootOf m → r ≡ normOf v
-unfolding normOf
+pub norm-all : (v : List Complex) {d m r : Float} → d ≡ dotOf v v .re → m ≡ maxOf d (lit 0) → r ≡ rootOf m → r ≡ vectorNorm v
+unfolding vectorNorm
 norm-all v ed em er = er ∙ ap rootOf (em ∙ ap (λ t. maxOf t (lit 0)) ed)
 
 -- ---- scale

@@ -18,8 +18,8 @@ unfoldable pub dotOf : List Complex → List Complex → Complex
 dotOf u v = iter (dotStep u v) (length u) czero
 
 -- `max` passes a NaN over, so that a vector with a NaN has norm 0
-unfoldable pub normOf : List Complex → Float
-normOf v = rootOf (maxOf (dotOf v v .re) (lit 0))
+unfoldable pub vectorNorm : List Complex → Float
+vectorNorm v = rootOf (maxOf (dotOf v v .re) (lit 0))
 
 -- ---- the matrix: a real diagonal, and one complex entry an edge. Entry (a, b) of edge e is off e, and entry (b, a) its conjugate
 

@@ -1,5 +1,5 @@
 // Hermitian matrices with a real diagonal and one complex entry an edge, and complex vectors, in regions of one lent slice:
-// the Rust's `dot`, `euclidean_norm`, `apply`, `shifted` and `trace`.
+// the real part of the Rust's `dot`, its `euclidean_norm`, `apply`, `shifted` and `trace`.
 use complex::Complex;
 use linear_cells::load;
 use linear_cells::load_real;
@@ -11,10 +11,10 @@ ghost use Prim.Native.Nat.{_+_, _*_, _<_, _≤_};
 ghost use lib.ListN.{length, getD, set};
 ghost use lib.Ieee.{nan};
 ghost use Rattle.float.specs.Double.{_⊕_, _⊗_};
-ghost use Rattle.complex.specs.Complex.{cadd, cmul, cconj, cscale};
+ghost use Rattle.complex.specs.Complex.{cadd, cmul, cscale};
 ghost use Rattle.linear_cells.specs.Region.{region, put};
 ghost use Rattle.linear_cells.specs.Cell.{getC, setC, regionC, putC};
-ghost use Rattle.linear_hermitian.specs.Hermitian.{dotOf, normOf, scaled, edged, applied, shiftedDiagonal, shiftedOff, traceOf};
+ghost use Rattle.linear_hermitian.specs.Hermitian.{dotOf, vectorNorm, scaled, edged, applied, shiftedDiagonal, shiftedOff, traceOf};
 ghost use Rattle.linear_hermitian.specs.Work.{matrix, shiftMatrix, Graph, ScaleRoom, EdgesRoom, ApplyRoom, PairRoom, ShiftRoom, EdgeIn, reTerm, endsC, edgeC};
 
 // Where a matrix of `size` rows stands: `size` reals on its diagonal, and a vector of `edges` entries off it.
@@ -26,25 +26,6 @@ pub struct Hermitian {
     pub off: usize,
 }
 
-fn dot_at(work: &[f64], a: usize, b: usize, n: usize, i: usize, sum: Complex) -> Complex
-    requires { ⌜ (i < n) × (a + n + i < length (now work)) × (b + n + i < length (now work)) ⌝ }
-    ensures { λ r. ⌜ r ≡ cadd sum (cmul (cconj (getC (now (work .entry)) a n i)) (getC (now (work .entry)) b n i)) ⌝ }
-{
-    sum.add(load(work, a, n, i).conj().mul(load(work, b, n, i)))
-}
-
-// The sum over i of conj(a[i]) * b[i].
-pub fn dot(work: &[f64], a: usize, b: usize, n: usize) -> Complex
-    requires { ⌜ (a + 2 * n ≤ length (now work)) × (b + 2 * n ≤ length (now work)) ⌝ }
-    ensures { λ r. ⌜ r ≡ dotOf (regionC (now (work .entry)) a n) (regionC (now (work .entry)) b n) ⌝ }
-{
-    let mut sum = Complex::ZERO;
-    for i in 0..n {
-        sum = dot_at(work, a, b, n, i, sum);
-    }
-    sum
-}
-
 fn dot_re_at(work: &[f64], a: usize, b: usize, n: usize, i: usize, sum: f64) -> f64
     requires { ⌜ (i < n) × (a + n + i < length (now work)) × (b + n + i < length (now work)) ⌝ }
     ensures { λ r. ⌜ r ≡ sum ⊕ reTerm (getC (now (work .entry)) a n i) (getC (now (work .entry)) b n i) ⌝ }
@@ -54,7 +35,7 @@ fn dot_re_at(work: &[f64], a: usize, b: usize, n: usize, i: usize, sum: f64) -> 
     sum + (u.re * v.re + u.im * v.im)
 }
 
-// The real part of `dot`.
+// The real part of the sum over i of conj(a[i]) * b[i].
 pub fn dot_re(work: &[f64], a: usize, b: usize, n: usize) -> f64
     requires { ⌜ (a + 2 * n ≤ length (now work)) × (b + 2 * n ≤ length (now work)) ⌝ }
     ensures { λ r. ⌜ r ≡ dotOf (regionC (now (work .entry)) a n) (regionC (now (work .entry)) b n) .re ⌝ }
@@ -68,7 +49,7 @@ pub fn dot_re(work: &[f64], a: usize, b: usize, n: usize) -> f64
 
 pub fn euclidean_norm(work: &[f64], a: usize, n: usize) -> f64
     requires { ⌜ a + 2 * n ≤ length (now work) ⌝ }
-    ensures { λ r. ⌜ r ≡ normOf (regionC (now (work .entry)) a n) ⌝ }
+    ensures { λ r. ⌜ r ≡ vectorNorm (regionC (now (work .entry)) a n) ⌝ }
 {
     root::sqrt(float::max(dot_re(work, a, a, n), 0.0))
 }

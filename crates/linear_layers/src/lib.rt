@@ -1,5 +1,5 @@
-// The layers with every test made that they leave to their callers, some under C calling rules: for comparison and timing
-// beside the Rust. No part of the product.
+// Wrappers that check the linear solver's preconditions at run time, some under C calling rules: for comparison and timing beside the Rust. No part of the
+// product.
 use linear_conjugate_gradient::Answer;
 use linear_conjugate_gradient::Normalized;
 use linear_conjugate_gradient::Vectors;

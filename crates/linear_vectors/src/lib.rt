@@ -1,5 +1,5 @@
-// The passes over the vectors of conjugate gradients that add up nothing, in regions of one lent slice. What one pass over memory can
-// serve is done in one loop. The residual's pass, which adds up, is module residual.
+// Vector updates of conjugate gradients without reductions, in regions of one work slice; what one loop over memory can serve is done in one. The residual's
+// update, which has two reductions, is module residual.
 pub mod residual;
 
 use complex::Complex;

@@ -7,9 +7,8 @@ use mathlib.Core.Bool.{Bool}
 use mathlib.Core.List.{List, [], _∷_}
 use mathlib.Core.Option.{Option, none, some}
 use lib.ListN.{length}
-use Rattle.mesh.specs.Mesh.{Tri, tri, Good, All, cuts, mid, split, pieces, refined, refine}
+use Rattle.mesh.specs.Mesh.{Tri, tri, Good, All, cuts, mid, split, pieces, refined, refine, Distinct}
 use Rattle.mesh.specs.Claim.{InRange}
-use Rattle.mesh.proofs.Local.{Distinct}
 use Rattle.mesh.proofs.Whole.{All-append, All-map, All-both, refined-distinct}
 use Rattle.mesh.proofs.Cuts.{mids}
 use Rattle.mesh.proofs.Theorem.{refines}
@@ -30,8 +29,11 @@ module _ (n k : ℕ) (m : ℕ → ℕ → Option ℕ) (low : n ≤ k) (below : (
   refined-in-range (tri a b c ∷ ts) h =
       All-append (InRange k) (pieces m (tri a b c)) (refined m ts) (split-in-range a b c (m a b) (m b c) (m c a) (h .0) refl refl refl) (refined-in-range ts (h .1))
 
-both-good : (k : ℕ) (t : Tri) → InRange k t × Distinct t → Good k t
-both-good k (tri a b c) h = (h .0 .0, h .0 .1, h .0 .2, h .1 .0, h .1 .1, h .1 .2)
+good-of : (k : ℕ) (t : Tri) → InRange k t × Distinct t → Good k t
+good-of k (tri a b c) h = (h .0 .0, h .0 .1, h .0 .2, h .1 .0, h .1 .1, h .1 .2)
+
+pub both-good : (k : ℕ) (ts : List Tri) → All (InRange k) ts → All Distinct ts → All (Good k) ts
+both-good k ts r d = All-map _ (Good k) (good-of k) ts (All-both (InRange k) Distinct ts r d)
 
 pub refined-good : (n : ℕ) (f : Tri → Bool) (ts : List Tri) → All (Good n) ts → All (Good (n + length (cuts f ts))) (refine n f ts)
 unfolding refine
@@ -39,4 +41,4 @@ refined-good n f ts good =
     let m = mid n (cuts f ts) in
     let k = n + length (cuts f ts) in
     let in-range = refined-in-range n k m (omega arith) (λ u v p e. refines n f ts good .midpoint u v p e .1) ts good in
-    All-map _ (Good k) (both-good k) (refined m ts) (All-both (InRange k) Distinct (refined m ts) in-range (refined-distinct n m (mids n (cuts f ts)) ts good))
+    both-good k (refined m ts) in-range (refined-distinct n m (mids n (cuts f ts)) ts good)

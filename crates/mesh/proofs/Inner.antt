@@ -9,10 +9,10 @@ use mathlib.Core.Bool.{Bool, true, false, _||_}
 use mathlib.Core.List.{List, [], _∷_}
 use mathlib.Core.Option.{Option, none, some}
 use lib.Dec.{T, eqb, eqb→eq, eqb-refl}
-use Rattle.mesh.specs.Mesh.{Tri, tri, Same, Mids, Good, All, AllDifferent, SameCorners, at, total, count, pieces, refined}
+use Rattle.mesh.specs.Mesh.{Tri, tri, Same, Mids, Good, All, AllDifferent, SameCorners, at, total, count, pieces, refined, Distinct}
 use Rattle.mesh.proofs.Weigh.{F, F-sym, F-zero, F-pair, F-le, or-T, around, parts, inner}
-use Rattle.mesh.proofs.Local.{Distinct, inner-zero, mids-differ, weighed}
-use Rattle.mesh.proofs.Whole.{All-map, count-around, counted, good-distinct, total-times, total-zero}
+use Rattle.mesh.proofs.Local.{inner-zero, mids-differ, weighed}
+use Rattle.mesh.proofs.Whole.{all-distinct, count-around, counted, total-times, total-zero}
 
 -- v is a corner
 abbrev Corner : ℕ → ℕ → ℕ → ℕ → Type 0
@@ -225,7 +225,7 @@ module _ (n : ℕ) (m : ℕ → ℕ → Option ℕ) (M : Mids n m) where
     -- (c) a side of a new triangle that is no old side and no half lies in two new triangles
     pub inner-side : (ts : List Tri) → All (Good n) ts → AllDifferent ts → count x y (refined m ts) ≢ 0 → count x y ts ≡ 0 → count x y (refined m ts) ≡ 2
     inner-side ts h d some-new no-old =
-        let zero-old : All (λ t. around (F x y) t ≡ 0) ts = total-zero (around (F x y)) ts (sym (count-around x y ne ts (All-map (Good n) Distinct (good-distinct n) ts h)) ∙ no-old) in
+        let zero-old : All (λ t. around (F x y) t ≡ 0) ts = total-zero (around (F x y)) ts (sym (count-around x y ne ts (all-distinct n ts h)) ∙ no-old) in
         let twice : count x y (refined m ts) ≡ 2 * total (inn x y) ts =
         counted n m M (λ t. around (F x y) t ≡ 0) x y ne (λ t. 2 * inn x y t) inner-pieces ts h zero-old ∙ total-times 2 (inn x y) ts in
         let once : total (inn x y) ts ≤ 1 = one-place (Good n) (inn x y) (inn-apart x y) (inn-once x y ne) ts h d in

@@ -5,7 +5,7 @@ use native.Mathlib.Decide.{ℕ-discrete}
 use mathlib.Core.Path.{_≡_, refl, sym, _∙_}
 use mathlib.Core.Logic.{_≢_, _⊎_, inl, inr, ⊎-elim}
 use mathlib.Core.Option.{Option, none, some}
-use Rattle.mesh.specs.Mesh.{Tri, tri, Same, Mids, Good, All, one, isNone, total, split, pieces}
+use Rattle.mesh.specs.Mesh.{Tri, tri, Same, Mids, Good, All, one, isNone, total, split, pieces, Distinct}
 use Rattle.mesh.proofs.Weigh.{F, F-sym, F-zero, F-one, around, parts, inner, split-weighs}
 
 -- the inner sides weigh nothing where each does
@@ -21,9 +21,6 @@ inner-zero W a b c (some p) (some q) none P Q R PQ QR RP = omega (arith, PQ p q 
 inner-zero W a b c none (some q) (some r) P Q R PQ QR RP = omega (arith, QR q r refl refl, Q q refl)
 inner-zero W a b c (some p) none (some r) P Q R PQ QR RP = omega (arith, RP r p refl refl, P p refl)
 inner-zero W a b c (some p) (some q) (some r) P Q R PQ QR RP = omega (arith, PQ p q refl refl, QR q r refl refl, RP r p refl refl)
-
-abbrev pub Distinct : Tri → Type 0
-Distinct (tri a b c) = (a ≢ b) × (b ≢ c) × (c ≢ a)
 
 module _ (n : ℕ) (m : ℕ → ℕ → Option ℕ) (M : Mids n m) where
   -- two sides of a triangle have different midpoints

@@ -7,11 +7,10 @@ use mathlib.Core.Bool.{Bool, and-comm}
 use mathlib.Core.List.{List, [], _∷_, _++_, append-assoc}
 use mathlib.Core.Option.{Option, none, some}
 use lib.ListN.{length}
-use Rattle.mesh.specs.Mesh.{Tri, tri, Side, key, next, indexIn, mid, cuts, above, marked, Good, All, at, lies, one, total, count, split, pieces, refined, refine}
+use Rattle.mesh.specs.Mesh.{Tri, tri, Side, key, next, indexIn, mid, cuts, above, marked, Good, All, at, lies, one, total, count, split, pieces, refined, refine, Distinct}
 use Rattle.mesh.specs.Claim.{listed, InRange, Refines, cutsOf}
 use Rattle.mesh.proofs.Weigh.{F, F-zero, F-one, around}
-use Rattle.mesh.proofs.Local.{Distinct}
-use Rattle.mesh.proofs.Whole.{All-map, good-distinct, good-in-range, count-around, total-zero, old-side, half-side}
+use Rattle.mesh.proofs.Whole.{All-map, all-distinct, good-in-range, count-around, total-zero, old-side, half-side}
 use Rattle.mesh.proofs.Inner.{inner-side}
 pub use Rattle.mesh.proofs.Cuts.{index-below}
 use Rattle.mesh.proofs.Cuts.{key-same, same-key, side-discrete, index-here, index-past, next-none, above-some, above-none, never, mids, marked-all}
@@ -108,7 +107,7 @@ module _ (n : ℕ) (f : Tri → Bool) (ts : List Tri) (good : All (Good n) ts) w
   cut-iff u v ne = (λ k z. never (mid n (cuts f ts) u v) (k .0) (iff .1 z) (k .1), λ h. go (mid n (cuts f ts) u v) refl h)
     where
       iff : (mid n (cuts f ts) u v ≡ none) ↔ (count u v (marked f ts) ≡ 0)
-      iff = uncut n u v f ts ne (All-map (Good n) Distinct (good-distinct n) ts good)
+      iff = uncut n u v f ts ne (all-distinct n ts good)
 
       go : (o : Option ℕ) → mid n (cuts f ts) u v ≡ o → count u v (marked f ts) ≢ 0 → (k : ℕ) × (mid n (cuts f ts) u v ≡ some k)
       go none e h = absurd (h (iff .0 e))

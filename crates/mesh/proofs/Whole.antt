@@ -5,10 +5,10 @@ use mathlib.Core.Path.{_≡_, refl, sym, ap, ap₂, _∙_}
 use mathlib.Core.Logic.{_≢_}
 use mathlib.Core.List.{List, [], _∷_, _++_}
 use mathlib.Core.Option.{Option, some}
-use Rattle.mesh.specs.Mesh.{Tri, tri, Mids, Good, All, one, isNone, total, count, pieces, refined}
+use Rattle.mesh.specs.Mesh.{Tri, tri, Mids, Good, All, one, isNone, total, count, pieces, refined, Distinct}
 use Rattle.mesh.specs.Claim.{InRange}
 use Rattle.mesh.proofs.Weigh.{F, around, places-around}
-use Rattle.mesh.proofs.Local.{Distinct, split-distinct, old-pieces, half-pieces}
+use Rattle.mesh.proofs.Local.{split-distinct, old-pieces, half-pieces}
 
 pub total-append : (f : Tri → ℕ) (s t : List Tri) → total f (s ++ t) ≡ total f s + total f t
 total-append f [] t = omega arith
@@ -35,6 +35,9 @@ good-in-range n (tri a b c) g = (g .0, g .1, g .2)
 pub All-both : (P Q : Tri → Type 0) (ts : List Tri) → All P ts → All Q ts → All (λ t. P t × Q t) ts
 All-both P Q [] h k = tt
 All-both P Q (t ∷ ts) h k = ((h .0, k .0), All-both P Q ts (h .1) (k .1))
+
+pub all-distinct : (n : ℕ) (ts : List Tri) → All (Good n) ts → All Distinct ts
+all-distinct n = All-map (Good n) Distinct (good-distinct n)
 
 pub total-zero : (f : Tri → ℕ) (ts : List Tri) → total f ts ≡ 0 → All (λ t. f t ≡ 0) ts
 total-zero f [] h = tt
@@ -69,11 +72,11 @@ module _ (n : ℕ) (m : ℕ → ℕ → Option ℕ) (M : Mids n m) where
   old-side x y hx hy ne ts h =
       counted (Good n) x y ne (λ t. one (isNone (m x y)) * around (F x y) t) (λ t g. old-pieces n m M x y hx hy t) ts h h
       ∙ total-times (one (isNone (m x y))) (around (F x y)) ts
-      ∙ ap (λ (z : ℕ). one (isNone (m x y)) * z) (sym (count-around x y ne ts (All-map (Good n) Distinct (good-distinct n) ts h)))
+      ∙ ap (λ (z : ℕ). one (isNone (m x y)) * z) (sym (count-around x y ne ts (all-distinct n ts h)))
 
   -- (b) the half of x y at x, for each cut side x y, lies as often as x y did
   pub half-side : (x y k : ℕ) → x < n → y < n → x ≢ y → m x y ≡ some k → (ts : List Tri) → All (Good n) ts → count x k (refined m ts) ≡ count x y ts
   half-side x y k hx hy ne cut ts h =
       let q : n ≤ k = M .high x y k cut in
       counted (Good n) x k (omega arith) (around (F x y)) (half-pieces n m M x y k hx hy ne cut) ts h h
-      ∙ sym (count-around x y ne ts (All-map (Good n) Distinct (good-distinct n) ts h))
+      ∙ sym (count-around x y ne ts (all-distinct n ts h))

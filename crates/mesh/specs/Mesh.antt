@@ -146,7 +146,11 @@ pub record Mids (n : ℕ) (m : ℕ → ℕ → Option ℕ) : Type 0 where
   pub high : (u v p : ℕ) → m u v ≡ some p → n ≤ p
   pub only : (u v x y p : ℕ) → m u v ≡ some p → m x y ≡ some p → Same u v x y
 
--- corners in range and pairwise different
+-- three pairwise different corners
+abbrev pub Distinct : Tri → Type 0
+Distinct (tri a b c) = (a ≢ b) × (b ≢ c) × (c ≢ a)
+
+-- the same, and in range
 abbrev pub Good : ℕ → Tri → Type 0
 Good n (tri a b c) = (a < n) × (b < n) × (c < n) × (a ≢ b) × (b ≢ c) × (c ≢ a)
 

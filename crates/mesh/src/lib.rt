@@ -1,7 +1,7 @@
-// Triangles and sides as numbers of points: which sides are cut, the pieces of a triangle, and the proved claim that no side is lost and none cracks
-// (specs/Mesh.antt has the definitions, specs/Claim.antt the claim, proofs/Theorem.antt its proof). And where the points of a refined floor lie:
-// specs/Points.antt has its points and sizes in floating point, specs/Area.antt exact areas on whole coordinates, and specs/AreaClaim.antt what is
-// proved of them: old points stay, midpoints are exact, and the pieces of each triangle have its area.
+// The theory of refinement; its code here is three small functions, and refinement::split_triangle is what splits. specs/Mesh.antt defines which sides are
+// cut and the pieces of a triangle; specs/Claim.antt claims that no side is lost and none cracks (proofs/Theorem.antt). specs/Points.antt has the points and
+// sizes of a refined floor in floating point, specs/Area.antt exact areas on whole coordinates, specs/AreaClaim.antt what is proved of them: old points stay,
+// midpoints are exact, and the pieces of each triangle have its area.
 ghost use mathlib.Core.Path.{_≡_};
 ghost use Prim.Native.Nat.{_+_, _≤_};
 ghost use lib.ListN.{length};

@@ -3,16 +3,17 @@ use Prim.Native.Nat.{ℕ}
 use native.Mathlib.Omega.{arith}
 use mathlib.Core.Path.{_≡_, refl}
 use mathlib.Core.Bool.{Bool, true, false, cond}
-use mathlib.Core.List.{List, [], _∷_}
+use mathlib.Core.List.{List}
 use lib.Ieee.{Float}
-use Rattle.mesh.specs.Mesh.{Tri, tri, Good, All}
+use Rattle.mesh.specs.Mesh.{All}
+use Rattle.mesh.proofs.Whole.{all-distinct}
 use Rattle.floor.specs.Floor.{Floor, pointCount}
 use Rattle.float.specs.Double.{notPositive}
 use Rattle.pass_shift.specs.declared.Traces.{Traces}
-use Rattle.pass_refusal.specs.Refusal.{gaveUp}
+use Rattle.refusals.specs.Refusal.{gaveUp}
 use Rattle.pass_options.specs.declared.Options.{Options}
 use Rattle.pass_options.specs.Options.{Guidance}
-use Rattle.pass_options.specs.Pass.{Passed, field, faulty, ThreeCorners, PassFacts}
+use Rattle.pass_options.specs.Pass.{Passed, field, faulty, PassFacts}
 use Rattle.pass_setup.specs.declared.Setup.{Setup}
 use Rattle.pass_setup.specs.declared.Setup.the-variants.{Edges, Refused}
 use Rattle.pass_setup.specs.Setup.{setupOf}
@@ -34,10 +35,6 @@ traced t next alpha = go (notPositive (t .energy)) (notPositive (t .mass))
     go false true e = let z : _≡_ {A = ℕ} 0 1 = cc in absurd (omega arith)
     go false false e = e
 
-three : (n : ℕ) (ts : List Tri) → All (Good n) ts → All ThreeCorners ts
-three n [] h = tt
-three n (tri a b c ∷ ts) h = ((h .0 .3, h .0 .4, h .0 .5), three n ts (h .1))
-
 module _ (f : Floor) (o : Options) (g : Guidance) (k : ℕ) (alpha : List Float) (e : passOf f o g k ≡ field alpha) where
   pub was-set-up : ((m : ℕ) × (setupOf f ≡ Edges m)) × (fieldOver f o g k ≡ field alpha)
   unfolding passOf
@@ -49,7 +46,7 @@ module _ (f : Floor) (o : Options) (g : Guidance) (k : ℕ) (alpha : List Float)
 
 pub pass-facts : PassFacts passOf
 pass-facts = record {
-  three-corners = λ f o g k alpha h e. three (pointCount f) (f .triangles) (setup-good f (was-set-up f o g k alpha e .0 .1) h .0);
+  three-corners = λ f o g k alpha h e. all-distinct (pointCount f) (f .triangles) (setup-good f (was-set-up f o g k alpha e .0 .1) h .0);
   as-many = λ f o g k alpha e. branch-field (builtOf o f) f o g k alpha (by-branch f o g k alpha e) .0;
   range = λ f o g k alpha e. branch-field (builtOf o f) f o g k alpha (by-branch f o g k alpha e) .1;
 }

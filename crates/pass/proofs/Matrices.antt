@@ -20,7 +20,8 @@ use Rattle.pass_assembly.specs.Work as work
 use Rattle.pass_assembly.proofs.Lists as lists
 use Rattle.pass_assembly.proofs.Matrices.{assembled-length, assembled-below, assembled-above}
 use Rattle.pass_shift.specs.declared.Traces.{Traces}
-use Rattle.pass_shift.specs.Shift.{tracesOf, shiftOf, shiftedEnergy, TraceRoom}
+use Rattle.pass_shift.specs.Shift.{tracesOf, shiftOf, shiftedEnergy}
+use Rattle.pass_shift.specs.Work.{TraceRoom}
 use Rattle.pass_terms.specs.declared.Mode.{Mode}
 use Rattle.linear_hermitian.proofs.Elsewhere.{shift-else-real, mass-shifted}
 use Rattle.pass_shift.proofs.Energy.{energy-shifted}

@@ -12,7 +12,7 @@ use Rattle.float.specs.Double.{isFinite, notPositive, recipOf, _⊗_, _⊘_}
 use Rattle.root.specs.Root.{rootOf}
 use Rattle.complex.specs.declared.Complex.{Complex}
 use Rattle.complex.specs.Complex.{czero}
-use Rattle.linear_hermitian.specs.Hermitian.{Matrix, dotOf, normOf, scaled, applied}
+use Rattle.linear_hermitian.specs.Hermitian.{Matrix, dotOf, vectorNorm, scaled, applied}
 use Rattle.linear_vectors.specs.Vectors.{zipOf, addScaled, subScaled, recipsOf, scaledBy}
 use Rattle.linear_conjugate_gradient.specs.Found.{Found, vector, gave}
 use Rattle.linear_conjugate_gradient.specs.Method.{LoopState, firstNotPositive, stepBy, steps, conjugateGradient, massSquared, normalizedOf}
@@ -57,7 +57,7 @@ step-reasoned m inverse limit s next h =
     let nextDot = dotOf preconditioned residual .re in
     let direction = zipOf (addScaled (nextDot ⊘ s .residualDot)) preconditioned (s .direction) in
     either (notPositive denominator) (gave 6 0) _ (plain 6 (omega arith) (omega arith))
-    (either (le (normOf residual) limit) (vector x) _ (found x)
+    (either (le (vectorNorm residual) limit) (vector x) _ (found x)
     (either (notPositive nextDot) (gave 7 0) _ (plain 7 (omega arith) (omega arith)) (h (record { x = x; residual = residual; direction = direction; residualDot = nextDot }))))
 
 steps-reasoned : (m : Matrix) (inverse : List Float) (limit : Float) (k : ℕ) (s : LoopState) → Reasoned (steps m inverse limit k s)
@@ -73,9 +73,9 @@ solution-reasoned m k rhs =
     let dot = dotOf preconditioned rhs .re in
     let vertex = firstNotPositive (m .diagonal) in
     let start : LoopState = record { x = replicate (length rhs) czero; residual = rhs; direction = preconditioned; residualDot = dot } in
-    either (notPositive (normOf rhs)) (gave 3 0) _ (plain 3 (omega arith) (omega arith))
+    either (notPositive (vectorNorm rhs)) (gave 3 0) _ (plain 3 (omega arith) (omega arith))
     (either (ltb vertex (length (m .diagonal))) (gave 4 vertex) _ (given 4 vertex (record { from = omega arith; to = omega arith; no-place = λ n. absurd (n refl) }))
-    (either (notPositive dot) (gave 5 0) _ (plain 5 (omega arith) (omega arith)) (steps-reasoned m inverse (innerTolerance ⊗ normOf rhs) k start)))
+    (either (notPositive dot) (gave 5 0) _ (plain 5 (omega arith) (omega arith)) (steps-reasoned m inverse (innerTolerance ⊗ vectorNorm rhs) k start)))
 
 -- ---- the inverse iteration
 

@@ -11,12 +11,13 @@ use Rattle.linear_cells.proofs.Regions.{length-put}
 use Rattle.linear_cells.proofs.Cells.{length-putC}
 use Rattle.linear_hermitian.specs.Work.{shiftMatrix, ShiftRoom}
 use Rattle.float.specs.Double.{notPositive}
-use Rattle.pass_refusal.specs.declared.Fault.{Fault}
-use Rattle.pass_refusal.specs.declared.Stage.{Stage}
-use Rattle.pass_refusal.specs.declared.Stage.the-variants.{Done, Refused}
-use Rattle.pass_refusal.specs.Refusal.{gaveUp}
+use Rattle.refusals.specs.declared.Refusal.{Refusal}
+use Rattle.refusals.specs.declared.Stage.{Stage}
+use Rattle.refusals.specs.declared.Stage.the-variants.{Done, Refused}
+use Rattle.refusals.specs.Refusal.{gaveUp}
 use Rattle.pass_shift.specs.declared.Traces.{Traces}
-use Rattle.pass_shift.specs.Shift.{shiftOf, tracesStage}
+use Rattle.pass_shift.specs.Shift.{shiftOf}
+use Rattle.pass_shift.specs.Work.{tracesStage}
 use Rattle.pass_options.specs.declared.Options.{Options}
 use Rattle.pass_options.specs.Pass.{Passed, faulty, stageOf}
 use Rattle.pass_layout.specs.declared.Layout.{Layout}
@@ -61,7 +62,7 @@ finds-from l ra rr ww p q w w₁ u u₁ e s f = record {
 }
 
 -- a refusal
-pub refusal-found : (l : Layout) {reals words : ℕ} → l .angles + l .points ≤ reals → (p : Passed) (x : Fault) (w w₁ : List Float) (u u₁ : List ℕ) → p ≡ faulty x → Alike l reals words w w₁ u u₁
+pub refusal-found : (l : Layout) {reals words : ℕ} → l .angles + l .points ≤ reals → (p : Passed) (x : Refusal) (w w₁ : List Float) (u u₁ : List ℕ) → p ≡ faulty x → Alike l reals words w w₁ u u₁
     → Finds l reals words p w u w₁ u₁ (Refused x)
 refusal-found l ra p x w w₁ u u₁ e s = record {
   answer = sym (ap stageOf e);
@@ -78,12 +79,12 @@ refusal-found l ra p x w w₁ u u₁ e s = record {
 
 -- ---- by the traces
 
-traces-cases : (t : Traces) (next : Passed) → ((tracesStage t ≡ Done) × (afterTraces t next ≡ next)) ⊎ ((x : Fault) × (tracesStage t ≡ Refused x) × (afterTraces t next ≡ faulty x))
+traces-cases : (t : Traces) (next : Passed) → ((tracesStage t ≡ Done) × (afterTraces t next ≡ next)) ⊎ ((x : Refusal) × (tracesStage t ≡ Refused x) × (afterTraces t next ≡ faulty x))
 unfolding tracesStage
 traces-cases t next = go (notPositive (t .energy)) (notPositive (t .mass))
   where
     go : (e m : Bool) → ((cond e (Refused (gaveUp 1 0)) (cond m (Refused (gaveUp 2 0)) Done) ≡ Done) × (cond e (faulty (gaveUp 1 0)) (cond m (faulty (gaveUp 2 0)) next) ≡ next)) ⊎
-        ((x : Fault) × (cond e (Refused (gaveUp 1 0)) (cond m (Refused (gaveUp 2 0)) Done) ≡ Refused x) × (cond e (faulty (gaveUp 1 0)) (cond m (faulty (gaveUp 2 0)) next) ≡ faulty x))
+        ((x : Refusal) × (cond e (Refused (gaveUp 1 0)) (cond m (Refused (gaveUp 2 0)) Done) ≡ Refused x) × (cond e (faulty (gaveUp 1 0)) (cond m (faulty (gaveUp 2 0)) next) ≡ faulty x))
     go true m = inr (gaveUp 1 0, refl, refl)
     go false true = inr (gaveUp 2 0, refl, refl)
     go false false = inl (refl, refl)
@@ -91,14 +92,14 @@ traces-cases t next = go (notPositive (t .energy)) (notPositive (t .mass))
 pub traces-done : (t : Traces) (next : Passed) → tracesStage t ≡ Done → afterTraces t next ≡ next
 traces-done t next d = go (traces-cases t next)
   where
-    go : ((tracesStage t ≡ Done) × (afterTraces t next ≡ next)) ⊎ ((x : Fault) × (tracesStage t ≡ Refused x) × (afterTraces t next ≡ faulty x)) → afterTraces t next ≡ next
+    go : ((tracesStage t ≡ Done) × (afterTraces t next ≡ next)) ⊎ ((x : Refusal) × (tracesStage t ≡ Refused x) × (afterTraces t next ≡ faulty x)) → afterTraces t next ≡ next
     go (inl (a, b)) = b
     go (inr (x, a, b)) = let z : _≡_ {A = ℕ} 0 1 = cc in absurd (omega arith)
 
-pub traces-refused : (t : Traces) (next : Passed) (x : Fault) → tracesStage t ≡ Refused x → afterTraces t next ≡ faulty x
+pub traces-refused : (t : Traces) (next : Passed) (x : Refusal) → tracesStage t ≡ Refused x → afterTraces t next ≡ faulty x
 traces-refused t next x d = go (traces-cases t next)
   where
-    go : ((tracesStage t ≡ Done) × (afterTraces t next ≡ next)) ⊎ ((y : Fault) × (tracesStage t ≡ Refused y) × (afterTraces t next ≡ faulty y)) → afterTraces t next ≡ faulty x
+    go : ((tracesStage t ≡ Done) × (afterTraces t next ≡ next)) ⊎ ((y : Refusal) × (tracesStage t ≡ Refused y) × (afterTraces t next ≡ faulty y)) → afterTraces t next ≡ faulty x
     go (inl (a, b)) = let z : _≡_ {A = ℕ} 0 1 = cc in absurd (omega arith)
     go (inr (y, a, b)) = cc
 
@@ -125,7 +126,7 @@ module _ (l : Layout) (m : ℕ) (w : List Float) (u : List ℕ) (o : Options) (a
   pub shift-fits : ShiftRoom (length w₁) (energyAt l m) (massAt l m)
   shift-fits = subst (λ (k : ℕ). ShiftRoom k (energyAt l m) (massAt l m)) (sym work-length) (shift-room l m ok (s .edged .few))
 
-  pub rest-refused : (r : Stage) (x : Fault) → r ≡ tracesStage t → r ≡ Refused x → Finds l (l .mass) (l .table) (fieldIn l o a w u) w u w₁ u r
+  pub rest-refused : (r : Stage) (x : Refusal) → r ≡ tracesStage t → r ≡ Refused x → Finds l (l .mass) (l .table) (fieldIn l o a w u) w u w₁ u r
   unfolding fieldIn fieldOver
   rest-refused r x e d =
       subst (λ (z : Stage). Finds l (l .mass) (l .table) (fieldIn l o a w u) w u w₁ u z) (sym d)

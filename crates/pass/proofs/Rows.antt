@@ -10,13 +10,14 @@ use lib.ListN.{length}
 use lib.Ieee.{Float, lt}
 use Rattle.float.specs.Double.{lit, notPositive}
 use Rattle.complex.specs.declared.Complex.{Complex}
-use Rattle.mesh.specs.Mesh.{Tri, tri, count, All, Good}
-use Rattle.mesh.proofs.Local.{Distinct}
+use Rattle.mesh.specs.Mesh.{count, All, Distinct}
+use Rattle.mesh.proofs.Whole.{all-distinct}
+use Rattle.float.proofs.Within.{and-both}
 use Rattle.floor.specs.Floor.{Floor, pointCount}
 use Rattle.linear_conjugate_gradient.specs.Found.{Found, vector, gave}
 use Rattle.pass_field.specs.Field.{Angles, angles, endless, fieldOf}
-use Rattle.pass_refusal.specs.declared.Fault.{Fault}
-use Rattle.pass_refusal.specs.Refusal.{faultAt, gaveUp}
+use Rattle.refusals.specs.declared.Refusal.{Refusal}
+use Rattle.refusals.specs.Refusal.{rowAt, gaveUp}
 use Rattle.pass_shift.specs.declared.Traces.{Traces}
 use Rattle.pass_soft.specs.Soft.{Term, System}
 use Rattle.pass_options.specs.declared.Options.{Options}
@@ -34,7 +35,7 @@ use Rattle.pass_setup.proofs.Rows.{Tests, passed, failed, setup-rows, accepted-
 use Rattle.pass_solution.specs.Solution.{solutionOf, linearMost}
 use Rattle.pass_inverse_iteration.specs.Inverse.{inverseOf}
 use Rattle.pass_systems.specs.Systems.{softSystem, weakSystem, tangentSystem}
-use Rattle.pass_branches.specs.Branches.{Built, isNone, acts, unbounded, afterAngles, afterVector, linear, free, byMode, searched, branchOf}
+use Rattle.pass_branches.specs.Branches.{Built, noTerms, acts, unbounded, afterAngles, afterVector, linear, free, byMode, searched, branchOf}
 use Rattle.pass_branches.proofs.Bounded.{no-boundary, boundary-none}
 use Rattle.pass.specs.Pass.{tracesIn, builtOf, afterTraces, fieldOver, afterSetup, passOf}
 use Rattle.pass.proofs.Reasons.{Reasoned, solution-reasoned, inverse-reasoned}
@@ -44,7 +45,7 @@ use Rattle.pass.specs.Rows.{BadEnergy, BadMass, Row23, Traced, Posed, So
 
 -- where p is refused, then by row 24
 abbrev GivesUp : Passed → Type 0
-GivesUp p = (x : Fault) → p ≡ faulty x → (reason : ℕ) × ((place : ℕ) × ((x ≡ gaveUp reason place) × SolverReason reason place))
+GivesUp p = (x : Refusal) → p ≡ faulty x → (reason : ℕ) × ((place : ℕ) × ((x ≡ gaveUp reason place) × SolverReason reason place))
 
 angles-up : (g : Angles) → GivesUp (afterAngles g)
 angles-up (angles a) x e = let z : _≡_ {A = ℕ} 0 1 = cc in absurd (omega arith)
@@ -65,7 +66,7 @@ linear-up n k s = vector-up (solutionOf (s .matrix) (linearMost n k) (s .rhs)) (
 free-up : (b : Built) (n : ℕ) (start : List Complex) (terms : List Term) (k : ℕ) → GivesUp (free b n start terms k)
 unfolding free
 free-up b n start terms k =
-    cond-up (isNone terms) _ _ (vector-up (inverseOf (b .mass) (b .energy) (b .trace) k start) (inverse-reasoned (b .mass) (b .energy) (b .trace) k start)) (linear-up n k (softSystem (b .mass) (b .energy) terms n))
+    cond-up (noTerms terms) _ _ (vector-up (inverseOf (b .mass) (b .energy) (b .trace) k start) (inverse-reasoned (b .mass) (b .energy) (b .trace) k start)) (linear-up n k (softSystem (b .mass) (b .energy) terms n))
 
 mode-up : (mode : BoundaryMode) (b : Built) (n : ℕ) (flags : List ℕ) (targets start : List Complex) (terms : List Term) (k : ℕ) → GivesUp (byMode mode b n flags targets start terms k)
 mode-up None b n flags targets start terms k = free-up b n start terms k
@@ -73,14 +74,6 @@ mode-up Tangent b n flags targets start terms k = linear-up n k (tangentSystem f
 mode-up (Weak w) b n flags targets start terms k = cond-up (lt (lit 0) w) _ _ (linear-up n k (weakSystem w flags targets (b .mass) (b .energy) terms)) (free-up b n start terms k)
 
 -- ---- row 23
-
-distinct : (n : ℕ) (ts : List Tri) → All (Good n) ts → All Distinct ts
-distinct n [] h = tt
-distinct n (tri a b c ∷ ts) h = ((h .0 .3, h .0 .4, h .0 .5), distinct n ts (h .1))
-
-and-both : (a b : Bool) → a && b ≡ true → (a ≡ true) × (b ≡ true)
-and-both true b h = (refl, h)
-and-both false b h = absurd (subst T (sym h) tt)
 
 tests-23 : (o : Options) (f : Floor) → All Distinct (f .triangles) → Tests (unbounded (o .boundary) f) (Row23 o f)
 unfolding unbounded
@@ -97,14 +90,14 @@ module _ (f : Floor) (o : Options) (g : Guidance) (k : ℕ) (ok : SoundFloor f) 
 
   module _ (a : AcceptedFloor f) where
     is-distinct : All Distinct (f .triangles)
-    is-distinct = distinct (pointCount f) (f .triangles) (setup-good f (accepted-setup f ok a) (ok .corners) .0)
+    is-distinct = all-distinct (pointCount f) (f .triangles) (setup-good f (accepted-setup f ok a) (ok .corners) .0)
 
     after : (e m u : Bool) → notPositive (tracesIn o f .energy) ≡ e → notPositive (tracesIn o f .mass) ≡ m → unbounded (o .boundary) f ≡ u
-        → passOf f o g k ≡ cond e (faulty (gaveUp 1 0)) (cond m (faulty (gaveUp 2 0)) (cond u (faulty (faultAt 23 0)) search))
+        → passOf f o g k ≡ cond e (faulty (gaveUp 1 0)) (cond m (faulty (gaveUp 2 0)) (cond u (faulty (rowAt 23 0)) search))
     unfolding passOf fieldOver branchOf
     after e m u p q r = rw (accepted-setup f ok a, p, q, r)
 
-  to-pass : (x : Fault) → RefusedPass f o g k x → passOf f o g k ≡ faulty x
+  to-pass : (x : Refusal) → RefusedPass f o g k x → passOf f o g k ≡ faulty x
   to-pass x (by-floor r) = unfold passOf in ap (λ (s : Setup). afterSetup s (fieldOver f o g k)) (setup-rows f ok x .1 r)
   to-pass x (by-energy a p e) = after a true _ _ p refl refl ∙ ap faulty (sym e)
   to-pass x (by-mass a n p e) = after a false true _ (failed (λ z. z, λ z. z) n) p refl ∙ ap faulty (sym e)
@@ -113,17 +106,17 @@ module _ (f : Floor) (o : Options) (g : Guidance) (k : ℕ) (ok : SoundFloor f) 
       let t = s .traced in
       after (t .floor) false false false (failed (λ z. z, λ z. z) (t .energy)) (failed (λ z. z, λ z. z) (t .mass)) (failed (tests-23 o f (is-distinct (t .floor))) (s .bounded)) ∙ h ∙ ap faulty (sym e)
 
-  same : {x y : Fault} → faulty x ≡ faulty y → y ≡ x
+  same : {x y : Refusal} → faulty x ≡ faulty y → y ≡ x
   same e = cc
 
-  from-pass : (x : Fault) → passOf f o g k ≡ faulty x → RefusedPass f o g k x
+  from-pass : (x : Refusal) → passOf f o g k ≡ faulty x → RefusedPass f o g k x
   from-pass x h = set-up (setupOf f) refl
     where
       no : {b : Bool} → b ≡ false → ¬ (b ≡ true)
       no e z = absurd (subst T (sym z ∙ e) tt)
 
       traces : (a : AcceptedFloor f) (e m u : Bool) → notPositive (tracesIn o f .energy) ≡ e → notPositive (tracesIn o f .mass) ≡ m → unbounded (o .boundary) f ≡ u
-          → cond e (faulty (gaveUp 1 0)) (cond m (faulty (gaveUp 2 0)) (cond u (faulty (faultAt 23 0)) (searched (builtOf o f) f o g k))) ≡ faulty x → RefusedPass f o g k x
+          → cond e (faulty (gaveUp 1 0)) (cond m (faulty (gaveUp 2 0)) (cond u (faulty (rowAt 23 0)) (searched (builtOf o f) f o g k))) ≡ faulty x → RefusedPass f o g k x
       traces a true m u p q r z = by-energy a p (same z)
       traces a false true u p q r z = by-mass a (no p) q (same z)
       traces a false false true p q r z = by-23 (record { floor = a; energy = no p; mass = no q }) (tests-23 o f (is-distinct a) .0 r) (same z)

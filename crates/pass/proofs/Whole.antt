@@ -6,9 +6,9 @@ use mathlib.Core.List.{List}
 use lib.ListN.{length}
 use lib.Ieee.{Float, nan}
 use Rattle.floor.specs.Floor.{Floor}
-use Rattle.pass_refusal.specs.declared.Fault.{Fault}
-use Rattle.pass_refusal.specs.declared.Stage.{Stage}
-use Rattle.pass_refusal.specs.declared.Stage.the-variants.{Refused}
+use Rattle.refusals.specs.declared.Refusal.{Refusal}
+use Rattle.refusals.specs.declared.Stage.{Stage}
+use Rattle.refusals.specs.declared.Stage.the-variants.{Refused}
 use Rattle.pass_options.specs.declared.Options.{Options}
 use Rattle.edges.specs.Numbering.{Below}
 use Rattle.pass_layout.specs.declared.Base.{Base}
@@ -47,7 +47,7 @@ module _ (l : Layout) (w : List Float) (u : List ℕ) (o : Options) (a : Asked) 
     words-behind = λ j h. s .words-behind j (omega arith);
   }
 
-  pub pass-refused : (x : Fault) → r ≡ setup.Refused x → {q : Stage} → q ≡ refusalOf r → Finds l (l .areas) (l .wound) (passIn l o a w u) w u w₁ u₁ q
+  pub pass-refused : (x : Refusal) → r ≡ setup.Refused x → {q : Stage} → q ≡ refusalOf r → Finds l (l .areas) (l .wound) (passIn l o a w u) w u w₁ u₁ q
   unfolding passIn passOf
   pass-refused x e f = rw (f, e) (refusal-found l (omega arith) (passIn l o a w u) x w w₁ u u₁
       (ap (λ (z : Setup). afterSetup z (fieldOver (floorIn l w u) o (guidanceAt l a w) (a .iterations))) (sym (s .answer) ∙ e))

@@ -11,7 +11,7 @@ use Rattle.pass_assembly.specs.Lists.{assembledOf}
 use Rattle.pass_shift.specs.declared.Traces.{Traces}
 use Rattle.pass_shift.specs.Shift.{tracesOf, shiftedEnergy}
 use Rattle.float.specs.Double.{notPositive}
-use Rattle.pass_refusal.specs.Refusal.{gaveUp}
+use Rattle.refusals.specs.Refusal.{gaveUp}
 use Rattle.pass_options.specs.declared.Options.{Options}
 use Rattle.pass_options.specs.Options.{Guidance}
 use Rattle.pass_options.specs.Pass.{Passed, faulty}

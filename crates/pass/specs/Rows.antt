@@ -7,8 +7,8 @@ use mathlib.Core.Bool.{true, false}
 use Rattle.float.specs.Double.{notPositive}
 use Rattle.mesh.specs.Mesh.{count}
 use Rattle.floor.specs.Floor.{Floor}
-use Rattle.pass_refusal.specs.declared.Fault.{Fault}
-use Rattle.pass_refusal.specs.Refusal.{faultAt, gaveUp}
+use Rattle.refusals.specs.declared.Refusal.{Refusal}
+use Rattle.refusals.specs.Refusal.{rowAt, gaveUp}
 use Rattle.pass_options.specs.declared.Options.{Options}
 use Rattle.pass_options.specs.Options.{Guidance}
 use Rattle.pass_options.specs.Pass.{faulty}
@@ -46,13 +46,13 @@ pub record SolverReason (reason place : ℕ) : Type 0 where
   pub no-place : reason ≢ 4 → place ≡ 0
 
 -- why a pass is refused
-pub data RefusedPass (f : Floor) (o : Options) (g : Guidance) (iterations : ℕ) (x : Fault) : Type 0 where
+pub data RefusedPass (f : Floor) (o : Options) (g : Guidance) (iterations : ℕ) (x : Refusal) : Type 0 where
   by-floor : RefusedFloor f x → RefusedPass f o g iterations x
   by-energy : AcceptedFloor f → BadEnergy o f → x ≡ gaveUp 1 0 → RefusedPass f o g iterations x
   by-mass : AcceptedFloor f → ¬ BadEnergy o f → BadMass o f → x ≡ gaveUp 2 0 → RefusedPass f o g iterations x
-  by-23 : Traced o f → Row23 o f → x ≡ faultAt 23 0 → RefusedPass f o g iterations x
+  by-23 : Traced o f → Row23 o f → x ≡ rowAt 23 0 → RefusedPass f o g iterations x
   by-solver : Posed o f → (reason place : ℕ) → SolverReason reason place → searched (builtOf o f) f o g iterations ≡ faulty (gaveUp reason place) → x ≡ gaveUp reason place → RefusedPass f o g iterations x
 
 -- "given exactly if"
 pub record PassRows (f : Floor) (o : Options) (g : Guidance) (iterations : ℕ) : Type 0 where
-  pub exactly : (x : Fault) → (passOf f o g iterations ≡ faulty x) ↔ RefusedPass f o g iterations x
+  pub exactly : (x : Refusal) → (passOf f o g iterations ≡ faulty x) ↔ RefusedPass f o g iterations x

@@ -13,8 +13,8 @@ use Rattle.pass_shift.specs.Shift.{tracesOf}
 use Rattle.pass_options.specs.declared.Options.{Options}
 use Rattle.pass_options.specs.Options.{Guidance, guidanceOf}
 use Rattle.pass_options.specs.Pass.{Passed}
-use Rattle.pass_refusal.specs.declared.Stage.{Stage}
-use Rattle.pass_refusal.specs.declared.Stage.the-variants as stage
+use Rattle.refusals.specs.declared.Stage.{Stage}
+use Rattle.refusals.specs.declared.Stage.the-variants as stage
 use Rattle.pass_layout.specs.declared.Layout.{Layout}
 use Rattle.pass_layout.specs.Matrices.{massAt, energyAt}
 use Rattle.pass_layout.specs.Work.{floorIn, guidanceIn}

@@ -5,10 +5,10 @@ use pass_branches::Search;
 use pass_layout::Base;
 use pass_layout::Layout;
 use pass_options::Options;
-use pass_refusal::Stage;
 use pass_setup::Setup;
 use pass_shift::Traces;
 use pass_terms::Mode;
+use refusals::Stage;
 ghost use mathlib.Core.Path.{_≡_};
 ghost use Prim.Native.Nat.{_*_, _≤_};
 ghost use lib.ListN.{length};
@@ -45,50 +45,58 @@ fn plan_at(l: Layout) -> AssemblyPlan
 }
 
 // Both matrices before any shift. Their traces.
-fn build(w: &mut [f64], u: &[u32], l: Layout, edges: usize, m: Mode) -> Traces
-    requires { ⌜ Ordered l (length (now w)) (length (now u)) ⌝ }
-    requires { ⌜ Indexed (now u) (planAt l) (l .points) edges × (edges ≤ 3 * l .triangles) ⌝ }
-    ensures { λ r. ⌜ Builds l edges m (now (w .entry)) (now (u .entry)) (now (w .exit)) r ⌝ }
+fn build(work: &mut [f64], words: &[u32], l: Layout, edges: usize, m: Mode) -> Traces
+    requires { ⌜ Ordered l (length (now work)) (length (now words)) ⌝ }
+    requires { ⌜ Indexed (now words) (planAt l) (l .points) edges × (edges ≤ 3 * l .triangles) ⌝ }
+    ensures { λ r. ⌜ Builds l edges m (now (work .entry)) (now (words .entry)) (now (work .exit)) r ⌝ }
 {
     let mass = pass_layout::mass_at(l, edges);
     let energy = pass_layout::energy_at(l, edges);
-    pass_assembly::assemble(w, u, plan_at(l), mass, energy, m);
-    pass_shift::traces_of(w, mass, energy)
+    pass_assembly::assemble(work, words, plan_at(l), mass, energy, m);
+    pass_shift::traces_of(work, mass, energy)
 }
 
 // The energy matrix gets its shift.
-fn shift_energy(w: &mut [f64], l: Layout, edges: usize, t: Traces)
-    requires { ⌜ ShiftRoom (length (now w)) (energyAt l edges) (massAt l edges) ⌝ }
-    ensures { λ _. ⌜ now (w .exit) ≡ shiftMatrix (now (w .entry)) (energyAt l edges) (shiftOf t) (massAt l edges) ⌝ }
+fn shift_energy(work: &mut [f64], l: Layout, edges: usize, t: Traces)
+    requires { ⌜ ShiftRoom (length (now work)) (energyAt l edges) (massAt l edges) ⌝ }
+    ensures { λ _. ⌜ now (work .exit) ≡ shiftMatrix (now (work .entry)) (energyAt l edges) (shiftOf t) (massAt l edges) ⌝ }
 {
     let mass = pass_layout::mass_at(l, edges);
     let energy = pass_layout::energy_at(l, edges);
-    pass_shift::shift_energy(w, energy, mass, t);
+    pass_shift::shift_energy(work, energy, mass, t);
 }
 
 // The rest of a pass, once its floor is set up.
-fn field_over(w: &mut [f64], u: &mut [u32], l: Layout, edges: usize, o: Options, a: Asked) -> Stage
-    requires { ⌜ Ordered l (length (now w)) (length (now u)) ⌝ }
-    requires { ⌜ Stands l edges (floorIn l (now w) (now u)) (now w) (now u) ⌝ }
-    ensures { λ r. ⌜ Finds l (l .mass) (l .table) (fieldIn l o a (now (w .entry)) (now (u .entry))) (now (w .entry)) (now (u .entry)) (now (w .exit)) (now (u .exit)) r ⌝ }
+fn field_over(
+    work: &mut [f64],
+    words: &mut [u32],
+    l: Layout,
+    edges: usize,
+    o: Options,
+    a: Asked,
+) -> Stage
+    requires { ⌜ Ordered l (length (now work)) (length (now words)) ⌝ }
+    requires { ⌜ Stands l edges (floorIn l (now work) (now words)) (now work) (now words) ⌝ }
+    ensures { λ r. ⌜ Finds l (l .mass) (l .table) (fieldIn l o a (now (work .entry)) (now (words .entry)))
+        (now (work .entry)) (now (words .entry)) (now (work .exit)) (now (words .exit)) r ⌝ }
 {
     let mode = Mode {
         accurate: o.accurate,
         holomorphic: o.holomorphic,
     };
-    let t = build(w, u, l, edges, mode);
+    let t = build(work, words, l, edges, mode);
     let s = pass_shift::check(t);
     let Stage::Done = s else {
         return s;
     };
-    shift_energy(w, l, edges, t);
+    shift_energy(work, l, edges, t);
     let search = Search {
         guided: a.guided,
         weight: a.weight,
         trace: t.energy,
         iterations: a.iterations,
     };
-    pass_branches::find_field(w, u, l, edges, o, search)
+    pass_branches::find_field(work, words, l, edges, o, search)
 }
 
 // What set-up refuses by, as a stage's answer.
@@ -102,16 +110,16 @@ fn refusal(found: Setup) -> Stage
 }
 
 // The pass over the floor that begins at `at`.
-pub fn pass(w: &mut [f64], u: &mut [u32], at: Base, o: Options, a: Asked) -> Stage
-    requires { ⌜ Fits at (length (now w)) (length (now u)) ⌝ }
-    requires { ⌜ Below (at .points) (at .words) (now u) (3 * at .triangles) ⌝ }
-    ensures { λ r. ⌜ Finds (layoutOf at) (layoutOf at .areas) (layoutOf at .wound) (passIn (layoutOf at) o a (now (w .entry)) (now (u .entry)))
-        (now (w .entry)) (now (u .entry)) (now (w .exit)) (now (u .exit)) r ⌝ }
+pub fn pass(work: &mut [f64], words: &mut [u32], at: Base, o: Options, a: Asked) -> Stage
+    requires { ⌜ Fits at (length (now work)) (length (now words)) ⌝ }
+    requires { ⌜ Below (at .points) (at .words) (now words) (3 * at .triangles) ⌝ }
+    ensures { λ r. ⌜ Finds (layoutOf at) (layoutOf at .areas) (layoutOf at .wound) (passIn (layoutOf at) o a (now (work .entry)) (now (words .entry)))
+        (now (work .entry)) (now (words .entry)) (now (work .exit)) (now (words .exit)) r ⌝ }
 {
     let l = pass_layout::layout_at(at);
-    let found = pass_setup::set_up(w, u, l);
+    let found = pass_setup::set_up(work, words, l);
     let Setup::Edges(edges) = found else {
         return refusal(found);
     };
-    field_over(w, u, l, edges, o, a)
+    field_over(work, words, l, edges, o, a)
 }

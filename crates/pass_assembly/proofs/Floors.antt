@@ -7,7 +7,7 @@ use lib.ListN.{getD}
 use lib.Ieee.{Float, nan}
 use Rattle.edges.specs.Numbering.{Below}
 use Rattle.geometry.specs.Triangle.{at}
-use Rattle.pass_geometries.specs.Geometries.{coordsFrom}
+use Rattle.pass_geometries.specs.Work.{coordsFrom}
 use Rattle.pass_geometries.proofs.Steps.{corners-below}
 use Rattle.pass_terms.specs.declared.Mode.{Mode}
 use Rattle.linear_cells.specs.Cell.{getC}

@@ -9,7 +9,7 @@ use lib.Ieee.{Float, nan}
 use Rattle.complex.specs.declared.Complex.{Complex}
 use Rattle.linear_cells.specs.Region.{region, put}
 use Rattle.linear_cells.specs.Cell.{flat, regionC, putC}
-use Rattle.linear_cells.specs.Rows.{row, rows, laid, Rowed}
+use Rattle.linear_cells.specs.Spans.{span, contents, laid, Spanned}
 use Rattle.linear_cells.proofs.Regions.{length-region, getD-region}
 use Rattle.linear_cells.proofs.Cells.{length-flat, length-regionC, flat-regionC, regionC-flat}
 use Rattle.linear_cells.proofs.Rows.{laid-rows, laid-below, laid-at, laid-set, laid-laid, length-laid}
@@ -23,7 +23,7 @@ pub record Sized (mass energy : Hermitian) (s : Sums) : Type 0 where
   pub energy-n : length (s .energyDiagonal) ≡ energy .size
   pub energy-e : length (s .energyOff) ≡ energy .edges
 
-rowed : (mass energy : Hermitian) (s : Sums) → Sized mass energy s → Rowed (bases mass energy) (vectors s)
+rowed : (mass energy : Hermitian) (s : Sums) → Sized mass energy s → Spanned (bases mass energy) (vectors s)
 rowed mass energy s z = (z .mass-n, (length-flat (s .massOff) (z .mass-e), (z .energy-n, (length-flat (s .energyOff) (z .energy-e), tt))))
 
 pub read-sized : (w : List Float) (mass energy : Hermitian) → Sized mass energy (read w mass energy)
@@ -36,7 +36,7 @@ read-sized w mass energy = record {
 }
 
 pub lay-read : (w : List Float) (mass energy : Hermitian) → w ≡ lay w mass energy (read w mass energy)
-unfolding lay read rows
+unfolding lay read contents
 lay-read w mass energy =
     sym (rw (flat-regionC w (mass .off) (mass .edges), flat-regionC w (energy .off) (energy .edges)) (laid-rows nan w (bases mass energy)))
 
@@ -45,11 +45,11 @@ unfolding lay
 length-lay w mass energy s = length-laid nan w (bases mass energy) (vectors s)
 
 module _ (w : List Float) (mass energy : Hermitian) (ok : AddRoom (length w) mass energy) (s : Sums) (z : Sized mass energy s) where
-  get : (j : ℕ) → j < 4 → region nan (laid w (bases mass energy) (vectors s)) (getD (bases mass energy) j (row 0 0) .base) (getD (bases mass energy) j (row 0 0) .size) ≡ getD (vectors s) j []
+  get : (j : ℕ) → j < 4 → region nan (laid w (bases mass energy) (vectors s)) (getD (bases mass energy) j (span 0 0) .base) (getD (bases mass energy) j (span 0 0) .size) ≡ getD (vectors s) j []
   get j h = laid-at nan w (mass .diagonal) (bases mass energy) (vectors s) (ok .matrices-in) (rowed mass energy s z) j h
 
-  store : (j : ℕ) → j < 4 → (v : List Float) → length v ≡ getD (bases mass energy) j (row 0 0) .size
-      → put (laid w (bases mass energy) (vectors s)) (getD (bases mass energy) j (row 0 0) .base) v ≡ laid w (bases mass energy) (set (vectors s) j v)
+  store : (j : ℕ) → j < 4 → (v : List Float) → length v ≡ getD (bases mass energy) j (span 0 0) .size
+      → put (laid w (bases mass energy) (vectors s)) (getD (bases mass energy) j (span 0 0) .base) v ≡ laid w (bases mass energy) (set (vectors s) j v)
   store j h v k = laid-set nan w (mass .diagonal) (length w) (bases mass energy) (vectors s) (ok .matrices-in) (rowed mass energy s z) j h v k
 
   -- ---- one read, one written

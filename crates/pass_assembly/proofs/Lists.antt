@@ -13,7 +13,7 @@ use Rattle.mesh.proofs.Theorem.{index-below}
 use Rattle.edges.specs.Numbering.{triFrom, Below}
 use Rattle.edges.specs.Table.{NumbersOf}
 use Rattle.geometry.specs.Triangle.{at}
-use Rattle.pass_geometries.specs.Geometries.{coordsFrom}
+use Rattle.pass_geometries.specs.Work.{coordsFrom}
 use Rattle.pass_terms.specs.declared.Mode.{Mode}
 use Rattle.linear_cells.specs.Region.{region}
 use Rattle.linear_cells.specs.Cell.{getC, regionC}

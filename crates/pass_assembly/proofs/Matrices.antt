@@ -9,7 +9,7 @@ use Rattle.complex.specs.declared.Complex.{Complex}
 use Rattle.pass_terms.specs.declared.Mode.{Mode}
 use Rattle.linear_cells.specs.Region.{region, put}
 use Rattle.linear_cells.specs.Cell.{flat, regionC}
-use Rattle.linear_cells.specs.Rows.{laid}
+use Rattle.linear_cells.specs.Spans.{laid}
 use Rattle.linear_cells.proofs.Loops.{apart}
 use Rattle.linear_cells.proofs.Regions.{region-else}
 use Rattle.linear_cells.proofs.Cells.{length-flat}

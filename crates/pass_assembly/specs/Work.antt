@@ -9,7 +9,7 @@ use Rattle.float.specs.Double.{lit, _⊕_}
 use Rattle.complex.specs.declared.Complex.{Complex}
 use Rattle.complex.specs.Complex.{cnan, cadd}
 use Rattle.edges.specs.Numbering.{Below}
-use Rattle.pass_geometries.specs.Geometries.{coordsFrom}
+use Rattle.pass_geometries.specs.Work.{coordsFrom}
 use Rattle.pass_terms.specs.declared.Mode.{Mode}
 use Rattle.pass_terms.specs.declared.Corners.{Corners}
 use Rattle.pass_terms.specs.declared.Sides.{Sides}
@@ -18,7 +18,7 @@ use Rattle.pass_terms.specs.declared.Part.{Part}
 use Rattle.pass_terms.specs.Terms.{isPlain}
 use Rattle.linear_cells.specs.Region.{tab, region, put}
 use Rattle.linear_cells.specs.Cell.{getC, flat, regionC, putC}
-use Rattle.linear_cells.specs.Rows.{Row, row, laid, Ranged}
+use Rattle.linear_cells.specs.Spans.{Span, span, laid, Ranged}
 use Rattle.linear_hermitian.specs.declared.Hermitian.{Hermitian}
 use Rattle.pass_assembly.specs.declared.Triple.{Triple}
 use Rattle.pass_assembly.specs.declared.AssemblyPlan.{AssemblyPlan}
@@ -52,9 +52,9 @@ pub record Sums : Type 0 where
   pub energyDiagonal : List Float
   pub energyOff : List Complex
 
-abbrev pub bases : Hermitian → Hermitian → List Row
+abbrev pub bases : Hermitian → Hermitian → List Span
 bases mass energy =
-    row (mass .diagonal) (mass .size) ∷ row (mass .off) (2 * mass .edges) ∷ row (energy .diagonal) (energy .size) ∷ row (energy .off) (2 * energy .edges) ∷ []
+    span (mass .diagonal) (mass .size) ∷ span (mass .off) (2 * mass .edges) ∷ span (energy .diagonal) (energy .size) ∷ span (energy .off) (2 * energy .edges) ∷ []
 
 abbrev pub vectors : Sums → List (List Float)
 vectors s = s .massDiagonal ∷ flat (s .massOff) ∷ s .energyDiagonal ∷ flat (s .energyOff) ∷ []

@@ -12,7 +12,8 @@ use Rattle.mesh.specs.Mesh.{Side, side, key, Tri, tri, indexIn, sides, isNone}
 use Rattle.mesh.proofs.Cuts.{key-flip}
 use Rattle.mesh.proofs.Theorem.{index-below}
 use Rattle.edges.specs.Table.{loOf, hiOf, NumbersOf}
-use Rattle.edges.specs.Numbering.{triFrom, trisFrom, NumberedTo, Below, times, listed}
+use Rattle.edges.specs.Numbering.{triFrom, trisFrom, NumberedTo, Below}
+use Rattle.edges.specs.Sides.{times, listed}
 use Rattle.edges.proofs.Tree.{length-pairs}
 use Rattle.edges.proofs.Counts.{times-append, listed-snoc, each-counted}
 use Rattle.pass_boundary.specs.declared.Listing.{Listing}
@@ -96,7 +97,10 @@ module _ (l : Listing) (n v : ℕ) (u u′ : List ℕ) (given-in : l .corners + 
     held = made .held;
     corners-below = λ j h. omega (arith, same-before (l .corners + j) (omega arith), below j h);
     all-in = λ i h. subst (λ (t : Tri). AllIn t (tableOf l u′)) (sym (given-tri i h)) (all-in (triFrom (l .corners) u i) (triFrom v u i) (tableOf l u′) _ _ _ (alike i h) (made .numbers i h));
-    either-way = λ i h. subst (λ (t : Tri). EitherWay t (tableOf l u′) (getD u′ (l .numbers + 3 * i) 0) (getD u′ (l .numbers + 3 * i + 1) 0) (getD u′ (l .numbers + 3 * i + 2) 0)) (sym (given-tri i h)) (either-of (triFrom (l .corners) u i) (triFrom v u i) (tableOf l u′) _ _ _ (alike i h) (made .numbers i h));
+    either-way = λ i h. subst
+        (λ (t : Tri). EitherWay t (tableOf l u′) (getD u′ (l .numbers + 3 * i) 0) (getD u′ (l .numbers + 3 * i + 1) 0)
+        (getD u′ (l .numbers + 3 * i + 2) 0))
+        (sym (given-tri i h)) (either-of (triFrom (l .corners) u i) (triFrom v u i) (tableOf l u′) _ _ _ (alike i h) (made .numbers i h));
   }
 
   pub numbered-numbers : Numbers l u′

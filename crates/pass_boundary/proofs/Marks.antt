@@ -10,7 +10,8 @@ use lib.Ieee.{Float}
 use Rattle.complex.specs.declared.Complex.{Complex}
 use Rattle.complex.specs.Complex.{cadd}
 use Rattle.mesh.specs.Mesh.{Side, side, Tri, tri}
-use Rattle.pass_boundary.specs.Boundary.{around, walked, kept, Mark, ends, marks, isMarked, sumFrom, firstOr, touched}
+use Rattle.pass_boundary.specs.Boundary.{around, walked, kept, Mark, ends, marks, sumFrom, firstOr, touched}
+use Rattle.pass_boundary.specs.Work.{isMarked}
 
 -- ---- sides
 

@@ -10,7 +10,6 @@ use Rattle.complex.specs.Complex.{czero, cnan}
 use Rattle.linear_cells.proofs.Loops.{length-tab, getD-tab}
 use Rattle.mesh.specs.Mesh.{Tri, one}
 use Rattle.pass_boundary.specs.Boundary.{boundarySides, marks, targetAt, marksOf, targetsOf, touched, flagsOf}
-use Rattle.pass_boundary.proofs.Marks.{marked-touched}
 
 pub length-flags : (ts : List Tri) (n : ℕ) → length (flagsOf ts n) ≡ n
 unfolding flagsOf
@@ -34,4 +33,4 @@ pub target-off : (X Y : ℕ → Float) (ts : List Tri) (n v : ℕ) → v < n →
 unfolding targetsOf targetAt marksOf
 target-off X Y ts n v h e =
     let off : touched (boundarySides ts) v ≡ false = sym (flag-at ts n v h) ∙ e in
-    getD-tab (targetAt (marks X Y (boundarySides ts))) n v cnan h ∙ rw (marked-touched X Y (boundarySides ts) v, off)
+    getD-tab (targetAt (boundarySides ts) (marks X Y (boundarySides ts))) n v cnan h ∙ rw off

@@ -1,27 +1,14 @@
--- A run of stores, and what stays of what stands in the u32 work where its cells stay. Assumes nothing.
+-- What stays of what stands in the u32 work where its cells stay. Assumes nothing.
 use Prim.Native.Nat.{ℕ, zero, suc, _+_, _*_, _≤_, _<_}
 use native.Mathlib.Omega.{arith}
-use mathlib.Core.Path.{_≡_, refl, sym, ap, _∙_, subst}
-use mathlib.Core.List.{List, [], _∷_, _++_}
-use lib.ListN.{length, getD, set}
-use lib.Seq.{sets}
-use Rattle.linear_cells.specs.Region.{put}
-use Rattle.runs.proofs.Runs.{sets-append}
+use mathlib.Core.Path.{_≡_, refl, sym, _∙_, subst}
+use mathlib.Core.List.{List}
+use lib.ListN.{length, getD}
 use Rattle.mesh.specs.Mesh.{Side, Tri}
 use Rattle.edges.specs.Numbering.{triFrom, trisFrom, occurs}
 use Rattle.edges.proofs.Numbering.{sides-same, held-same}
 use Rattle.pass_boundary.specs.declared.Listing.{Listing}
 use Rattle.pass_boundary.specs.Work.{trisIn, tableOf, AllIn, EitherWay, ListRoom, Sided, Numbers, Counts}
-
--- ---- a run of stores is a put
-
-pub put-sets : {A : Type 0} (xs : List A) (at : ℕ) (vs : List A) → put xs at vs ≡ sets xs at vs
-unfolding put
-put-sets xs at [] = refl
-put-sets xs at (v ∷ vs) = put-sets (set xs at v) (suc at) vs
-
-pub put-append : {A : Type 0} (w : List A) (a : ℕ) (xs ys : List A) {n : ℕ} → length xs ≡ n → put (put w a xs) (a + n) ys ≡ put w a (xs ++ ys)
-put-append w a xs ys {n} e = ap (λ (k : ℕ). put (put w a xs) (a + k) ys) (sym e) ∙ rw (put-sets, put-sets, put-sets) (sets-append w a xs ys)
 
 -- ---- the triangles, the table, the numbers and the counts, where the cells up to the table's end, or before the flags, are the same
 

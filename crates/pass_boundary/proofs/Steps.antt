@@ -27,12 +27,13 @@ use Rattle.linear_cells.proofs.Changes.{cell-at, cell-else, real-else, region-s
 use Rattle.mesh.specs.Mesh.{Side, side, key, Tri, tri, indexIn, isNone}
 use Rattle.mesh.proofs.Cuts.{key-flip, index-only, index-below}
 use Rattle.edges.specs.Table.{loOf, hiOf, Held, oneMore}
-use Rattle.edges.specs.Numbering.{triFrom, trisFrom, times, listed}
+use Rattle.edges.specs.Numbering.{triFrom, trisFrom}
+use Rattle.edges.specs.Sides.{times, listed}
 use Rattle.edges.proofs.Tree.{length-pairs}
 use Rattle.pass_boundary.specs.declared.Listing.{Listing}
 use Rattle.pass_boundary.specs.declared.Planes.{Planes}
-use Rattle.pass_boundary.specs.Boundary.{around, walked, once, isInner, kept, tangent, Mark, mark, marks, isMarked, sumFrom, firstOr}
-use Rattle.pass_boundary.specs.Work.{xsIn, ysIn, trisIn, tableOf, ListRoom, PlaneRoom, In, EitherWay, Sided, Counts, Added, Marked}
+use Rattle.pass_boundary.specs.Boundary.{around, walked, once, isInner, kept, sideTangent, Mark, mark, marks, sumFrom, firstOr}
+use Rattle.pass_boundary.specs.Work.{xsIn, ysIn, trisIn, tableOf, ListRoom, PlaneRoom, In, EitherWay, Sided, Counts, isMarked, Added, Marked}
 use Rattle.pass_boundary.proofs.Marks.{walked-snoc, kept-append, kept-few, marks-append, sum-append, flag-append, first-append}
 use Rattle.pass_boundary.proofs.Slices.{tris-kept, table-kept, tri-kept, sided-kept, counts-kept}
 
@@ -113,8 +114,8 @@ counts-there {l} {n} {len} {u} room s i h =
 -- ---- a side's direction
 
 pub direction-of : (p : Planes) (w : List Float) (a b : ℕ) → a < p .points → b < p .points
-    → fourfold (atan2Of (getD w (p .y + b) nan ⊖ getD w (p .y + a) nan) (getD w (p .x + b) nan ⊖ getD w (p .x + a) nan)) ≡ tangent (xsIn p w) (ysIn p w) (side a b)
-unfolding tangent
+    → fourfold (atan2Of (getD w (p .y + b) nan ⊖ getD w (p .y + a) nan) (getD w (p .x + b) nan ⊖ getD w (p .x + a) nan)) ≡ sideTangent (xsIn p w) (ysIn p w) (side a b)
+unfolding sideTangent
 direction-of p w a b ha hb =
     rw (
       getD-region w (p .y) (p .points) b nan hb,
@@ -267,10 +268,10 @@ marked-inner {l} {p} {u} {w} (tri a b c) h = go (once (trisIn l u) (side a b)) (
     go false false false ex ey ez e = record { added = rw (ex, ey, ez) (added-none (l .flags) p u w); sides = rw (ex, ey, ez) }
 
 pub marked-yes : {l : Listing} {p : Planes} {u u₁ u₂ : List ℕ} {w w₁ w₂ : List Float} {a b i j : ℕ} {z : Complex} → once (trisIn l u) (side a b) ≡ true → i ≡ a → j ≡ b
-    → z ≡ tangent (xsIn p w) (ysIn p w) (side i j) → Added (l .flags) p (mark i z ∷ []) u w u₁ w₁ → Added (l .flags) p (mark j z ∷ []) u₁ w₁ u₂ w₂ → Marked l p (side a b ∷ []) u w u₂ w₂ 1
+    → z ≡ sideTangent (xsIn p w) (ysIn p w) (side i j) → Added (l .flags) p (mark i z ∷ []) u w u₁ w₁ → Added (l .flags) p (mark j z ∷ []) u₁ w₁ u₂ w₂ → Marked l p (side a b ∷ []) u w u₂ w₂ 1
 unfolding kept marks
 marked-yes {l} {p} {u} {u₁} {u₂} {w} {w₁} {w₂} {a} {b} {i} {j} {z} h ei ej ez m₁ m₂ =
-    let z′ : z ≡ tangent (xsIn p w) (ysIn p w) (side a b) = ez ∙ ap₂ (λ (x y : ℕ). tangent (xsIn p w) (ysIn p w) (side x y)) ei ej in
+    let z′ : z ≡ sideTangent (xsIn p w) (ysIn p w) (side a b) = ez ∙ ap₂ (λ (x y : ℕ). sideTangent (xsIn p w) (ysIn p w) (side x y)) ei ej in
     let m : Added (l .flags) p (mark i z ∷ mark j z ∷ []) u w u₂ w₂ = added-then m₁ m₂ in
     record {
       added = rw (h, ← ei, ← ej, ← ez) m;

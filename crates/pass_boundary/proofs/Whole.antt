@@ -15,19 +15,20 @@ use Rattle.complex.specs.Complex.{czero, cone, cnan}
 use Rattle.linear_cells.specs.Region.{tab, region, put, Apart}
 use Rattle.linear_cells.specs.Cell.{getC, flat, regionC, putC}
 use Rattle.linear_cells.proofs.Loops.{apart, length-tab, getD-tab, tab-ext}
-use Rattle.linear_cells.proofs.Regions.{length-put, put-within, put-put, length-region, getD-region}
+use Rattle.linear_cells.proofs.Regions.{length-put, put-sets, put-next, put-within, put-put, length-region, getD-region}
 use Rattle.linear_cells.proofs.Cells.{length-putC, length-regionC, getD-regionC, putC-regionC, putC-at, putC-else, putC-putC, putC-apart, flat-regionC, length-flat}
 use Rattle.linear_cells.proofs.Over.{over, over-none, length-over, over-all, over-read, over-cell}
 use Rattle.linear_cells.proofs.Changes.{put-out, region-same, put-changed, puts-changed, flat-replicate}
 use Rattle.mesh.specs.Mesh.{Side, side, Tri, one}
-use Rattle.edges.specs.Numbering.{Counted, times, listed}
+use Rattle.edges.specs.Numbering.{Counted}
+use Rattle.edges.specs.Sides.{times, listed}
 use Rattle.pass_boundary.specs.declared.Listing.{Listing}
 use Rattle.pass_boundary.specs.declared.Planes.{Planes}
 use Rattle.pass_boundary.specs.Boundary.{walked, boundarySides, Mark, marks, sumFrom, firstOr, targetAt, marksOf, targetsOf, firstsOf, touched, flagsOf}
 use Rattle.pass_boundary.specs.Work.{xsIn, ysIn, trisIn, tableOf, ListRoom, PlaneRoom, Sided, Numbers, Counts, countsOf, counted, Added, Marked, settledAt, settled, settleC, settledIn, cleared, Bounded}
 use Rattle.pass_boundary.proofs.Marks.{marked-touched}
 use Rattle.pass_boundary.proofs.Steps.{Facts}
-use Rattle.pass_boundary.proofs.Slices.{put-sets, put-append, tris-kept, table-kept, sided-kept}
+use Rattle.pass_boundary.proofs.Slices.{tris-kept, table-kept, sided-kept}
 
 -- ---- the targets, point by point
 
@@ -121,7 +122,7 @@ clear-all p w {w₁} {w₂} {w₃} e₁ e₂ e₃ =
     let z : n + n ≡ 2 * n = omega arith in
     let zeros : flat (replicate n czero) ≡ replicate (2 * n) (lit 0) = flat-replicate n czero ∙ replicate-append-replicate n n (lit 0) ∙ ap (λ (k : ℕ). replicate k (lit 0)) z in
     e₃ ∙ ap (λ (t : List Float). put t (p .first + n) (replicate n (lit 0))) e₂
-    ∙ put-append w₁ (p .first) (replicate n (lit 0x3ff0_0000_0000_0000)) (replicate n (lit 0)) (length-replicate n (lit 0x3ff0_0000_0000_0000))
+    ∙ put-next w₁ (p .first) (replicate n (lit 0x3ff0_0000_0000_0000)) (replicate n (lit 0)) (length-replicate n (lit 0x3ff0_0000_0000_0000))
     ∙ rw (flat-replicate n cone, zeros, e₁)
 
 module _ (p : Planes) (w : List Float) (room : PlaneRoom p (length w)) where
@@ -208,7 +209,6 @@ module _ (l : Listing) (p : Planes) (u : List ℕ) (w : List Float) (room : List
           getD-tab (λ v. firstOr v cone (marks (xsIn p w) (ysIn p w) (boundarySides (trisIn l u)))) (p .points) v cnan h,
           getD-tab (λ v. sumFrom v czero (marks (xsIn p w) (ysIn p w) (boundarySides (trisIn l u)))) (p .points) v cnan h,
           flag-test (touched (boundarySides (trisIn l u)) v),
-          marked-touched (xsIn p w) (ysIn p w) (boundarySides (trisIn l u)) v,
         )))
 
     walk-reals : w₂ ≡ putC (putC w (p .targets) (regionC w₂ (p .targets) (p .points))) (p .first) (regionC w₂ (p .first) (p .points))

@@ -11,7 +11,7 @@ use Rattle.complex.specs.declared.Complex.{Complex}
 use Rattle.complex.specs.Complex.{czero, cone, cadd, cscale}
 use Rattle.linear_cells.specs.Region.{tab}
 use Rattle.mesh.specs.Mesh.{Side, side, key, Tri, tri, one}
-use Rattle.edges.specs.Numbering.{times, listed}
+use Rattle.edges.specs.Sides.{times, listed}
 use Rattle.complex.specs.Guidance.{fourfold, normOf, SMALLEST-NORM}
 
 -- ---- which sides
@@ -44,8 +44,8 @@ boundarySides ts = kept (once ts) (walked ts)
 -- ---- what they add
 
 -- lines 886 and 887: the fourfold direction of a side
-unfoldable pub tangent : (ℕ → Float) → (ℕ → Float) → Side → Complex
-tangent X Y (side u v) = fourfold (atan2Of (Y v ⊖ Y u) (X v ⊖ X u))
+unfoldable pub sideTangent : (ℕ → Float) → (ℕ → Float) → Side → Complex
+sideTangent X Y (side u v) = fourfold (atan2Of (Y v ⊖ Y u) (X v ⊖ X u))
 
 -- a value that is added at a point
 pub record Mark : Type 0 where
@@ -57,7 +57,7 @@ mark v z = record { point = v; value = z }
 
 -- line 888: `for vertex in [u, v]`
 abbrev pub ends : (ℕ → Float) → (ℕ → Float) → Side → List Mark
-ends X Y (side u v) = mark u (tangent X Y (side u v)) ∷ mark v (tangent X Y (side u v)) ∷ []
+ends X Y (side u v) = mark u (sideTangent X Y (side u v)) ∷ mark v (sideTangent X Y (side u v)) ∷ []
 
 unfoldable pub marks : (ℕ → Float) → (ℕ → Float) → List Side → List Mark
 marks X Y [] = []
@@ -65,10 +65,10 @@ marks X Y (s ∷ ss) = ends X Y s ++ marks X Y ss
 
 -- ---- at a point
 
--- line 889: something is added there
-unfoldable pub isMarked : ℕ → List Mark → Bool
-isMarked v [] = false
-isMarked v (m ∷ ms) = eqb v (m .point) || isMarked v ms
+-- line 889, the Rust's `is_boundary`: v is an end of one of the sides
+unfoldable pub touched : List Side → ℕ → Bool
+touched [] v = false
+touched (side a b ∷ ss) v = eqb v a || (eqb v b || touched ss v)
 
 -- line 890: the sum of what is added there, after z
 unfoldable pub sumFrom : ℕ → Complex → List Mark → Complex
@@ -84,9 +84,9 @@ firstOr v z (m ∷ ms) = cond (eqb v (m .point)) (m .value) (firstOr v z ms)
 unfoldable pub normalised : Complex → Complex → Complex
 normalised sum first = cond (isFinite (normOf sum) && lt SMALLEST-NORM (normOf sum)) (cscale sum (recipOf (normOf sum))) first
 
--- lines 902 to 912
-unfoldable pub targetAt : List Mark → ℕ → Complex
-targetAt ms v = cond (isMarked v ms) (normalised (sumFrom v czero ms) (firstOr v cone ms)) czero
+-- lines 902 to 912, of the boundary's sides and what they add
+unfoldable pub targetAt : List Side → List Mark → ℕ → Complex
+targetAt ss ms v = cond (touched ss v) (normalised (sumFrom v czero ms) (firstOr v cone ms)) czero
 
 -- ---- of n points
 
@@ -96,16 +96,11 @@ marksOf X Y ts = marks X Y (boundarySides ts)
 
 -- the Rust's `targets`
 unfoldable pub targetsOf : (ℕ → Float) → (ℕ → Float) → List Tri → ℕ → List Complex
-targetsOf X Y ts n = tab (targetAt (marksOf X Y ts)) n
+targetsOf X Y ts n = tab (targetAt (boundarySides ts) (marksOf X Y ts)) n
 
 -- the Rust's `first`
 unfoldable pub firstsOf : (ℕ → Float) → (ℕ → Float) → List Tri → ℕ → List Complex
 firstsOf X Y ts n = tab (λ v. firstOr v cone (marksOf X Y ts)) n
-
--- v is an end of one of the sides
-unfoldable pub touched : List Side → ℕ → Bool
-touched [] v = false
-touched (side a b ∷ ss) v = eqb v a || (eqb v b || touched ss v)
 
 -- the Rust's `is_boundary`, as 1 and 0
 unfoldable pub flagsOf : List Tri → ℕ → List ℕ

@@ -2,8 +2,8 @@
 use Prim.Native.Nat.{ℕ, _+_, _*_, _^_, _≤_, _<_}
 use mathlib.Core.Path.{_≡_}
 use mathlib.Core.Logic.{_⊎_}
-use mathlib.Core.Bool.{false, cond}
-use mathlib.Core.List.{List}
+use mathlib.Core.Bool.{Bool, false, cond, _||_}
+use mathlib.Core.List.{List, [], _∷_}
 use lib.Dec.{eqb}
 use lib.ListN.{length, getD, replicate}
 use lib.Ieee.{Float, nan}
@@ -13,10 +13,11 @@ use Rattle.linear_cells.specs.Region.{tab, region, put}
 use Rattle.linear_cells.specs.Cell.{getC, setC, regionC, putC}
 use Rattle.mesh.specs.Mesh.{Side, side, key, Tri, tri, isNone, indexIn}
 use Rattle.edges.specs.Table.{sidesIn, Held, NumbersOf}
-use Rattle.edges.specs.Numbering.{triFrom, trisFrom, occurs, Below, times, listed}
+use Rattle.edges.specs.Numbering.{triFrom, trisFrom, occurs, Below}
+use Rattle.edges.specs.Sides.{times, listed}
 use Rattle.pass_boundary.specs.declared.Listing.{Listing}
 use Rattle.pass_boundary.specs.declared.Planes.{Planes}
-use Rattle.pass_boundary.specs.Boundary.{Mark, once, kept, boundarySides, marks, isMarked, sumFrom, firstOr, normalised, targetsOf, firstsOf, flagsOf}
+use Rattle.pass_boundary.specs.Boundary.{Mark, once, kept, boundarySides, marks, sumFrom, firstOr, normalised, targetsOf, firstsOf, flagsOf}
 
 -- ---- what stands in the slices
 
@@ -101,6 +102,11 @@ countsOf ss ts m = tab (λ k. times (getD ss k (side 0 0)) (listed ts)) m
 -- u with them behind the table, and with no flags
 unfoldable pub counted : Listing → ℕ → List ℕ → List ℕ
 counted l n u = put (put u (l .counts) (countsOf (tableOf l u) (trisIn l u) (l .sides))) (l .flags) (replicate n 0)
+
+-- one of the values is added at v
+unfoldable pub isMarked : ℕ → List Mark → Bool
+isMarked v [] = false
+isMarked v (m ∷ ms) = eqb v (m .point) || isMarked v ms
 
 -- the values ms are added to the sums, which stand where the targets will: at each point of p the sum and, where it has no flag yet, the first value
 -- and the flag. All else is as it was

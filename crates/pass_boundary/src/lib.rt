@@ -13,7 +13,7 @@ ghost use lib.ListN.{length, getD};
 ghost use Rattle.mesh.specs.Mesh.{side, key};
 ghost use Rattle.edges.specs.Table.{Held};
 ghost use Rattle.edges.specs.Numbering.{triFrom};
-ghost use Rattle.pass_boundary.specs.Boundary.{around, walked, once, isInner, tangent, mark, normalised};
+ghost use Rattle.pass_boundary.specs.Boundary.{around, walked, once, isInner, sideTangent, mark, normalised};
 ghost use Rattle.pass_boundary.specs.Work.{xsIn, ysIn, firstIn, trisIn, tableOf, ListRoom, PlaneRoom, In, Sided, Numbers, Counts, Added, Marked, settledAt, counted, settleC, settledIn, cleared, Bounded};
 
 // Where the u32 work holds the triangles as given, the table of their sides (crate edges), and for each triangle the numbers of its sides; and
@@ -56,7 +56,7 @@ fn is_boundary(u: &[u32], l: Listing, a: u32, b: u32) -> bool
 // The fourfold direction of the side from a to b.
 fn direction(w: &[f64], p: Planes, a: usize, b: usize) -> Complex
     requires { ⌜ PlaneRoom p (length (now w)) × ((a < p .points) × (b < p .points)) ⌝ }
-    ensures { λ r. ⌜ r ≡ tangent (xsIn p (now (w .entry))) (ysIn p (now (w .entry))) (side a b) ⌝ }
+    ensures { λ r. ⌜ r ≡ sideTangent (xsIn p (now (w .entry))) (ysIn p (now (w .entry))) (side a b) ⌝ }
 {
     let dy = load_real(w, p.y, b) - load_real(w, p.y, a);
     let dx = load_real(w, p.x, b) - load_real(w, p.x, a);
@@ -200,7 +200,7 @@ fn count_sides(u: &mut [u32], l: Listing, n: usize)
     ensures { λ _. ⌜ now (u .exit) ≡ counted l n (now (u .entry)) ⌝ }
 {
     edges::numbers::count_numbers(u, l.numbers, 3 * l.triangles, l.counts, l.sides);
-    edges::zeros(u, l.flags, n);
+    slices::zeros_u32(u, l.flags, n);
 }
 
 // Sums of 0, and first values of 1.

@@ -9,12 +9,11 @@ use mathlib.Core.List.{List, [], _∷_, _++_}
 use borrow.Author.Tests.{eq-eqb, ne-eqb, eqb-true}
 use lib.Dec.{T, eqb}
 use lib.ListN.{length}
-use Rattle.mesh.specs.Mesh.{Side, side, key, Tri, tri, count, total, All, Same}
+use Rattle.mesh.specs.Mesh.{Side, side, key, Tri, tri, count, total, All, Same, Distinct}
 use Rattle.mesh.proofs.Cuts.{same-key}
 use Rattle.mesh.proofs.Weigh.{F, F-cases, around}
-use Rattle.mesh.proofs.Local.{Distinct}
 use Rattle.mesh.proofs.Whole.{count-around}
-use Rattle.edges.specs.Numbering.{times, listed}
+use Rattle.edges.specs.Sides.{times, listed}
 use Rattle.edges.proofs.Counts.{listed-lies}
 use Rattle.pass_boundary.specs.Boundary.{walked, once, kept, boundarySides}
 

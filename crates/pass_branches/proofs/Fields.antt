@@ -26,14 +26,14 @@ use Rattle.pass_inverse_iteration.proofs.Lengths.{inverse-long}
 use Rattle.pass_field.specs.Field.{Angles, angles, endless, fieldOf}
 use Rattle.pass_field.proofs.Angles.{field-cross}
 use Rattle.floor.specs.Floor.{Floor, pointCount, valueAt}
-use Rattle.pass_refusal.specs.declared.Fault.{Fault}
-use Rattle.pass_refusal.specs.Refusal.{faultAt}
+use Rattle.refusals.specs.declared.Refusal.{Refusal}
+use Rattle.refusals.specs.Refusal.{rowAt}
 use Rattle.pass_options.specs.declared.Options.{Options}
 use Rattle.pass_options.specs.declared.BoundaryMode.{BoundaryMode}
 use Rattle.pass_options.specs.declared.BoundaryMode.the-variants.{None, Tangent, Weak}
 use Rattle.pass_options.specs.Options.{Guidance}
 use Rattle.pass_options.specs.Pass.{Passed, field, faulty}
-use Rattle.pass_branches.specs.Branches.{Built, isNone, targetsIn, afterAngles, afterVector, linear, free, byMode, unbounded, branchOf}
+use Rattle.pass_branches.specs.Branches.{Built, noTerms, targetsIn, afterAngles, afterVector, linear, free, byMode, unbounded, branchOf}
 
 -- n angles, each of a cross, where there is a field
 pub record Crossed (n : ℕ) (p : Passed) : Type 0 where
@@ -55,7 +55,7 @@ crossed-angles n x k endless e = record { as-many = λ alpha q. absurd (never al
     never : (alpha : List Float) → afterAngles endless ≡ field alpha → ⊥
     never alpha q = let z : _≡_ {A = ℕ} 0 1 = cc in omega arith
 
-crossed-faulty : (n : ℕ) (x : Fault) → Crossed n (faulty x)
+crossed-faulty : (n : ℕ) (x : Refusal) → Crossed n (faulty x)
 crossed-faulty n x = record { as-many = λ alpha q. absurd (never alpha q); range = λ alpha q. absurd (never alpha q) }
   where
     never : (alpha : List Float) → faulty x ≡ field alpha → ⊥
@@ -109,7 +109,7 @@ crossed-inverse n mass energy trace k start e = crossed-found n (inverseOf mass 
 crossed-free : (b : Built) (n : ℕ) (start : List Complex) (ts : List Term) (k : ℕ) → length start ≡ n → Crossed n (free b n start ts k)
 unfolding free
 crossed-free b n start ts k e =
-    crossed-cond n (isNone ts) _ _ (crossed-inverse n _ _ _ k start e) (crossed-linear n n k (softSystem (b .mass) (b .energy) ts n) (soft-rhs (b .mass) (b .energy) ts n))
+    crossed-cond n (noTerms ts) _ _ (crossed-inverse n _ _ _ k start e) (crossed-linear n n k (softSystem (b .mass) (b .energy) ts n) (soft-rhs (b .mass) (b .energy) ts n))
 
 crossed-mode : (mode : BoundaryMode) (b : Built) (n : ℕ) (flags : List ℕ) (targets start : List Complex) (ts : List Term) (k : ℕ) → length targets ≡ n → length start ≡ n
     → Crossed n (byMode mode b n flags targets start ts k)
@@ -129,7 +129,7 @@ length-aims f = length-targets (valueAt (f .xs)) (valueAt (f .ys)) (f .triangles
 pub branch-crossed : (b : Built) (f : Floor) (o : Options) (g : Guidance) (k : ℕ) → Crossed (pointCount f) (branchOf b f o g k)
 unfolding branchOf
 branch-crossed b f o g k =
-    crossed-cond (pointCount f) (unbounded (o .boundary) f) _ _ (crossed-faulty (pointCount f) (faultAt 23 0))
+    crossed-cond (pointCount f) (unbounded (o .boundary) f) _ _ (crossed-faulty (pointCount f) (rowAt 23 0))
     (crossed-mode (o .boundary) b (pointCount f) _ (targetsIn f) (startOf (f .xs) (f .ys)) _ k (length-aims f) (length-start (f .xs) (f .ys)))
 
 -- for guidance of any length, and any matrices

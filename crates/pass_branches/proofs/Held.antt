@@ -27,9 +27,9 @@ use Rattle.pass_boundary.proofs.Points.{length-flags, length-targets, target-of
 use Rattle.pass_boundary.proofs.After.{targets-after, flags-after}
 use Rattle.pass_constraints.specs.Constraints.{on}
 use Rattle.pass_constraints.proofs.Systems.{boundary-data}
-use Rattle.pass_refusal.specs.declared.Stage.{Stage}
-use Rattle.pass_refusal.specs.declared.Stage.the-variants.{Refused}
-use Rattle.pass_refusal.specs.Refusal.{faultAt}
+use Rattle.refusals.specs.declared.Stage.{Stage}
+use Rattle.refusals.specs.declared.Stage.the-variants.{Refused}
+use Rattle.refusals.specs.Refusal.{rowAt}
 use Rattle.pass_soft.specs.Soft.{Term, termOf, guidedTargets, alignedTargets}
 use Rattle.pass_soft.specs.Work.{termsIn}
 use Rattle.pass_inverse_iteration.specs.Work.{startIn}
@@ -40,11 +40,11 @@ use Rattle.pass_options.specs.Options.{guidanceOf}
 use Rattle.pass_options.specs.Pass.{Passed, field, faulty}
 use Rattle.pass_layout.specs.declared.Layout.{Layout}
 use Rattle.pass_layout.specs.Layout.{Ordered}
-use Rattle.pass_layout.specs.Matrices.{massAt, energyAt, vectorsAt}
+use Rattle.pass_layout.specs.Matrices.{massAt, energyAt}
 use Rattle.pass_layout.specs.Work.{floorIn, guidanceIn, fromIn, toIn, listingAt, Edged}
 use Rattle.pass_branches.specs.declared.Search.{Search}
 use Rattle.pass_branches.specs.Branches.{Built, guidedTerm, softTerms, acts, flagsIn, targetsIn, byMode, unbounded, branchOf}
-use Rattle.pass_branches.specs.Work.{builtIn, soughtIn, Finds, Leaves, termsAt, outerAt, flagsAt, Bounds, LeavesPacked}
+use Rattle.pass_branches.specs.Work.{builtIn, soughtIn, Finds, Leaves, termsAt, outerAt, planAt, flagsAt, Bounds, LeavesPacked}
 
 -- ---- the terms
 
@@ -72,7 +72,7 @@ module _ (l : Layout) (m : ℕ) (o : Options) (s : Search) where
     abbrev targets : List Complex
     targets = targetsOf (valueAt (region nan w (l .x) (l .points))) (valueAt (region nan w (l .y) (l .points))) (trisFrom (l .given) u (l .triangles)) (l .points)
 
-    sought-is : soughtIn l m o s w u ≡ cond (acts (o .boundary) && eqb (length (boundarySides (trisFrom (l .given) u (l .triangles)))) 0) (faulty (faultAt 23 0)) (modeIn w u flags targets)
+    sought-is : soughtIn l m o s w u ≡ cond (acts (o .boundary) && eqb (length (boundarySides (trisFrom (l .given) u (l .triangles)))) 0) (faulty (rowAt 23 0)) (modeIn w u flags targets)
     unfolding soughtIn branchOf unbounded flagsIn targetsIn floorIn
     sought-is = rw (length-region nan w (l .x) (l .points), terms-are l m o s w)
 
@@ -90,7 +90,7 @@ idle-finds l m o s w u ok eb e {w₁} {u₁} {r} a =
     let q : acts (o .boundary) ≡ false = sym eb ∙ e in
     let p : modeIn l m o s w u (flagsAt l u) (regionC w (l .targets) (l .points)) ≡ soughtIn l m o s w u =
     idle (o .boundary) _ _ _ (flags l m o s w u) _ (targets l m o s w u) _ _ _ q ∙ sym (sought-is l m o s w u ∙ rw q) in
-    let c : Leaves w w₁ (energyAt l m) (vectorsAt l) (l .angles) (soughtIn l m o s w u) r = rw p at (a .leaves) in
+    let c : Leaves w w₁ (planAt l m o s) (soughtIn l m o s w u) r = rw p at (a .leaves) in
     record {
       answer = c .answer;
       found = c .found;
@@ -230,9 +230,9 @@ module _ (l : Layout) (m : ℕ) (w : List Float) (u : List ℕ) (ok : Ordered l 
 
     module _ (o : Options) (s : Search) (a : acts (o .boundary) ≡ true) where
       -- row 23
-      pub held-refused : sides ≡ 0 → {r : Stage} → r ≡ Refused (faultAt 23 0) → Finds l (l .energy) (l .table) (soughtIn l m o s w u) w u w₁ u₁ r
+      pub held-refused : sides ≡ 0 → {r : Stage} → r ≡ Refused (rowAt 23 0) → Finds l (l .energy) (l .table) (soughtIn l m o s w u) w u w₁ u₁ r
       held-refused z er =
-          let q : soughtIn l m o s w u ≡ faulty (faultAt 23 0) = sought-is l m o s w u ∙ rw (a, eq-eqb _ _ (sym (b .sides) ∙ z)) in
+          let q : soughtIn l m o s w u ≡ faulty (rowAt 23 0) = sought-is l m o s w u ∙ rw (a, eq-eqb _ _ (sym (b .sides) ∙ z)) in
           rw q (record {
             answer = er;
             found = λ alpha h. absurd (never alpha h);
@@ -246,7 +246,7 @@ module _ (l : Layout) (m : ℕ) (w : List Float) (u : List ℕ) (ok : Ordered l 
             words-behind = words-past;
           })
         where
-          never : (alpha : List Float) → faulty (faultAt 23 0) ≡ field alpha → ⊥
+          never : (alpha : List Float) → faulty (rowAt 23 0) ≡ field alpha → ⊥
           never alpha h = let y : _≡_ {A = ℕ} 0 1 = cc in omega arith
 
       pub held-finds : (sides ≡ 0 → ⊥) → {w₂ : List Float} {u₂ : List ℕ} {r : Stage} → LeavesPacked l m o s w₁ w₂ u₁ u₂ r → Finds l (l .energy) (l .table) (soughtIn l m o s w u) w u w₂ u₂ r
@@ -254,7 +254,7 @@ module _ (l : Layout) (m : ℕ) (w : List Float) (u : List ℕ) (ok : Ordered l 
           let q : soughtIn l m o s w u ≡ modeIn l m o s w u F T = sought-is l m o s w u ∙ rw (a, ne-eqb _ _ (λ h. z (b .sides ∙ h))) in
           let p : modeIn l m o s w₁ u₁ (flagsAt l u₁) (regionC w₁ (l .targets) (l .points)) ≡ soughtIn l m o s w u =
           rw (mass-same, energy-same, flags-are, targets-are, reals-same (l .x) (l .points) (omega arith), reals-same (l .y) (l .points) (omega arith), reals-same (l .guidance) (l .points) (omega arith)) (sym q) in
-          let d : Leaves w₁ w₂ (energyAt l m) (vectorsAt l) (l .angles) (soughtIn l m o s w u) r = rw p at (c .leaves) in
+          let d : Leaves w₁ w₂ (planAt l m o s) (soughtIn l m o s w u) r = rw p at (c .leaves) in
           record {
             answer = d .answer;
             found = d .found;

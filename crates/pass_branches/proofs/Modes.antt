@@ -12,42 +12,25 @@ use Rattle.linear_conjugate_gradient.specs.declared.Vectors.{Vectors}
 use Rattle.linear_conjugate_gradient.specs.Work.{SolverRoom}
 use Rattle.pass_inverse_iteration.specs.declared.Outer.{Outer}
 use Rattle.pass_inverse_iteration.specs.Work.{PencilRoom, PlanesBelow}
-use Rattle.pass_refusal.specs.declared.Stage.{Stage}
+use Rattle.refusals.specs.declared.Stage.{Stage}
 use Rattle.pass_soft.specs.declared.Terms.{Terms}
 use Rattle.pass_soft.specs.Soft.{Term, System, termOf}
 use Rattle.pass_soft.specs.Work.{termsIn}
 use Rattle.pass_systems.specs.Work.{Makes}
 use Rattle.pass_options.specs.declared.BoundaryMode.{BoundaryMode}
 use Rattle.pass_options.specs.declared.BoundaryMode.the-variants.{None, Tangent, Weak}
-use Rattle.pass_branches.specs.Branches.{isNone, linear, free}
-use Rattle.pass_branches.specs.Work.{Leaves, BranchRoom, noneActs, LeavesLinear, LeavesSoft, LeavesVector, LeavesFree, LeavesWeak, LeavesTangent, LeavesBy}
+use Rattle.pass_branches.specs.declared.solver.BranchPlan.{BranchPlan}
+use Rattle.pass_branches.specs.Branches.{noTerms, linear, free}
+use Rattle.pass_branches.specs.Work.{Leaves, pencilAt, BranchRoom, noneActs, LeavesLinear, LeavesSoft, LeavesVector, LeavesFree, LeavesWeak, LeavesTangent, LeavesBy}
 use Rattle.pass_branches.proofs.Ends.{leaves-made}
-
--- ---- room
-
-module _ {len : ℕ} (h mass : Hermitian) (l : Vectors) (at : ℕ) (t : Terms) (o : Outer) (ok : BranchRoom len h mass l at t o) where
-  below : at + h .size ≤ l .x
-  below = omega (arith, ok .angles-below, ok .system-room .soft-room .h-room .diagonal-below)
-
-  pub solve-room : {len′ : ℕ} → len′ ≡ len → SolverRoom len′ h l × (at + h .size ≤ l .x)
-  solve-room e = (rw e (ok .system-room .soft-room .h-room), below)
-
-  pub vector-room : (PencilRoom len mass h l × PlanesBelow (h .size) l o) × (at + h .size ≤ l .x)
-  vector-room =
-      let s = ok .system-room .soft-room in
-      ((record { one-size = s .shift-room .one-size; mass-room = s .mass-room; energy-room = s .h-room }, ok .plane-room), below)
-
-  pub leaves-system : {w w₁ w₂ : List Float} {from to : List ℕ} {x : List Complex} {s : System} {r : Stage} → Makes w w₁ h l from to x s → LeavesLinear w₁ w₂ h l at (o .iterations) from to r
-      → Leaves w w₂ h l at (linear (h .size) (o .iterations) s) r
-  leaves-system m a = leaves-made at (o .iterations) (ok .system-room .soft-room .h-room) (ok .angles-below) (ok .angles-below-off) m a
 
 -- ---- whether a soft term acts
 
-none-is : (w : List Float) (h : Hermitian) (t : Terms) → noneActs t ≡ isNone (termsIn w h t)
+none-is : (w : List Float) (h : Hermitian) (t : Terms) → noneActs t ≡ noTerms (termsIn w h t)
 unfolding noneActs termOf
 none-is w h t = go _ _ (t .guided) (lt (lit 0) (t .weight)) (lt (lit 0) (t .alignment))
   where
-    go : (x y : Term) (g b a : Bool) → (not a && not (g && b)) ≡ isNone (cond g (cond b (x ∷ []) []) [] ++ cond a (y ∷ []) [])
+    go : (x y : Term) (g b a : Bool) → (not a && not (g && b)) ≡ noTerms (cond g (cond b (x ∷ []) []) [] ++ cond a (y ∷ []) [])
     go x y true true true = refl
     go x y true true false = refl
     go x y true false true = refl
@@ -70,27 +53,62 @@ module _ (t : Terms) where
   unfolding noneActs
   neither-acts a g = rw (a, g)
 
-module _ (w w₁ : List Float) (h mass : Hermitian) (l : Vectors) (at : ℕ) (from to : List ℕ) (t : Terms) (o : Outer) {r : Stage} {b : Bool} (eb : b ≡ noneActs t) where
-  pub free-vector : b ≡ true → LeavesVector w w₁ h mass l at from to o r → LeavesFree w w₁ h mass l at from to t o r
-  unfolding free
-  free-vector e a = let q : isNone (termsIn w h t) ≡ true = sym (none-is w h t) ∙ sym eb ∙ e in rw q a
+module _ (plan : BranchPlan) where
+  abbrev h : Hermitian
+  h = plan .system .energy
 
-  pub free-soft : b ≡ false → LeavesSoft w w₁ h mass l at from to t o r → LeavesFree w w₁ h mass l at from to t o r
-  unfolding free
-  free-soft e a = let q : isNone (termsIn w h t) ≡ false = sym (none-is w h t) ∙ sym eb ∙ e in rw q a
+  abbrev l : Vectors
+  l = plan .system .vectors
 
--- ---- the mode
+  abbrev at : ℕ
+  at = plan .angles
 
-module _ (mode : BoundaryMode) (w w₁ : List Float) (h mass : Hermitian) (l : Vectors) (targets at : ℕ) (flags from to : List ℕ) (t : Terms) (o : Outer) {r : Stage} where
-  pub by-none : mode ≡ None → LeavesFree w w₁ h mass l at from to t o r → LeavesBy mode w w₁ h mass l targets at flags from to t o r
-  by-none e a = subst (λ (k : BoundaryMode). LeavesBy k w w₁ h mass l targets at flags from to t o r) (sym e) a
+  abbrev t : Terms
+  t = plan .system .terms
 
-  pub by-tangent : mode ≡ Tangent → LeavesTangent w w₁ h mass l targets at flags from to t o r → LeavesBy mode w w₁ h mass l targets at flags from to t o r
-  by-tangent e a = subst (λ (k : BoundaryMode). LeavesBy k w w₁ h mass l targets at flags from to t o r) (sym e) a
+  abbrev o : Outer
+  o = plan .outer
 
-  module _ {weight : Float} (e : mode ≡ Weak weight) where
-    pub by-weak : lt (lit 0) weight ≡ true → LeavesWeak w w₁ h mass l targets at weight flags from to t o r → LeavesBy mode w w₁ h mass l targets at flags from to t o r
-    by-weak q a = subst (λ (k : BoundaryMode). LeavesBy k w w₁ h mass l targets at flags from to t o r) (sym e) (rw q a)
+  -- ---- room
 
-    pub by-idle : lt (lit 0) weight ≡ false → LeavesFree w w₁ h mass l at from to t o r → LeavesBy mode w w₁ h mass l targets at flags from to t o r
-    by-idle q a = subst (λ (k : BoundaryMode). LeavesBy k w w₁ h mass l targets at flags from to t o r) (sym e) (rw q a)
+  module _ {len : ℕ} (ok : BranchRoom len plan) where
+    pub below : at + h .size ≤ l .x
+    below = omega (arith, ok .angles-below, ok .system-room .soft-room .h-room .diagonal-below)
+
+    -- a slice as long has the same room
+    pub same-branch : {len′ : ℕ} → len′ ≡ len → BranchRoom len′ plan
+    same-branch e = rw e ok
+
+    pub pencil-room : PencilRoom len (pencilAt plan)
+    pencil-room = let s = ok .system-room .soft-room in record { one-size = s .shift-room .one-size; mass-room = s .mass-room; energy-room = s .h-room }
+
+    pub leaves-system : {w w₁ w₂ : List Float} {from to : List ℕ} {x : List Complex} {s : System} {r : Stage} → Makes w w₁ (plan .system) from to x s → LeavesLinear w₁ w₂ plan from to r
+        → Leaves w w₂ plan (linear (h .size) (o .iterations) s) r
+    leaves-system m a = leaves-made plan (ok .system-room .soft-room .h-room) (ok .angles-below) (ok .angles-below-off) m a
+
+  -- ---- the soft terms
+
+  module _ (w w₁ : List Float) (from to : List ℕ) {r : Stage} {b : Bool} (eb : b ≡ noneActs t) where
+    pub free-vector : b ≡ true → LeavesVector w w₁ plan from to r → LeavesFree w w₁ plan from to r
+    unfolding free
+    free-vector e a = let q : noTerms (termsIn w h t) ≡ true = sym (none-is w h t) ∙ sym eb ∙ e in rw q a
+
+    pub free-soft : b ≡ false → LeavesSoft w w₁ plan from to r → LeavesFree w w₁ plan from to r
+    unfolding free
+    free-soft e a = let q : noTerms (termsIn w h t) ≡ false = sym (none-is w h t) ∙ sym eb ∙ e in rw q a
+
+  -- ---- the mode
+
+  module _ (mode : BoundaryMode) (w w₁ : List Float) (flags from to : List ℕ) {r : Stage} where
+    pub by-none : mode ≡ None → LeavesFree w w₁ plan from to r → LeavesBy mode w w₁ plan flags from to r
+    by-none e a = subst (λ (k : BoundaryMode). LeavesBy k w w₁ plan flags from to r) (sym e) a
+
+    pub by-tangent : mode ≡ Tangent → LeavesTangent w w₁ plan flags from to r → LeavesBy mode w w₁ plan flags from to r
+    by-tangent e a = subst (λ (k : BoundaryMode). LeavesBy k w w₁ plan flags from to r) (sym e) a
+
+    module _ {weight : Float} (e : mode ≡ Weak weight) where
+      pub by-weak : lt (lit 0) weight ≡ true → LeavesWeak w w₁ plan weight flags from to r → LeavesBy mode w w₁ plan flags from to r
+      by-weak q a = subst (λ (k : BoundaryMode). LeavesBy k w w₁ plan flags from to r) (sym e) (rw q a)
+
+      pub by-idle : lt (lit 0) weight ≡ false → LeavesFree w w₁ plan from to r → LeavesBy mode w w₁ plan flags from to r
+      by-idle q a = subst (λ (k : BoundaryMode). LeavesBy k w w₁ plan flags from to r) (sym e) (rw q a)

@@ -18,7 +18,7 @@ use Rattle.linear_packing.specs.Pack as pack
 use Rattle.linear_packing.proofs.Slots.{slots-all}
 use Rattle.linear_packing.proofs.Whole.{before-kept, behind-same, from-kept, to-kept, length-kept, ready}
 use Rattle.linear_pairs.proofs.Product.{ends-of}
-use Rattle.pass_refusal.specs.declared.Stage.{Stage}
+use Rattle.refusals.specs.declared.Stage.{Stage}
 use Rattle.pass_options.specs.declared.Options.{Options}
 use Rattle.pass_options.specs.declared.BoundaryMode.the-variants.{Tangent}
 use Rattle.pass_layout.specs.declared.Layout.{Layout}

@@ -19,7 +19,7 @@ use Rattle.pass_start.specs.Start.{startOf}
 use Rattle.pass_inverse_iteration.specs.Inverse.{inverseOf}
 use Rattle.pass_field.specs.Field.{Angles, angles, endless, fieldOf}
 use Rattle.floor.specs.Floor.{Floor, pointCount, valueAt}
-use Rattle.pass_refusal.specs.Refusal.{faultAt, gaveUp}
+use Rattle.refusals.specs.Refusal.{rowAt, gaveUp}
 use Rattle.pass_options.specs.declared.Options.{Options}
 use Rattle.pass_options.specs.declared.BoundaryMode.{BoundaryMode}
 use Rattle.pass_options.specs.declared.BoundaryMode.the-variants.{None, Tangent, Weak}
@@ -36,15 +36,15 @@ pub record Built : Type 0 where
 
 abbrev pub guidedTerm : Guidance → List Term
 guidedTerm unguided = []
-guidedTerm (guided weight thetas) = termOf weight (guidedTargets thetas)
+guidedTerm (guided weight guidance) = termOf weight (guidedTargets guidance)
 
 unfoldable pub softTerms : Options → Guidance → ℕ → List Term
 softTerms o g n = guidedTerm g ++ termOf (alignmentWeight (o .anisotropy)) (alignedTargets (o .«anisotropy_angle») n)
 
 -- `soft.is_empty()`
-abbrev pub isNone : List Term → Bool
-isNone [] = true
-isNone (t ∷ ts) = false
+abbrev pub noTerms : List Term → Bool
+noTerms [] = true
+noTerms (t ∷ ts) = false
 
 -- ---- the boundary, lines 1458 to 1464
 
@@ -80,7 +80,7 @@ linear n iterations s = afterVector (solutionOf (s .matrix) (linearMost n iterat
 -- no boundary mode acts, lines 1535 to 1623: soft terms, or inverse iteration from a start vector
 unfoldable pub free : Built → ℕ → List Complex → List Term → ℕ → Passed
 free b n start terms iterations =
-    cond (isNone terms) (afterVector (inverseOf (b .mass) (b .energy) (b .trace) iterations start)) (linear n iterations (softSystem (b .mass) (b .energy) terms n))
+    cond (noTerms terms) (afterVector (inverseOf (b .mass) (b .energy) (b .trace) iterations start)) (linear n iterations (softSystem (b .mass) (b .energy) terms n))
 
 -- a boundary mode acts, lines 1465 to 1533, with a flag and a target for each point
 abbrev pub tangent : Built → ℕ → List ℕ → List Complex → List Term → ℕ → Passed
@@ -103,4 +103,4 @@ abbrev pub searched : Built → Floor → Options → Guidance → ℕ → Passe
 searched b f o g iterations = byMode (o .boundary) b (pointCount f) (flagsIn f) (targetsIn f) (startOf (f .xs) (f .ys)) (softTerms o g (pointCount f)) iterations
 
 unfoldable pub branchOf : Built → Floor → Options → Guidance → ℕ → Passed
-branchOf b f o g iterations = cond (unbounded (o .boundary) f) (faulty (faultAt 23 0)) (searched b f o g iterations)
+branchOf b f o g iterations = cond (unbounded (o .boundary) f) (faulty (rowAt 23 0)) (searched b f o g iterations)

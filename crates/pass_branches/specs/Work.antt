@@ -6,26 +6,24 @@ use mathlib.Core.List.{List}
 use lib.ListN.{length, getD}
 use lib.Ieee.{Float, nan, lt}
 use Rattle.float.specs.Double.{lit}
+use Rattle.complex.specs.declared.Complex.{Complex}
 use Rattle.linear_cells.specs.Region.{region}
 use Rattle.linear_cells.specs.Cell.{regionC}
 use Rattle.geometry.specs.Edge.{alignmentWeight}
-use Rattle.linear_hermitian.specs.declared.Hermitian.{Hermitian}
 use Rattle.linear_hermitian.specs.Work.{matrix, Graph}
-use Rattle.linear_packing.specs.declared.Packing.{Packing}
-use Rattle.linear_packing.specs.declared.Source.{Source}
 use Rattle.linear_packing.specs.Pack.{Ready, packedIn}
 use Rattle.linear_packing.specs.Pack as pack
-use Rattle.linear_conjugate_gradient.specs.declared.Vectors.{Vectors}
 use Rattle.pass_inverse_iteration.specs.declared.Outer.{Outer}
+use Rattle.pass_inverse_iteration.specs.declared.PencilPlan.{PencilPlan}
 use Rattle.pass_inverse_iteration.specs.Inverse.{inverseOf}
 use Rattle.pass_inverse_iteration.specs.Work.{PlanesBelow, startIn}
 use Rattle.pass_soft.specs.declared.Terms.{Terms}
-use Rattle.pass_soft.specs.Work.{systemIn, termsIn}
+use Rattle.pass_soft.specs.Work.{systemIn}
 use Rattle.pass_constraints.specs.Constraints.{boundaryData}
 use Rattle.pass_systems.specs.Systems.{softSystem}
-use Rattle.pass_systems.specs.Work.{SystemRoom}
-use Rattle.pass_refusal.specs.declared.Fault.{Fault}
-use Rattle.pass_refusal.specs.declared.Stage.{Stage}
+use Rattle.pass_systems.specs.Work.{SystemRoom, massIn, energyIn, targetsAt, softIn}
+use Rattle.refusals.specs.declared.Refusal.{Refusal}
+use Rattle.refusals.specs.declared.Stage.{Stage}
 use Rattle.pass_options.specs.declared.Options.{Options}
 use Rattle.pass_options.specs.declared.BoundaryMode.{BoundaryMode}
 use Rattle.pass_options.specs.Options.{guidanceOf}
@@ -34,6 +32,7 @@ use Rattle.pass_layout.specs.declared.Layout.{Layout}
 use Rattle.pass_layout.specs.Matrices.{massAt, energyAt, vectorsAt, packingAt, sourceAt}
 use Rattle.pass_layout.specs.Work.{floorIn, guidanceIn, fromIn, toIn}
 use Rattle.pass_branches.specs.declared.Search.{Search}
+use Rattle.pass_branches.specs.declared.solver.BranchPlan.{BranchPlan}
 use Rattle.pass_branches.specs.Branches.{Built, afterVector, linear, free, weak, tangent, byMode, branchOf}
 
 -- the matrices with m edges that stand in the slices
@@ -53,7 +52,7 @@ pub record Finds (l : Layout) (reals words : ℕ) (p : Passed) (w : List Float) 
   pub all-reals : length w′ ≡ length w
   pub all-words : length u′ ≡ length u
   pub reals-below : (j : ℕ) → j < l .angles → getD w′ j nan ≡ getD w j nan
-  pub angles-stay : (x : Fault) → p ≡ faulty x → (j : ℕ) → l .angles ≤ j → j < l .angles + l .points → getD w′ j nan ≡ getD w j nan
+  pub angles-stay : (x : Refusal) → p ≡ faulty x → (j : ℕ) → l .angles ≤ j → j < l .angles + l .points → getD w′ j nan ≡ getD w j nan
   pub reals-between : (j : ℕ) → l .angles + l .points ≤ j → j < reals → getD w′ j nan ≡ getD w j nan
   pub reals-behind : (j : ℕ) → l .inverse + l .points ≤ j → getD w′ j nan ≡ getD w j nan
   pub words-below : (j : ℕ) → j < words → getD u′ j 0 ≡ getD u j 0
@@ -61,49 +60,53 @@ pub record Finds (l : Layout) (reals words : ℕ) (p : Passed) (w : List Float) 
 
 -- ---- the f64 work alone
 
--- the same of it, with the angles at `at`: all before them, all from behind them up to the matrix at h, and all behind the vectors stays
-pub record Leaves (w w′ : List Float) (h : Hermitian) (l : Vectors) (at : ℕ) (p : Passed) (r : Stage) : Type 0 where
+-- the same of it, by a branch's plan: all before the angles, all from behind them up to the energy matrix, and all behind the vectors stays
+pub record Leaves (w w′ : List Float) (b : BranchPlan) (p : Passed) (r : Stage) : Type 0 where
   pub answer : r ≡ stageOf p
-  pub found : (alpha : List Float) → p ≡ field alpha → region nan w′ at (h .size) ≡ alpha
+  pub found : (alpha : List Float) → p ≡ field alpha → region nan w′ (b .angles) (b .system .energy .size) ≡ alpha
   pub all-reals : length w′ ≡ length w
-  pub reals-below : (j : ℕ) → j < at → getD w′ j nan ≡ getD w j nan
-  pub angles-stay : (x : Fault) → p ≡ faulty x → (j : ℕ) → at ≤ j → j < at + h .size → getD w′ j nan ≡ getD w j nan
-  pub reals-between : (j : ℕ) → at + h .size ≤ j → j < h .diagonal → j < h .off → getD w′ j nan ≡ getD w j nan
-  pub reals-behind : (j : ℕ) → l .inverse + h .size ≤ j → getD w′ j nan ≡ getD w j nan
+  pub reals-below : (j : ℕ) → j < b .angles → getD w′ j nan ≡ getD w j nan
+  pub angles-stay : (x : Refusal) → p ≡ faulty x → (j : ℕ) → b .angles ≤ j → j < b .angles + b .system .energy .size → getD w′ j nan ≡ getD w j nan
+  pub reals-between : (j : ℕ) → b .angles + b .system .energy .size ≤ j → j < b .system .energy .diagonal → j < b .system .energy .off → getD w′ j nan ≡ getD w j nan
+  pub reals-behind : (j : ℕ) → b .system .vectors .inverse + b .system .energy .size ≤ j → getD w′ j nan ≡ getD w j nan
 
--- where the branches read and write, by the matrices and the solver's vectors: the angles and the guidance lie below the matrix at h, and the coordinates
+-- where the branches read and write, by the matrices and the solver's vectors: the angles and the guidance lie below the energy matrix, and the coordinates
 -- below the vectors
-pub record BranchRoom (len : ℕ) (h mass : Hermitian) (l : Vectors) (at : ℕ) (t : Terms) (o : Outer) : Type 0 where
-  pub system-room : SystemRoom len h mass l t
-  pub plane-room : PlanesBelow (h .size) l o
-  pub angles-below : at + h .size ≤ h .diagonal
-  pub angles-below-off : at + h .size ≤ h .off
+pub record BranchRoom (len : ℕ) (b : BranchPlan) : Type 0 where
+  pub system-room : SystemRoom len (b .system)
+  pub plane-room : PlanesBelow (b .system .energy .size) (b .system .vectors) (b .outer)
+  pub angles-below : b .angles + b .system .energy .size ≤ b .system .energy .diagonal
+  pub angles-below-off : b .angles + b .system .energy .size ≤ b .system .energy .off
 
--- where the packed copy of the matrix at h stands: its entries are after that matrix and the angles, and before the solver's vectors
-pub record CopyRoom (h : Hermitian) (l : Vectors) (at : ℕ) (c : Packing) (e : Source) : Type 0 where
-  pub one-size : c .size ≡ h .size
-  pub one-graph : h .edges ≡ e .edges
-  pub angles-before : at + h .size ≤ c .entries
-  pub diagonal-before : h .diagonal + h .size ≤ c .entries
-  pub off-before : h .off + 2 * h .edges ≤ c .entries
-  pub entries-below : c .entries + 2 * c .slots ≤ l .x
+-- where the packed copy of the energy matrix stands: its entries are after that matrix and the angles, and before the solver's vectors
+pub record CopyRoom (b : BranchPlan) : Type 0 where
+  pub one-size : b .copy .size ≡ b .system .energy .size
+  pub one-graph : b .system .energy .edges ≡ b .source .edges
+  pub angles-before : b .angles + b .system .energy .size ≤ b .copy .entries
+  pub diagonal-before : b .system .energy .diagonal + b .system .energy .size ≤ b .copy .entries
+  pub off-before : b .system .energy .off + 2 * b .system .energy .edges ≤ b .copy .entries
+  pub entries-below : b .copy .entries + 2 * b .copy .slots ≤ b .system .vectors .x
 
 -- and after the mass matrix and the coordinates
-pub record CopyBehind (mass : Hermitian) (n : ℕ) (o : Outer) (c : Packing) : Type 0 where
-  pub mass-before : mass .diagonal + mass .size ≤ c .entries
-  pub mass-off-before : mass .off + 2 * mass .edges ≤ c .entries
-  pub x-before : o .x + n ≤ c .entries
-  pub y-before : o .y + n ≤ c .entries
+pub record CopyBehind (b : BranchPlan) : Type 0 where
+  pub mass-before : b .system .mass .diagonal + b .system .mass .size ≤ b .copy .entries
+  pub mass-off-before : b .system .mass .off + 2 * b .system .mass .edges ≤ b .copy .entries
+  pub x-before : b .outer .x + b .system .energy .size ≤ b .copy .entries
+  pub y-before : b .outer .y + b .system .energy .size ≤ b .copy .entries
 
 -- all of the copy that depends on the edges alone stands in u, made from the edges with these ends
-pub record Copies (u from to : List ℕ) (c : Packing) (e : Source) : Type 0 where
-  pub ready : Ready u c e
-  pub lower : from ≡ pack.fromIn e u
-  pub upper : to ≡ pack.toIn e u
+pub record Copies (u from to : List ℕ) (b : BranchPlan) : Type 0 where
+  pub ready : Ready u (b .copy) (b .source)
+  pub lower : from ≡ pack.fromIn (b .source) u
+  pub upper : to ≡ pack.toIn (b .source) u
+
+-- where the inverse iteration works
+abbrev pub pencilAt : BranchPlan → PencilPlan
+pencilAt b = record { mass = b .system .mass; energy = b .system .energy; vectors = b .system .vectors; copy = b .copy }
 
 -- the soft terms that are asked for
 abbrev pub termsAt : Layout → Options → Search → Terms
-termsAt l o s = record { guided = s .guided; weight = s .weight; theta = l .guidance; alignment = alignmentWeight (o .anisotropy); angle = o .«anisotropy_angle» }
+termsAt l o s = record { guided = s .guided; weight = s .weight; guidance = l .guidance; alignment = alignmentWeight (o .anisotropy); angle = o .«anisotropy_angle» }
 
 -- none of them acts
 unfoldable pub noneActs : Terms → Bool
@@ -111,36 +114,50 @@ noneActs t = not (lt (lit 0) (t .alignment)) && not (t .guided && lt (lit 0) (t 
 
 -- ---- the branches' promises, over the matrices in the slice
 
-abbrev pub LeavesLinear : (w w′ : List Float) (h : Hermitian) (l : Vectors) (at iterations : ℕ) (from to : List ℕ) → Stage → Type 0
-LeavesLinear w w′ h l at iterations from to r = Leaves w w′ h l at (linear (h .size) iterations (systemIn w h l from to)) r
+abbrev pub LeavesLinear : (w w′ : List Float) (b : BranchPlan) (from to : List ℕ) → Stage → Type 0
+LeavesLinear w w′ b from to r =
+    Leaves w w′ b (linear (b .system .energy .size) (b .outer .iterations) (systemIn w (b .system .energy) (b .system .vectors) from to)) r
 
-abbrev pub LeavesSoft : (w w′ : List Float) (h mass : Hermitian) (l : Vectors) (at : ℕ) (from to : List ℕ) (t : Terms) (o : Outer) → Stage → Type 0
-LeavesSoft w w′ h mass l at from to t o r =
-    Leaves w w′ h l at (linear (h .size) (o .iterations) (softSystem (matrix w mass from to) (matrix w h from to) (termsIn w h t) (h .size))) r
+abbrev pub LeavesSoft : (w w′ : List Float) (b : BranchPlan) (from to : List ℕ) → Stage → Type 0
+LeavesSoft w w′ b from to r =
+    Leaves w w′ b
+    (linear (b .system .energy .size) (b .outer .iterations) (softSystem (massIn w (b .system) from to) (energyIn w (b .system) from to) (softIn w (b .system)) (b .system .energy .size)))
+    r
 
-abbrev pub pairIn : List Float → Hermitian → Hermitian → List ℕ → List ℕ → Float → Built
-pairIn w h mass from to trace = record { mass = matrix w mass from to; energy = matrix w h from to; trace = trace }
+-- both matrices, and the trace
+abbrev pub pairIn : List Float → BranchPlan → List ℕ → List ℕ → Built
+pairIn w b from to = record { mass = massIn w (b .system) from to; energy = energyIn w (b .system) from to; trace = b .outer .trace }
 
-abbrev pub LeavesVector : (w w′ : List Float) (h mass : Hermitian) (l : Vectors) (at : ℕ) (from to : List ℕ) (o : Outer) → Stage → Type 0
-LeavesVector w w′ h mass l at from to o r =
-    Leaves w w′ h l at (afterVector (inverseOf (matrix w mass from to) (matrix w h from to) (o .trace) (o .iterations) (startIn w o (h .size)))) r
+-- the start vector of the points
+abbrev pub startAt : List Float → BranchPlan → List Complex
+startAt w b = startIn w (b .outer) (b .system .energy .size)
 
-abbrev pub LeavesFree : (w w′ : List Float) (h mass : Hermitian) (l : Vectors) (at : ℕ) (from to : List ℕ) (t : Terms) (o : Outer) → Stage → Type 0
-LeavesFree w w′ h mass l at from to t o r =
-    Leaves w w′ h l at (free (pairIn w h mass from to (o .trace)) (h .size) (startIn w o (h .size)) (termsIn w h t) (o .iterations)) r
+abbrev pub LeavesVector : (w w′ : List Float) (b : BranchPlan) (from to : List ℕ) → Stage → Type 0
+LeavesVector w w′ b from to r =
+    Leaves w w′ b
+    (afterVector (inverseOf (massIn w (b .system) from to) (energyIn w (b .system) from to) (b .outer .trace) (b .outer .iterations) (startAt w b)))
+    r
 
-abbrev pub LeavesWeak : (w w′ : List Float) (h mass : Hermitian) (l : Vectors) (targets at : ℕ) (weight : Float) (flags from to : List ℕ) (t : Terms) (o : Outer) → Stage → Type 0
-LeavesWeak w w′ h mass l targets at weight flags from to t o r =
-    Leaves w w′ h l at (weak weight (pairIn w h mass from to (o .trace)) (h .size) flags (regionC w targets (h .size)) (termsIn w h t) (o .iterations)) r
+abbrev pub LeavesFree : (w w′ : List Float) (b : BranchPlan) (from to : List ℕ) → Stage → Type 0
+LeavesFree w w′ b from to r =
+    Leaves w w′ b (free (pairIn w b from to) (b .system .energy .size) (startAt w b) (softIn w (b .system)) (b .outer .iterations)) r
 
-abbrev pub LeavesTangent : (w w′ : List Float) (h mass : Hermitian) (l : Vectors) (targets at : ℕ) (flags from to : List ℕ) (t : Terms) (o : Outer) → Stage → Type 0
-LeavesTangent w w′ h mass l targets at flags from to t o r =
-    Leaves w w′ h l at (tangent (pairIn w h mass from to (o .trace)) (h .size) flags (regionC w targets (h .size)) (termsIn w h t) (o .iterations)) r
+abbrev pub LeavesWeak : (w w′ : List Float) (b : BranchPlan) (weight : Float) (flags from to : List ℕ) → Stage → Type 0
+LeavesWeak w w′ b weight flags from to r =
+    Leaves w w′ b
+    (weak weight (pairIn w b from to) (b .system .energy .size) flags (targetsAt w (b .system)) (softIn w (b .system)) (b .outer .iterations))
+    r
 
-abbrev pub LeavesBy : (mode : BoundaryMode) (w w′ : List Float) (h mass : Hermitian) (l : Vectors) (targets at : ℕ) (flags from to : List ℕ) (t : Terms) (o : Outer) → Stage → Type 0
-LeavesBy mode w w′ h mass l targets at flags from to t o r =
-    Leaves w w′ h l at
-    (byMode mode (pairIn w h mass from to (o .trace)) (h .size) flags (regionC w targets (h .size)) (startIn w o (h .size)) (termsIn w h t) (o .iterations))
+abbrev pub LeavesTangent : (w w′ : List Float) (b : BranchPlan) (flags from to : List ℕ) → Stage → Type 0
+LeavesTangent w w′ b flags from to r =
+    Leaves w w′ b
+    (tangent (pairIn w b from to) (b .system .energy .size) flags (targetsAt w (b .system)) (softIn w (b .system)) (b .outer .iterations))
+    r
+
+abbrev pub LeavesBy : (mode : BoundaryMode) (w w′ : List Float) (b : BranchPlan) (flags from to : List ℕ) → Stage → Type 0
+LeavesBy mode w w′ b flags from to r =
+    Leaves w w′ b
+    (byMode mode (pairIn w b from to) (b .system .energy .size) flags (targetsAt w (b .system)) (startAt w b) (softIn w (b .system)) (b .outer .iterations))
     r
 
 -- ---- and at a layout, with the flags and the targets that stand there
@@ -148,12 +165,21 @@ LeavesBy mode w w′ h mass l targets at flags from to t o r =
 abbrev pub outerAt : Layout → Search → Outer
 outerAt l s = record { x = l .x; y = l .y; trace = s .trace; iterations = s .iterations }
 
+abbrev pub planAt : Layout → ℕ → Options → Search → BranchPlan
+planAt l m o s = record {
+  system = record { energy = energyAt l m; mass = massAt l m; vectors = vectorsAt l; targets = l .targets; terms = termsAt l o s };
+  copy = packingAt l m;
+  source = sourceAt l m;
+  angles = l .angles;
+  outer = outerAt l s;
+}
+
 abbrev pub flagsAt : Layout → List ℕ → List ℕ
 flagsAt l u = region 0 u (l .flags) (l .points)
 
 abbrev pub LeavesAt : (l : Layout) (m : ℕ) (o : Options) (s : Search) (w w′ : List Float) (u : List ℕ) → Stage → Type 0
 LeavesAt l m o s w w′ u r =
-    LeavesBy (o .boundary) w w′ (energyAt l m) (massAt l m) (vectorsAt l) (l .targets) (l .angles) (flagsAt l u) (fromIn l m u) (toIn l m u) (termsAt l o s) (outerAt l s) r
+    LeavesBy (o .boundary) w w′ (planAt l m o s) (flagsAt l u) (fromIn l m u) (toIn l m u) r
 
 -- off the boundary the targets are 0
 abbrev pub Bounds : Layout → List Float → List ℕ → Type 0

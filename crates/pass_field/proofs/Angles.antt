@@ -18,10 +18,11 @@ use Rattle.linear_cells.proofs.Loops.{length-tab, getD-tab, tab-ext}
 use Rattle.linear_cells.proofs.Regions.{length-region, put-region}
 use Rattle.linear_cells.proofs.Cells.{length-regionC, getD-regionC, regionC-put-else}
 use Rattle.linear_cells.proofs.Over.{over, over-none, length-over, over-all, over-region}
-use Rattle.pass_refusal.specs.declared.Stage.{Stage}
-use Rattle.pass_refusal.specs.declared.Stage.the-variants.{Done, Refused}
-use Rattle.pass_refusal.specs.Refusal.{gaveUp}
-use Rattle.pass_field.specs.Field.{angles, endless, finite, allFinite, crossAngles, fieldOf, FieldRoom, written, anglesStage, Fields}
+use Rattle.refusals.specs.declared.Stage.{Stage}
+use Rattle.refusals.specs.declared.Stage.the-variants.{Done, Refused}
+use Rattle.refusals.specs.Refusal.{gaveUp}
+use Rattle.pass_field.specs.Field.{angles, endless, finite, allFinite, crossAngles, fieldOf}
+use Rattle.pass_field.specs.Work.{FieldRoom, written, anglesStage, Fields}
 
 -- ---- all finite
 

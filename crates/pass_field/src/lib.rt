@@ -2,14 +2,15 @@
 use complex::Complex;
 use linear_cells::load;
 use linear_cells::store_real;
-use pass_refusal::Stage;
+use refusals::Stage;
 ghost use mathlib.Core.Path.{_≡_};
 ghost use Prim.Native.Nat.{_+_, _*_, _<_, _≤_};
 ghost use lib.ListN.{length, set};
 ghost use Rattle.complex.specs.Angle.{crossAngle};
 ghost use Rattle.linear_cells.specs.Region.{put};
 ghost use Rattle.linear_cells.specs.Cell.{getC, regionC};
-ghost use Rattle.pass_field.specs.Field.{finite, allFinite, crossAngles, FieldRoom, Fields};
+ghost use Rattle.pass_field.specs.Field.{finite, allFinite, crossAngles};
+ghost use Rattle.pass_field.specs.Work.{FieldRoom, Fields};
 
 fn is_finite(z: Complex) -> bool
     ensures { λ r. ⌜ r ≡ finite z ⌝ }
@@ -56,7 +57,7 @@ pub fn angles_from(work: &mut [f64], x: usize, at: usize, n: usize) -> Stage
     ensures { λ r. ⌜ Fields (now (work .entry)) (now (work .exit)) x at n r ⌝ }
 {
     if !all_finite(work, x, n) {
-        return pass_refusal::gave_up(13, 0);
+        return refusals::gave_up(13, 0);
     }
     cross_angles(work, x, at, n);
     Stage::Done

@@ -15,7 +15,7 @@ use Rattle.edges.specs.Numbering.{Below}
 use Rattle.refine_floor.specs.Guidance.{midAngles, moreAngles}
 use Rattle.refinement.proofs.Triangles.{tris-held}
 use Rattle.edges.specs.declared.Table.{Table}
-use Rattle.pass_refusal.specs.declared.Stage.{Stage}
+use Rattle.refusals.specs.declared.Stage.{Stage}
 use Rattle.pass_options.specs.declared.Options.{Options}
 use Rattle.pass_options.specs.Pass.{stageOf}
 use Rattle.pass.specs.declared.Asked.{Asked}

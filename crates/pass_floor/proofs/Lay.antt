@@ -18,10 +18,10 @@ use Rattle.mesh.proofs.Points.{points-length}
 use Rattle.edges.specs.Numbering.{trisFrom}
 use Rattle.refine_floor.specs.Guidance.{midAngleOn, midAngles, moreAngles}
 use Rattle.edges.specs.declared.Table.{Table}
-use Rattle.pass_planes.specs.declared.Mean.the-variants.{Half, Angle}
-use Rattle.pass_planes.specs.Planes.{coordinateAt, coordinatePlane, meanOf, meanOn, valuePlane}
-use Rattle.pass_planes.proofs.Points.{cuts-length, length-plane}
-use Rattle.pass_refusal.specs.declared.Stage.{Stage}
+use Rattle.pass_inputs.specs.declared.Mean.the-variants.{Half, Angle}
+use Rattle.pass_inputs.specs.Planes.{coordinateAt, coordinatePlane, meanOf, meanOn, valuePlane}
+use Rattle.pass_inputs.proofs.Points.{cuts-length, length-plane}
+use Rattle.refusals.specs.declared.Stage.{Stage}
 use Rattle.pass_layout.specs.declared.Base.{Base}
 use Rattle.pass_layout.specs.declared.Layout.{Layout}
 use Rattle.pass_layout.specs.Layout.{realsOf, layoutOf, Fits, Ordered}

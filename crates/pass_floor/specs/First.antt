@@ -18,15 +18,15 @@ abbrev pub firstBase : ℕ → ℕ → Base
 firstBase points corners = record { reals = 0; words = 0; points = points / 3; triangles = corners / 3 }
 
 abbrev pub firstOver : Options → Asked → List Float → List ℕ → List Float → List Float → Passed
-firstOver o a points corners sizes angles = passOf (floorOf points (trisOf corners) sizes) o (guidanceOf (a .guided) (a .weight) angles) (a .iterations)
+firstOver o a points corners sizes guidance = passOf (floorOf points (trisOf corners) sizes) o (guidanceOf (a .guided) (a .weight) guidance) (a .iterations)
 
 -- of the lengths of all slices
-pub record FirstRoom (guided : Bool) (points corners sizes angles work numbers : ℕ) : Type 0 where
+pub record FirstRoom (guided : Bool) (points corners sizes guidance work words : ℕ) : Type 0 where
   pub whole : points ≡ 3 * (points / 3)
   pub whole-corners : corners ≡ 3 * (corners / 3)
   pub sized : sizes ≡ points / 3
-  pub guided-all : guided ≡ true → angles ≡ points / 3
+  pub guided-all : guided ≡ true → guidance ≡ points / 3
   pub few-points : points / 3 < 2 ^ 24
   pub few-triangles : corners / 3 < 2 ^ 24
   pub reals-fit : realsOf (points / 3) (corners / 3) ≤ work
-  pub words-fit : wordsOf (points / 3) (corners / 3) ≤ numbers
+  pub words-fit : wordsOf (points / 3) (corners / 3) ≤ words

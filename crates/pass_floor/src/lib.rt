@@ -2,11 +2,11 @@
 // and passed over. Both passes of a solve are made so; the first has no cut sides. specs/Lay.antt says what is laid out, and what is found.
 use edges::Table;
 use pass::Asked;
+use pass_inputs::Mean;
 use pass_layout::Base;
 use pass_layout::Layout;
 use pass_options::Options;
-use pass_planes::Mean;
-use pass_refusal::Stage;
+use refusals::Stage;
 ghost use mathlib.Core.Path.{_≡_};
 ghost use Prim.Native.Nat.{_*_, _/_};
 ghost use lib.ListN.{length};
@@ -19,33 +19,33 @@ ghost use Rattle.pass_floor.specs.First.{firstBase, firstOver, FirstRoom
 fn lay_points(
     points: &[f64],
     sizes: &[f64],
-    numbers: &[u32],
+    words: &[u32],
     table: Table,
     work: &mut [f64],
     l: Layout,
 )
-    requires { ⌜ LayRoom (length (now points)) (length (now sizes)) table (length (now numbers)) l (length (now work)) ⌝ }
-    ensures { λ _. ⌜ now (work .exit) ≡ pointsLaid (now (points .entry)) (now (sizes .entry)) (cutsIn table (now (numbers .entry))) l (now (work .entry)) ⌝ }
+    requires { ⌜ LayRoom (length (now points)) (length (now sizes)) table (length (now words)) l (length (now work)) ⌝ }
+    ensures { λ _. ⌜ now (work .exit) ≡ pointsLaid (now (points .entry)) (now (sizes .entry)) (cutsIn table (now (words .entry))) l (now (work .entry)) ⌝ }
 {
-    pass_planes::put_plane(points, numbers, table, 0, work, l.x);
-    pass_planes::put_plane(points, numbers, table, 1, work, l.y);
-    pass_planes::put_values(sizes, numbers, table, Mean::Half, work, l.sizes);
+    pass_inputs::put_plane(points, words, table, 0, work, l.x);
+    pass_inputs::put_plane(points, words, table, 1, work, l.y);
+    pass_inputs::put_values(sizes, words, table, Mean::Half, work, l.sizes);
 }
 
 // The plane of the guidance, where there is any.
 fn lay_guidance(
-    angles: &[f64],
+    guidance: &[f64],
     guided: bool,
-    numbers: &[u32],
+    words: &[u32],
     table: Table,
     work: &mut [f64],
     l: Layout,
 )
-    requires { ⌜ GuidanceRoom guided (length (now angles)) table (length (now numbers)) l (length (now work)) ⌝ }
-    ensures { λ _. ⌜ now (work .exit) ≡ guidanceLaid guided (now (angles .entry)) (cutsIn table (now (numbers .entry))) l (now (work .entry)) ⌝ }
+    requires { ⌜ GuidanceRoom guided (length (now guidance)) table (length (now words)) l (length (now work)) ⌝ }
+    ensures { λ _. ⌜ now (work .exit) ≡ guidanceLaid guided (now (guidance .entry)) (cutsIn table (now (words .entry))) l (now (work .entry)) ⌝ }
 {
     if guided {
-        pass_planes::put_values(angles, numbers, table, Mean::Angle, work, l.guidance);
+        pass_inputs::put_values(guidance, words, table, Mean::Angle, work, l.guidance);
     }
 }
 
@@ -53,23 +53,23 @@ fn lay_guidance(
 pub fn pass_over(
     points: &[f64],
     sizes: &[f64],
-    angles: &[f64],
+    guidance: &[f64],
     table: Table,
     work: &mut [f64],
-    numbers: &mut [u32],
+    words: &mut [u32],
     at: Base,
     o: Options,
     a: Asked,
 ) -> Stage
-    requires { ⌜ LaidRoom at (a .guided) (length (now points)) (length (now sizes)) (length (now angles)) table (length (now work)) (length (now numbers)) ⌝ }
-    requires { ⌜ Below (at .points) (at .words) (now numbers) (3 * at .triangles) ⌝ }
-    ensures { λ r. ⌜ Made at (passAt at o a table (now (points .entry)) (now (sizes .entry)) (now (angles .entry)) (now (numbers .entry)))
-        (now (work .entry)) (now (work .exit)) (now (numbers .entry)) (now (numbers .exit)) r ⌝ }
+    requires { ⌜ LaidRoom at (a .guided) (length (now points)) (length (now sizes)) (length (now guidance)) table (length (now work)) (length (now words)) ⌝ }
+    requires { ⌜ Below (at .points) (at .words) (now words) (3 * at .triangles) ⌝ }
+    ensures { λ r. ⌜ Made at (passAt at o a table (now (points .entry)) (now (sizes .entry)) (now (guidance .entry)) (now (words .entry)))
+        (now (work .entry)) (now (work .exit)) (now (words .entry)) (now (words .exit)) r ⌝ }
 {
     let l = pass_layout::layout_at(at);
-    lay_points(points, sizes, numbers, table, work, l);
-    lay_guidance(angles, a.guided, numbers, table, work, l);
-    pass::pass(work, numbers, at, o, a)
+    lay_points(points, sizes, words, table, work, l);
+    lay_guidance(guidance, a.guided, words, table, work, l);
+    pass::pass(work, words, at, o, a)
 }
 
 // The pass over the floor as given, which begins at 0 in both work slices: its triangles are laid out first, and there are no cut sides.
@@ -77,17 +77,17 @@ pub fn first_pass(
     points: &[f64],
     triangles: &[u32],
     sizes: &[f64],
-    angles: &[f64],
+    guidance: &[f64],
     work: &mut [f64],
-    numbers: &mut [u32],
+    words: &mut [u32],
     o: Options,
     a: Asked,
 ) -> Stage
-    requires { ⌜ FirstRoom (a .guided) (length (now points)) (length (now triangles)) (length (now sizes)) (length (now angles)) (length (now work)) (length (now numbers)) ⌝ }
+    requires { ⌜ FirstRoom (a .guided) (length (now points)) (length (now triangles)) (length (now sizes)) (length (now guidance)) (length (now work)) (length (now words)) ⌝ }
     requires { ⌜ Below (length (now points) / 3) 0 (now triangles) (length (now triangles)) ⌝ }
     ensures { λ r. ⌜ Made (firstBase (length (now (points .entry))) (length (now (triangles .entry))))
-        (firstOver o a (now (points .entry)) (now (triangles .entry)) (now (sizes .entry)) (now (angles .entry)))
-        (now (work .entry)) (now (work .exit)) (now (numbers .entry)) (now (numbers .exit)) r ⌝ }
+        (firstOver o a (now (points .entry)) (now (triangles .entry)) (now (sizes .entry)) (now (guidance .entry)))
+        (now (work .entry)) (now (work .exit)) (now (words .entry)) (now (words .exit)) r ⌝ }
 {
     let at = Base {
         reals: 0,
@@ -100,6 +100,6 @@ pub fn first_pass(
         buckets: 0,
         sides: 0,
     };
-    pass_planes::put_corners(triangles, numbers, 0);
-    pass_over(points, sizes, angles, none, work, numbers, at, o, a)
+    slices::copy_u32(triangles, words, 0);
+    pass_over(points, sizes, guidance, none, work, words, at, o, a)
 }

@@ -18,9 +18,11 @@ use Rattle.floor.proofs.Lowest.{lowest-most, lowest-before}
 use Rattle.geometry.specs.declared.Geometry.{Geometry}
 use Rattle.geometry.specs.declared.Geometry.the-variants.{Triangle, Degenerate}
 use Rattle.geometry.specs.declared.TriangleGeometry.{TriangleGeometry}
-use Rattle.geometry.specs.Triangle.{orientation, areaOf, degenerate, placed, geometry, number, at}
+use Rattle.plane.specs.Pair.{orientation}
+use Rattle.geometry.specs.Triangle.{areaOf, degenerate, placed, geometry, number, at}
 use Rattle.geometry.proofs.Orientation.{three-corners}
-use Rattle.pass_geometries.specs.Geometries.{geometryOn, isDegenerate, cornersOn, cornersOf, firstDegenerate, woundUpTo, Cornered}
+use Rattle.pass_geometries.specs.Geometries.{geometryOn, isDegenerate, cornersOf, firstDegenerate}
+use Rattle.pass_geometries.specs.Work.{cornersOn, woundUpTo, Cornered}
 use Rattle.pass_geometries.proofs.Steps.{kept-corners, one-area}
 use Rattle.pass_geometries.proofs.Joined.{joined-length, joined-at}
 

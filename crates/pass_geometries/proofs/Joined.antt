@@ -7,7 +7,7 @@ use mathlib.Core.Path.{_≡_, sym, ap, _∙_}
 use mathlib.Core.List.{List, _++_}
 use lib.ListN.{length, length-append, getD, List·getD-append}
 use lib.Seq.{getD-append-add}
-use Rattle.pass_geometries.specs.Geometries.{joined}
+use Rattle.pass_geometries.specs.Work.{joined}
 
 module _ {A : Type 0} (f : ℕ → List A) (k : ℕ) where
   pub joined-length : (r : ℕ) → ((j : ℕ) → j < r → length (f j) ≡ k) → length (joined f r) ≡ k * r

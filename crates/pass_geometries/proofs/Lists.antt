@@ -9,12 +9,13 @@ use lib.ListN.{length, getD}
 use lib.Ieee.{Float, nan}
 use Rattle.mesh.specs.Mesh.{Tri, tri}
 use Rattle.edges.specs.Numbering.{triFrom, Below}
-use Rattle.runs.proofs.Runs.{sets-before, sets-within}
+use Rattle.slices.proofs.Runs.{sets-before, sets-within}
 use Rattle.floor.proofs.Lowest.{lowest-same}
 use Rattle.geometry.specs.declared.Geometry.{Geometry}
 use Rattle.geometry.specs.declared.Geometry.the-variants.{Triangle, Degenerate}
 use Rattle.pass_geometries.specs.declared.GeometriesPlan.{GeometriesPlan}
-use Rattle.pass_geometries.specs.Geometries.{geometryOn, isDegenerate, areaOn, cornersOf, areaOf, firstDegenerate, joined, areasUpTo, woundUpTo, xsIn, ysIn, geometryIn, Cornered, GeometriesRoom, Kept}
+use Rattle.pass_geometries.specs.Geometries.{geometryOn, isDegenerate, cornersOf, areaOf, firstDegenerate}
+use Rattle.pass_geometries.specs.Work.{areaOn, joined, areasUpTo, woundUpTo, xsIn, ysIn, geometryIn, Cornered, GeometriesRoom, Kept}
 use Rattle.pass_geometries.proofs.Steps.{corners-below, kept-cornered, one-area}
 use Rattle.pass_geometries.proofs.Joined.{joined-length, joined-at}
 use Rattle.pass_geometries.proofs.Good.{sound-before, first-most, wound-length, kept-tri}

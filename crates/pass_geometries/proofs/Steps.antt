@@ -14,14 +14,16 @@ use Rattle.float.specs.Double.{lit}
 use Rattle.plane.specs.declared.Pair.{Pair}
 use Rattle.mesh.specs.Mesh.{Tri, tri}
 use Rattle.edges.specs.Numbering.{triFrom, Below}
-use Rattle.runs.proofs.Runs.{sets-before, sets-append}
+use Rattle.slices.proofs.Runs.{sets-before, sets-append}
 use Rattle.floor.proofs.Lowest.{lowest-none, lowest-again, lowest-found}
 use Rattle.geometry.specs.declared.TriangleGeometry.{TriangleGeometry}
 use Rattle.geometry.specs.declared.Geometry.{Geometry}
 use Rattle.geometry.specs.declared.Geometry.the-variants.{Triangle, Degenerate}
-use Rattle.geometry.specs.Triangle.{geometry, placed, degenerate, orientation, areaOf as area, at}
+use Rattle.plane.specs.Pair.{orientation}
+use Rattle.geometry.specs.Triangle.{geometry, placed, degenerate, areaOf as area, at}
 use Rattle.pass_geometries.specs.declared.GeometriesPlan.{GeometriesPlan}
-use Rattle.pass_geometries.specs.Geometries.{geometryOn, isDegenerate, cornersOn, areaOn, cornersOf, firstDegenerate, joined, woundUpTo, areasUpTo, coordsFrom, xsIn, ysIn, geometryIn, Cornered, GeometriesRoom, Looked, Kept}
+use Rattle.pass_geometries.specs.Geometries.{geometryOn, isDegenerate, cornersOf, firstDegenerate}
+use Rattle.pass_geometries.specs.Work.{cornersOn, areaOn, joined, woundUpTo, areasUpTo, coordsFrom, xsIn, ysIn, geometryIn, Cornered, GeometriesRoom, Looked, Kept}
 
 -- ---- one triangle
 

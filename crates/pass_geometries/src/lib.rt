@@ -11,7 +11,8 @@ ghost use lib.Seq.{sets};
 ghost use Rattle.edges.specs.Numbering.{Below};
 ghost use Rattle.mesh.specs.Mesh.{tri};
 ghost use Rattle.geometry.specs.Triangle.{at};
-ghost use Rattle.pass_geometries.specs.Geometries.{geometryOn, coordsFrom, xsIn, ysIn, geometryIn, Cornered, GeometriesRoom, Looked, Kept};
+ghost use Rattle.pass_geometries.specs.Geometries.{geometryOn};
+ghost use Rattle.pass_geometries.specs.Work.{coordsFrom, xsIn, ysIn, geometryIn, Cornered, GeometriesRoom, Looked, Kept};
 
 // How many points and triangles there are, and where: in the f64 work the coordinates, and the areas that are kept; in the u32 work the corners as
 // given, and those that are kept.

@@ -14,10 +14,12 @@ use lib.Ieee.{Float, nan}
 use Rattle.float.specs.Double.{_⊘_}
 use Rattle.floor.specs.declared.Check.{Check}
 use Rattle.floor.specs.declared.Check.the-variants.{Sound, Refused}
-use Rattle.floor.specs.Checks.{lowest, rowAt}
+use Rattle.refusals.specs.Refusal.{rowAt}
+use Rattle.floor.specs.Checks.{lowest}
 use Rattle.floor.proofs.Lowest.{lowest-none, lowest-again, lowest-found, lowest-most, lowest-same}
-use Rattle.pass_geometries.specs.Geometries.{coordsFrom}
-use Rattle.pass_gradients.specs.Gradients.{rowOfPoint, firstRefused, checkMeans, sumsX, sumsY, weights, divideAt, DividedTo, DividedPoint, Divided}
+use Rattle.pass_geometries.specs.Work.{coordsFrom}
+use Rattle.pass_gradients.specs.Gradients.{rowOfPoint, firstRefused, checkMeans}
+use Rattle.pass_gradients.specs.Work.{sumsX, sumsY, weights, divideAt, DividedTo, DividedPoint, Divided}
 
 -- ---- one point
 

@@ -20,10 +20,11 @@ use Rattle.linear_cells.specs.Region.{put, Apart}
 use Rattle.linear_cells.proofs.Loops.{apart}
 use Rattle.linear_cells.proofs.Regions.{length-put, put-within, put-else}
 use Rattle.edges.specs.Numbering.{triFrom, Below}
-use Rattle.pass_geometries.specs.Geometries.{coordsFrom, Cornered}
+use Rattle.pass_geometries.specs.Work.{coordsFrom, Cornered}
 use Rattle.pass_geometries.proofs.Steps.{corners-below}
 use Rattle.pass_gradients.specs.declared.GradientsPlan.{GradientsPlan}
-use Rattle.pass_gradients.specs.Gradients.{gradientOn, addCorner, addTri, sumTo, weighedX, weighedY, GradientsRoom, gradientIn, partX, partY, addAt, addThree, addTriangle, GatheredTriangle, GatheredTo}
+use Rattle.pass_gradients.specs.Gradients.{gradientOn, addCorner, addTri, sumTo, weighedX, weighedY}
+use Rattle.pass_gradients.specs.Work.{GradientsRoom, gradientIn, partX, partY, addAt, addThree, addTriangle, GatheredTriangle, GatheredTo}
 
 -- a triangle whose corners and gradient were read
 pub added : (p : GradientsPlan) (t : ℕ) (u : List ℕ) (w : List Float) (a : Float) {w′ : List Float} {i j k : ℕ} {d : Pair} → i ≡ getD u (p .wound + 3 * t) 0 → j ≡ getD u (p .wound + 3 * t + 1) 0 → k ≡ getD u (p .wound + 3 * t + 2) 0

@@ -1,1 +1,2 @@
 pub mod Gradients
+pub mod Work

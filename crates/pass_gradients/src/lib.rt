@@ -6,8 +6,9 @@ ghost use Prim.Native.Nat.{_+_, _*_, _<_, _≤_};
 ghost use lib.ListN.{length};
 ghost use Rattle.mesh.specs.Mesh.{tri};
 ghost use Rattle.edges.specs.Numbering.{Below};
-ghost use Rattle.pass_geometries.specs.Geometries.{Cornered};
-ghost use Rattle.pass_gradients.specs.Gradients.{gradientIn, GradientsRoom, addAt, addThree, addTriangle, GatheredTriangle, GatheredTo, notFinite, rowOf, divideAt, DividedPoint, Divided};
+ghost use Rattle.pass_geometries.specs.Work.{Cornered};
+ghost use Rattle.pass_gradients.specs.Gradients.{notFinite, rowOf};
+ghost use Rattle.pass_gradients.specs.Work.{gradientIn, GradientsRoom, addAt, addThree, addTriangle, GatheredTriangle, GatheredTo, divideAt, DividedPoint, Divided};
 
 // How many points and triangles there are, and where: in the f64 work the points' coordinates and sizes and the triangles' areas, and the sums, n first
 // parts, then n second parts, then n weights; in the u32 work the corners, counter-clockwise.

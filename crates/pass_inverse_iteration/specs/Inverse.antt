@@ -7,7 +7,7 @@ use lib.ListN.{length}
 use lib.Ieee.{Float, binary64, le, ofInt}
 use Rattle.float.specs.Double.{lit, isFinite, notPositive, _⊘_}
 use Rattle.complex.specs.declared.Complex.{Complex}
-use Rattle.linear_hermitian.specs.Hermitian.{Matrix, dotOf, normOf, applied}
+use Rattle.linear_hermitian.specs.Hermitian.{Matrix, dotOf, vectorNorm, applied}
 use Rattle.linear_vectors.specs.Vectors.{zipOf, subScaled}
 use Rattle.linear_conjugate_gradient.specs.Method.{massSquared, normalizedOf}
 use Rattle.linear_conjugate_gradient.specs.Found.{Found, vector, gave}
@@ -40,7 +40,7 @@ residualBy lambda p next = zipOf (subScaled lambda) (applied (p .energy) next) (
 
 -- the residual's norm over the average of the diagonal
 unfoldable pub relativeOf : Pencil → List Complex → Float
-relativeOf p next = normOf (residualBy (estimateOf p next) p next) ⊘ p .average
+relativeOf p next = vectorNorm (residualBy (estimateOf p next) p next) ⊘ p .average
 
 -- lines 1594 to 1615, of the next iterate: reasons 10 and 11, the iterate where its residual is small, or on by `further`
 unfoldable pub judgedBy : Pencil → List Complex → (List Complex → Found) → Found

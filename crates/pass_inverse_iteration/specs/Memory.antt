@@ -39,8 +39,8 @@ pub data Step : Type 0 where
   ended : Found → Step
 
 -- what `judgedBy` tells of the next iterate
-unfoldable pub judged : Pencil → List Complex → Step
-judged p next =
+unfoldable pub outerJudged : Pencil → List Complex → Step
+outerJudged p next =
     cond (notPositive (massSquared (p .mass) next)) (ended (gave 10 0))
     (cond (not (isFinite (estimateOf p next))) (ended (gave 11 0))
     (cond (le (relativeOf p next) outerTolerance) (ended (vector next)) (going next)))
@@ -51,13 +51,13 @@ judgedFrom (vector next) f = f next
 judgedFrom (gave r i) f = ended (gave r i)
 
 -- the iteration from x
-unfoldable pub iterationOf : Pencil → List Complex → Step
-iterationOf p x = judgedFrom (nextOf p x) (judged p)
+unfoldable pub outerIteration : Pencil → List Complex → Step
+outerIteration p x = judgedFrom (nextOf p x) (outerJudged p)
 
 -- on by f where the iteration leads on
-unfoldable pub after : Step → (List Complex → Found) → Found
-after (going x) f = f x
-after (ended found) f = found
+unfoldable pub outerAfter : Step → (List Complex → Found) → Found
+outerAfter (going x) f = f x
+outerAfter (ended found) f = found
 
 -- the mass times x as the right-hand side
 unfoldable pub withRight : Matrix → State → State
@@ -88,7 +88,7 @@ afterLeft (ended found) t k = t
 -- `iterate`: at most k iterations
 unfoldable pub iteratedLeft : Pencil → ℕ → State → State
 iteratedLeft p zero s = s
-iteratedLeft p (suc k) s = afterLeft (iterationOf p (s .x)) (iterationLeft p s) (iteratedLeft p k)
+iteratedLeft p (suc k) s = afterLeft (outerIteration p (s .x)) (iterationLeft p s) (iteratedLeft p k)
 
 -- the start vector at x, normalised
 unfoldable pub startLeft : Matrix → List Complex → State → State

@@ -7,34 +7,34 @@ use Rattle.float.specs.Double.{_⊘_}
 use Rattle.complex.specs.declared.Complex.{Complex}
 use Rattle.linear_cells.specs.Region.{region}
 use Rattle.linear_cells.specs.Cell.{regionC}
-use Rattle.linear_hermitian.specs.declared.Hermitian.{Hermitian}
-use Rattle.linear_hermitian.specs.Hermitian.{dotOf, normOf, applied}
+use Rattle.linear_hermitian.specs.Hermitian.{dotOf, vectorNorm, applied}
 use Rattle.linear_hermitian.specs.Work.{matrix, Graph}
 use Rattle.linear_conjugate_gradient.specs.declared.Vectors.{Vectors}
 use Rattle.linear_conjugate_gradient.specs.Method.{massSquared, normalizedOf}
 use Rattle.linear_conjugate_gradient.specs.Solve.{State}
 use Rattle.linear_conjugate_gradient.specs.Work.{read, lay, SolverRoom}
-use Rattle.pass_refusal.specs.declared.Stage.{Stage}
-use Rattle.pass_refusal.specs.declared.Stage.the-variants.{Refused}
-use Rattle.pass_refusal.specs.Refusal.{gaveUp}
+use Rattle.refusals.specs.declared.Stage.{Stage}
+use Rattle.refusals.specs.declared.Stage.the-variants.{Refused}
+use Rattle.refusals.specs.Refusal.{gaveUp}
 use Rattle.pass_start.specs.Start.{startOf}
 use Rattle.linear_conjugate_gradient.specs.Found.{Found, vector}
 use Rattle.pass_solution.specs.Work.{foundStage, Framed, Answers}
 use Rattle.pass_inverse_iteration.specs.declared.Limits.{Limits}
 use Rattle.pass_inverse_iteration.specs.declared.Outer.{Outer}
+use Rattle.pass_inverse_iteration.specs.declared.PencilPlan.{PencilPlan}
 use Rattle.pass_inverse_iteration.specs.declared.Quotient.{Quotient}
 use Rattle.pass_inverse_iteration.specs.declared.Progress.{Progress}
 use Rattle.pass_inverse_iteration.specs.declared.Progress.the-variants.{Going, Ended}
 use Rattle.pass_inverse_iteration.specs.Inverse.{Pencil, nextOf, iterated, inverseOf}
-use Rattle.pass_inverse_iteration.specs.Memory.{Step, going, ended, judged, iterationOf, quoted, leftOver, subtracted, nextLeft, judgedLeft, iterationLeft, iteratedLeft, startLeft, inverseLeft}
+use Rattle.pass_inverse_iteration.specs.Memory.{Step, going, ended, outerJudged, outerIteration, quoted, leftOver, subtracted, nextLeft, judgedLeft, iterationLeft, iteratedLeft, startLeft, inverseLeft}
 
 -- ---- what is required
 
 -- both matrices lie below the vectors
-pub record PencilRoom (len : ℕ) (mass energy : Hermitian) (l : Vectors) : Type 0 where
-  pub one-size : mass .size ≡ energy .size
-  pub mass-room : SolverRoom len mass l
-  pub energy-room : SolverRoom len energy l
+pub record PencilRoom (len : ℕ) (p : PencilPlan) : Type 0 where
+  pub one-size : p .mass .size ≡ p .energy .size
+  pub mass-room : SolverRoom len (p .mass) (p .vectors)
+  pub energy-room : SolverRoom len (p .energy) (p .vectors)
 
 -- the coordinates do too
 pub record PlanesBelow (n : ℕ) (l : Vectors) (o : Outer) : Type 0 where
@@ -42,28 +42,35 @@ pub record PlanesBelow (n : ℕ) (l : Vectors) (o : Outer) : Type 0 where
   pub y-below : o .y + n ≤ l .x
 
 -- both matrices have the edges from and to
-pub record Graphs (mass energy : Hermitian) (from to : List ℕ) : Type 0 where
-  pub mass-graph : Graph mass from to
-  pub energy-graph : Graph energy from to
+pub record Graphs (p : PencilPlan) (from to : List ℕ) : Type 0 where
+  pub mass-graph : Graph (p .mass) from to
+  pub energy-graph : Graph (p .energy) from to
 
 -- ---- the pencil that a slice holds
 
 -- by both matrices and the limits
-abbrev pub pencil : List Float → Hermitian → Hermitian → List ℕ → List ℕ → Limits → Pencil
-pencil w mass energy from to o = record { mass = matrix w mass from to; energy = matrix w energy from to; average = o .average; most = o .most }
+abbrev pub pencil : List Float → PencilPlan → List ℕ → List ℕ → Limits → Pencil
+pencil w p from to o = record { mass = matrix w (p .mass) from to; energy = matrix w (p .energy) from to; average = o .average; most = o .most }
+
+-- the iterate, and all of the solver's vectors
+abbrev pub iterateIn : List Float → PencilPlan → List Complex
+iterateIn w p = regionC w (p .vectors .x) (p .energy .size)
+
+abbrev pub vectorsIn : List Float → PencilPlan → State
+vectorsIn w p = read w (p .energy .size) (p .vectors)
 
 -- ---- what the functions leave and return
 
 -- `rayleigh`: the quotient's parts, from the products with both matrices
-pub record Quotients (w w′ : List Float) (mass energy : Hermitian) (l : Vectors) (from to : List ℕ) (q : Quotient) : Type 0 where
-  pub work : w′ ≡ lay w (energy .size) l (quoted (matrix w mass from to) (matrix w energy from to) (read w (energy .size) l))
-  pub numerator : q .numerator ≡ dotOf (regionC w (l .x) (energy .size)) (applied (matrix w energy from to) (regionC w (l .x) (energy .size))) .re
-  pub denominator : q .denominator ≡ massSquared (matrix w mass from to) (regionC w (l .x) (energy .size))
+pub record Quotients (w w′ : List Float) (p : PencilPlan) (from to : List ℕ) (q : Quotient) : Type 0 where
+  pub work : w′ ≡ lay w (p .energy .size) (p .vectors) (quoted (matrix w (p .mass) from to) (matrix w (p .energy) from to) (vectorsIn w p))
+  pub numerator : q .numerator ≡ dotOf (iterateIn w p) (applied (matrix w (p .energy) from to) (iterateIn w p)) .re
+  pub denominator : q .denominator ≡ massSquared (matrix w (p .mass) from to) (iterateIn w p)
 
 -- `relative`: the residual's norm over the average
 pub record Relative (w w′ : List Float) (n : ℕ) (l : Vectors) (lambda average r : Float) : Type 0 where
   pub work : w′ ≡ lay w n l (subtracted lambda (read w n l))
-  pub result : r ≡ normOf (leftOver lambda (read w n l)) ⊘ average
+  pub result : r ≡ vectorNorm (leftOver lambda (read w n l)) ⊘ average
 
 -- an iteration's answer
 unfoldable pub progressOf : Step → Progress
@@ -90,35 +97,35 @@ pub record Steps (w w′ : List Float) (n : ℕ) (l : Vectors) (t : State) (i : 
 -- ---- the functions' promises, over the iterate at the solver's x
 
 -- `judge`
-abbrev pub Judges : (w w′ : List Float) (mass energy : Hermitian) (l : Vectors) (from to : List ℕ) (o : Limits) → Progress → Type 0
-Judges w w′ mass energy l from to o r =
-    Steps w w′ (energy .size) l
-    (judgedLeft (pencil w mass energy from to o) (read w (energy .size) l))
-    (judged (pencil w mass energy from to o) (regionC w (l .x) (energy .size)))
+abbrev pub Judges : (w w′ : List Float) (p : PencilPlan) (from to : List ℕ) (o : Limits) → Progress → Type 0
+Judges w w′ p from to o r =
+    Steps w w′ (p .energy .size) (p .vectors)
+    (judgedLeft (pencil w p from to o) (vectorsIn w p))
+    (outerJudged (pencil w p from to o) (iterateIn w p))
     r
 
 -- `iterate_once`
-abbrev pub IteratesOnce : (w w′ : List Float) (mass energy : Hermitian) (l : Vectors) (from to : List ℕ) (o : Limits) → Progress → Type 0
-IteratesOnce w w′ mass energy l from to o r =
-    Steps w w′ (energy .size) l
-    (iterationLeft (pencil w mass energy from to o) (read w (energy .size) l))
-    (iterationOf (pencil w mass energy from to o) (regionC w (l .x) (energy .size)))
+abbrev pub IteratesOnce : (w w′ : List Float) (p : PencilPlan) (from to : List ℕ) (o : Limits) → Progress → Type 0
+IteratesOnce w w′ p from to o r =
+    Steps w w′ (p .energy .size) (p .vectors)
+    (iterationLeft (pencil w p from to o) (vectorsIn w p))
+    (outerIteration (pencil w p from to o) (iterateIn w p))
     r
 
 -- `next`
-abbrev pub TakesNext : (w w′ : List Float) (mass energy : Hermitian) (l : Vectors) (from to : List ℕ) (o : Limits) → Stage → Type 0
-TakesNext w w′ mass energy l from to o r =
-    Answers w w′ (energy .size) l
-    (nextLeft (pencil w mass energy from to o) (read w (energy .size) l))
-    (nextOf (pencil w mass energy from to o) (regionC w (l .x) (energy .size)))
+abbrev pub TakesNext : (w w′ : List Float) (p : PencilPlan) (from to : List ℕ) (o : Limits) → Stage → Type 0
+TakesNext w w′ p from to o r =
+    Answers w w′ (p .energy .size) (p .vectors)
+    (nextLeft (pencil w p from to o) (vectorsIn w p))
+    (nextOf (pencil w p from to o) (iterateIn w p))
     r
 
 -- `iterate`
-abbrev pub Iterates : (w w′ : List Float) (mass energy : Hermitian) (l : Vectors) (from to : List ℕ) (o : Limits) (k : ℕ) → Stage → Type 0
-Iterates w w′ mass energy l from to o k r =
-    Answers w w′ (energy .size) l
-    (iteratedLeft (pencil w mass energy from to o) k (read w (energy .size) l))
-    (iterated (pencil w mass energy from to o) k (regionC w (l .x) (energy .size)))
+abbrev pub Iterates : (w w′ : List Float) (p : PencilPlan) (from to : List ℕ) (o : Limits) (k : ℕ) → Stage → Type 0
+Iterates w w′ p from to o k r =
+    Answers w w′ (p .energy .size) (p .vectors)
+    (iteratedLeft (pencil w p from to o) k (vectorsIn w p))
+    (iterated (pencil w p from to o) k (iterateIn w p))
     r
 
 -- the start vector of the points, whose coordinates stand in two planes
@@ -126,17 +133,17 @@ abbrev pub startIn : List Float → Outer → ℕ → List Complex
 startIn w o n = startOf (region nan w (o .x) n) (region nan w (o .y) n)
 
 -- `begin`
-abbrev pub Starts : (w w′ : List Float) (mass : Hermitian) (l : Vectors) (from to : List ℕ) (o : Outer) → Stage → Type 0
-Starts w w′ mass l from to o r =
-    Answers w w′ (mass .size) l
-    (startLeft (matrix w mass from to) (startIn w o (mass .size)) (read w (mass .size) l))
-    (normalizedOf (matrix w mass from to) (startIn w o (mass .size)))
+abbrev pub Starts : (w w′ : List Float) (p : PencilPlan) (from to : List ℕ) (o : Outer) → Stage → Type 0
+Starts w w′ p from to o r =
+    Answers w w′ (p .mass .size) (p .vectors)
+    (startLeft (matrix w (p .mass) from to) (startIn w o (p .mass .size)) (read w (p .mass .size) (p .vectors)))
+    (normalizedOf (matrix w (p .mass) from to) (startIn w o (p .mass .size)))
     r
 
 -- `inverse_iteration`
-abbrev pub Inverts : (w w′ : List Float) (mass energy : Hermitian) (l : Vectors) (from to : List ℕ) (o : Outer) → Stage → Type 0
-Inverts w w′ mass energy l from to o r =
-    Answers w w′ (energy .size) l
-    (inverseLeft (matrix w mass from to) (matrix w energy from to) (o .trace) (o .iterations) (startIn w o (energy .size)) (read w (energy .size) l))
-    (inverseOf (matrix w mass from to) (matrix w energy from to) (o .trace) (o .iterations) (startIn w o (energy .size)))
+abbrev pub Inverts : (w w′ : List Float) (p : PencilPlan) (from to : List ℕ) (o : Outer) → Stage → Type 0
+Inverts w w′ p from to o r =
+    Answers w w′ (p .energy .size) (p .vectors)
+    (inverseLeft (matrix w (p .mass) from to) (matrix w (p .energy) from to) (o .trace) (o .iterations) (startIn w o (p .energy .size)) (vectorsIn w p))
+    (inverseOf (matrix w (p .mass) from to) (matrix w (p .energy) from to) (o .trace) (o .iterations) (startIn w o (p .energy .size)))
     r

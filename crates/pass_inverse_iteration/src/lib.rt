@@ -1,9 +1,8 @@
 // Inverse iteration for the smallest eigenpair of the shifted pencil, in regions of one lent slice: the Rust's steps. The iterate stands at the solver's x.
-// `copy` is where the packed copy of the energy matrix stands, which the solver multiplies by.
 use linear_conjugate_gradient::Vectors;
 use linear_hermitian::Hermitian;
 use linear_packing::Packing;
-use pass_refusal::Stage;
+use refusals::Stage;
 ghost use mathlib.Core.Path.{_≡_};
 ghost use lib.ListN.{length};
 ghost use Rattle.linear_conjugate_gradient.specs.Work.{SolverRoom, VectorRoom, Engine};
@@ -14,7 +13,15 @@ ghost use Rattle.pass_inverse_iteration.specs.Work.{endingOf, Quotients,
 
 const OUTER_TOLERANCE: f64 = 1e-8;
 
-// Where the points' coordinates stand, x and y; the trace of the energy before its shift; and the most iterations.
+// Where the pencil is in the slices: both matrices, the vectors of the linear solver, and the packed copy of the energy matrix, which the solver multiplies by.
+pub struct PencilPlan {
+    pub mass: Hermitian,
+    pub energy: Hermitian,
+    pub vectors: Vectors,
+    pub copy: Packing,
+}
+
+// Where the points' coordinates are, x and y; the trace of the energy before its shift; and the most iterations.
 pub struct Outer {
     pub x: usize,
     pub y: usize,
@@ -40,23 +47,18 @@ enum Progress {
     Ended(Stage),
 }
 
-fn rayleigh(
-    work: &mut [f64],
-    mass: Hermitian,
-    energy: Hermitian,
-    l: Vectors,
-    from: &[u32],
-    to: &[u32],
-) -> Quotient
-    requires { ⌜ PencilRoom (length (now work)) mass energy l ⌝ }
-    requires { ⌜ Graphs mass energy (now from) (now to) ⌝ }
-    ensures { λ r. ⌜ Quotients (now (work .entry)) (now (work .exit)) mass energy l (now (from .entry)) (now (to .entry)) r ⌝ }
+fn rayleigh(work: &mut [f64], p: PencilPlan, from: &[u32], to: &[u32]) -> Quotient
+    requires { ⌜ PencilRoom (length (now work)) p ⌝ }
+    requires { ⌜ Graphs p (now from) (now to) ⌝ }
+    ensures { λ r. ⌜ Quotients (now (work .entry)) (now (work .exit)) p (now (from .entry)) (now (to .entry)) r ⌝ }
 {
-    linear_hermitian::apply(work, l.direction, l.x, mass, from, to);
-    linear_hermitian::apply(work, l.applied, l.x, energy, from, to);
+    let l = p.vectors;
+    let n = p.energy.size;
+    linear_hermitian::apply(work, l.direction, l.x, p.mass, from, to);
+    linear_hermitian::apply(work, l.applied, l.x, p.energy, from, to);
     Quotient {
-        numerator: linear_hermitian::dot_re(work, l.x, l.applied, energy.size),
-        denominator: linear_hermitian::dot_re(work, l.x, l.direction, energy.size),
+        numerator: linear_hermitian::dot_re(work, l.x, l.applied, n),
+        denominator: linear_hermitian::dot_re(work, l.x, l.direction, n),
     }
 }
 
@@ -70,28 +72,20 @@ fn relative(work: &mut [f64], n: usize, l: Vectors, lambda: f64, average: f64) -
 }
 
 // Whether the iteration goes on with the iterate, once it is normalised.
-fn judge(
-    work: &mut [f64],
-    mass: Hermitian,
-    energy: Hermitian,
-    l: Vectors,
-    from: &[u32],
-    to: &[u32],
-    o: Limits,
-) -> Progress
-    requires { ⌜ PencilRoom (length (now work)) mass energy l ⌝ }
-    requires { ⌜ Graphs mass energy (now from) (now to) ⌝ }
-    ensures { λ r. ⌜ Judges (now (work .entry)) (now (work .exit)) mass energy l (now (from .entry)) (now (to .entry)) o r ⌝ }
+fn judge(work: &mut [f64], p: PencilPlan, from: &[u32], to: &[u32], o: Limits) -> Progress
+    requires { ⌜ PencilRoom (length (now work)) p ⌝ }
+    requires { ⌜ Graphs p (now from) (now to) ⌝ }
+    ensures { λ r. ⌜ Judges (now (work .entry)) (now (work .exit)) p (now (from .entry)) (now (to .entry)) o r ⌝ }
 {
-    let q = rayleigh(work, mass, energy, l, from, to);
+    let q = rayleigh(work, p, from, to);
     if float::not_positive(q.denominator) {
-        return Progress::Ended(pass_refusal::gave_up(10, 0));
+        return Progress::Ended(refusals::gave_up(10, 0));
     }
     let lambda = q.numerator / q.denominator;
     if !float::is_finite(lambda) {
-        return Progress::Ended(pass_refusal::gave_up(11, 0));
+        return Progress::Ended(refusals::gave_up(11, 0));
     }
-    if relative(work, energy.size, l, lambda, o.average) <= OUTER_TOLERANCE {
+    if relative(work, p.energy.size, p.vectors, lambda, o.average) <= OUTER_TOLERANCE {
         return Progress::Ended(Stage::Done);
     }
     Progress::Going
@@ -100,49 +94,43 @@ fn judge(
 // The solution of the system whose right-hand side is the mass times x, normalised.
 fn next(
     work: &mut [f64],
-    mass: Hermitian,
-    energy: Hermitian,
-    l: Vectors,
+    p: PencilPlan,
     from: &[u32],
     to: &[u32],
-    u: &[u32],
-    copy: Packing,
+    words: &[u32],
     o: Limits,
 ) -> Stage
-    requires { ⌜ PencilRoom (length (now work)) mass energy l ⌝ }
-    requires { ⌜ Graphs mass energy (now from) (now to) ⌝ }
-    requires { ⌜ Engine (now work) energy l (now from) (now to) (now u) copy ⌝ }
-    ensures { λ r. ⌜ TakesNext (now (work .entry)) (now (work .exit)) mass energy l (now (from .entry)) (now (to .entry)) o r ⌝ }
+    requires { ⌜ PencilRoom (length (now work)) p ⌝ }
+    requires { ⌜ Graphs p (now from) (now to) ⌝ }
+    requires { ⌜ Engine (now work) (p .energy) (p .vectors) (now from) (now to) (now words) (p .copy) ⌝ }
+    ensures { λ r. ⌜ TakesNext (now (work .entry)) (now (work .exit)) p (now (from .entry)) (now (to .entry)) o r ⌝ }
 {
-    linear_hermitian::apply(work, l.residual, l.x, mass, from, to);
-    let s = pass_solution::solve(work, energy, l, from, to, u, copy, o.most);
+    linear_hermitian::apply(work, p.vectors.residual, p.vectors.x, p.mass, from, to);
+    let s = pass_solution::solve(work, p.energy, p.vectors, from, to, words, p.copy, o.most);
     let Stage::Done = s else {
         return s;
     };
-    pass_solution::normalize(work, mass, l, from, to)
+    pass_solution::normalize(work, p.mass, p.vectors, from, to)
 }
 
 fn iterate_once(
     work: &mut [f64],
-    mass: Hermitian,
-    energy: Hermitian,
-    l: Vectors,
+    p: PencilPlan,
     from: &[u32],
     to: &[u32],
-    u: &[u32],
-    copy: Packing,
+    words: &[u32],
     o: Limits,
 ) -> Progress
-    requires { ⌜ PencilRoom (length (now work)) mass energy l ⌝ }
-    requires { ⌜ Graphs mass energy (now from) (now to) ⌝ }
-    requires { ⌜ Engine (now work) energy l (now from) (now to) (now u) copy ⌝ }
-    ensures { λ r. ⌜ IteratesOnce (now (work .entry)) (now (work .exit)) mass energy l (now (from .entry)) (now (to .entry)) o r ⌝ }
+    requires { ⌜ PencilRoom (length (now work)) p ⌝ }
+    requires { ⌜ Graphs p (now from) (now to) ⌝ }
+    requires { ⌜ Engine (now work) (p .energy) (p .vectors) (now from) (now to) (now words) (p .copy) ⌝ }
+    ensures { λ r. ⌜ IteratesOnce (now (work .entry)) (now (work .exit)) p (now (from .entry)) (now (to .entry)) o r ⌝ }
 {
-    let s = next(work, mass, energy, l, from, to, u, copy, o);
+    let s = next(work, p, from, to, words, o);
     let Stage::Done = s else {
         return Progress::Ended(s);
     };
-    judge(work, mass, energy, l, from, to, o)
+    judge(work, p, from, to, o)
 }
 
 // How the method ends with this iteration.
@@ -150,45 +138,42 @@ fn ending(p: Progress) -> Stage
     ensures { λ r. ⌜ r ≡ endingOf p ⌝ }
 {
     let Progress::Ended(s) = p else {
-        return pass_refusal::gave_up(12, 0);
+        return refusals::gave_up(12, 0);
     };
     s
 }
 
 fn iterate(
     work: &mut [f64],
-    mass: Hermitian,
-    energy: Hermitian,
-    l: Vectors,
+    p: PencilPlan,
     from: &[u32],
     to: &[u32],
-    u: &[u32],
-    copy: Packing,
+    words: &[u32],
     o: Limits,
     iterations: usize,
 ) -> Stage
-    requires { ⌜ PencilRoom (length (now work)) mass energy l ⌝ }
-    requires { ⌜ Graphs mass energy (now from) (now to) ⌝ }
-    requires { ⌜ Engine (now work) energy l (now from) (now to) (now u) copy ⌝ }
-    ensures { λ r. ⌜ Iterates (now (work .entry)) (now (work .exit)) mass energy l (now (from .entry)) (now (to .entry)) o iterations r ⌝ }
+    requires { ⌜ PencilRoom (length (now work)) p ⌝ }
+    requires { ⌜ Graphs p (now from) (now to) ⌝ }
+    requires { ⌜ Engine (now work) (p .energy) (p .vectors) (now from) (now to) (now words) (p .copy) ⌝ }
+    ensures { λ r. ⌜ Iterates (now (work .entry)) (now (work .exit)) p (now (from .entry)) (now (to .entry)) o iterations r ⌝ }
 {
     for i in 0..iterations {
-        let p = iterate_once(work, mass, energy, l, from, to, u, copy, o);
-        let Progress::Going = p else {
-            return ending(p);
+        let progress = iterate_once(work, p, from, to, words, o);
+        let Progress::Going = progress else {
+            return ending(progress);
         };
     }
-    pass_refusal::gave_up(12, 0)
+    refusals::gave_up(12, 0)
 }
 
 // The start vector, normalised.
-fn begin(work: &mut [f64], mass: Hermitian, l: Vectors, from: &[u32], to: &[u32], o: Outer) -> Stage
-    requires { ⌜ SolverRoom (length (now work)) mass l × PlanesBelow (mass .size) l o ⌝ }
-    requires { ⌜ Graph mass (now from) (now to) ⌝ }
-    ensures { λ r. ⌜ Starts (now (work .entry)) (now (work .exit)) mass l (now (from .entry)) (now (to .entry)) o r ⌝ }
+fn begin(work: &mut [f64], p: PencilPlan, from: &[u32], to: &[u32], o: Outer) -> Stage
+    requires { ⌜ SolverRoom (length (now work)) (p .mass) (p .vectors) × PlanesBelow (p .mass .size) (p .vectors) o ⌝ }
+    requires { ⌜ Graph (p .mass) (now from) (now to) ⌝ }
+    ensures { λ r. ⌜ Starts (now (work .entry)) (now (work .exit)) p (now (from .entry)) (now (to .entry)) o r ⌝ }
 {
-    pass_start::start(work, o.x, o.y, l.x, mass.size);
-    pass_solution::normalize(work, mass, l, from, to)
+    pass_start::start(work, o.x, o.y, p.vectors.x, p.mass.size);
+    pass_solution::normalize(work, p.mass, p.vectors, from, to)
 }
 
 fn average(trace: f64, n: usize) -> f64
@@ -200,38 +185,24 @@ fn average(trace: f64, n: usize) -> f64
 // The eigenvector of the smallest eigenvalue is left at the solver's x, where the iteration finds it.
 pub fn inverse_iteration(
     work: &mut [f64],
-    mass: Hermitian,
-    energy: Hermitian,
-    l: Vectors,
+    p: PencilPlan,
     from: &[u32],
     to: &[u32],
-    u: &[u32],
-    copy: Packing,
+    words: &[u32],
     o: Outer,
 ) -> Stage
-    requires { ⌜ PencilRoom (length (now work)) mass energy l × PlanesBelow (energy .size) l o ⌝ }
-    requires { ⌜ Graphs mass energy (now from) (now to) ⌝ }
-    requires { ⌜ Engine (now work) energy l (now from) (now to) (now u) copy ⌝ }
-    ensures { λ r. ⌜ Inverts (now (work .entry)) (now (work .exit)) mass energy l (now (from .entry)) (now (to .entry)) o r ⌝ }
+    requires { ⌜ PencilRoom (length (now work)) p × PlanesBelow (p .energy .size) (p .vectors) o ⌝ }
+    requires { ⌜ Graphs p (now from) (now to) ⌝ }
+    requires { ⌜ Engine (now work) (p .energy) (p .vectors) (now from) (now to) (now words) (p .copy) ⌝ }
+    ensures { λ r. ⌜ Inverts (now (work .entry)) (now (work .exit)) p (now (from .entry)) (now (to .entry)) o r ⌝ }
 {
-    let s = begin(work, mass, l, from, to, o);
+    let s = begin(work, p, from, to, o);
     let Stage::Done = s else {
         return s;
     };
     let limits = Limits {
-        average: average(o.trace, energy.size),
-        most: pass_solution::inner_most(energy.size),
+        average: average(o.trace, p.energy.size),
+        most: pass_solution::inner_most(p.energy.size),
     };
-    iterate(
-        work,
-        mass,
-        energy,
-        l,
-        from,
-        to,
-        u,
-        copy,
-        limits,
-        o.iterations,
-    )
+    iterate(work, p, from, to, words, limits, o.iterations)
 }

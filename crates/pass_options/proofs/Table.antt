@@ -5,10 +5,10 @@ use mathlib.Core.Path.{_≡_, refl, sym, ap, _∙_, subst}
 use mathlib.Core.Bool.{Bool, true, false, cond}
 use mathlib.Core.List.{List, [], _∷_}
 use lib.ListN.{length, getD}
-use Rattle.floor.specs.declared.Refusal.{Refusal}
+use Rattle.refusals.specs.declared.Refusal.{Refusal}
 use Rattle.floor.specs.declared.Check.{Check}
 use Rattle.floor.specs.declared.Check.the-variants.{Sound, Refused}
-use Rattle.floor.specs.Checks.{rowAt}
+use Rattle.refusals.specs.Refusal.{rowAt}
 use Rattle.pass_options.specs.Table.{Row, no-row, firstOf, FirstHolds, ByTable}
 
 differ : {A : Type 0} (x : Refusal) → Refused x ≡ Sound → A

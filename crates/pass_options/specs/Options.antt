@@ -7,6 +7,7 @@ use lib.Dec.{eqb, ltb}
 use lib.ListN.{length, getD}
 use lib.Ieee.{Float, nan, neg, lt, le}
 use Rattle.float.specs.Double.{lit, mag, isFinite, notPositive}
+use Rattle.complex.specs.Angle.{LARGEST-ANGLE}
 use Rattle.floor.specs.Checks.{lowest, notFiniteOrBelowZero}
 use Rattle.pass_options.specs.declared.BoundaryMode.{BoundaryMode}
 use Rattle.pass_options.specs.declared.BoundaryMode.the-variants.{None, Tangent, Weak}
@@ -54,9 +55,6 @@ unfoldable pub notFiniteAt : List Float → ℕ → Bool
 notFiniteAt angles i = not (isFinite (getD angles i nan))
 
 -- row 17: "over 131,072 in size"
-abbrev pub LARGEST-ANGLE : Float
-LARGEST-ANGLE = lit 0x4100_0000_0000_0000
-
 unfoldable pub tooLarge : Float → Bool
 tooLarge x = lt LARGEST-ANGLE (mag x)
 

@@ -14,23 +14,24 @@ use Rattle.float.specs.Double.{_⊘_}
 use Rattle.linear_cells.specs.Region.{tab, region}
 use Rattle.linear_cells.proofs.Loops.{tab-ext}
 use Rattle.edges.specs.Numbering.{triFrom}
-use Rattle.floor.specs.declared.Refusal.{Refusal as Found}
+use Rattle.refusals.specs.declared.Refusal.{Refusal}
 use Rattle.floor.specs.declared.Check.{Check}
 use Rattle.floor.specs.declared.Check.the-variants as check
 use Rattle.floor.specs.Checks.{lowest}
 use Rattle.floor.proofs.Lowest.{lowest-most, lowest-same}
 use Rattle.floor.specs.Floor.{Floor, pointCount, triangleCount, valueAt, triangleAt}
-use Rattle.pass_geometries.specs.Geometries.{coordsFrom, Cornered}
+use Rattle.pass_geometries.specs.Work.{coordsFrom, Cornered}
 use Rattle.pass_geometries.proofs.Steps.{corners-below}
-use Rattle.pass_gradients.specs.Gradients.{sumTo, weighedX, weighedY, rowOfPoint, firstRefused, checkMeans, sumsX, sumsY, weights, GatheredTo, DividedTo, Divided}
-use Rattle.pass_gradients.specs.Gradients as gradients
+use Rattle.pass_gradients.specs.Gradients.{sumTo, weighedX, weighedY, rowOfPoint, firstRefused, checkMeans}
+use Rattle.pass_gradients.specs.Work.{sumsX, sumsY, weights, GatheredTo, DividedTo, Divided}
+use Rattle.pass_gradients.specs.Work as gradients
 use Rattle.pass_gradients.proofs.Steps.{weighed-x-same, weighed-y-same, sum-same}
 use Rattle.pass_gradients.proofs.Means.{check-same, sound-all}
 use Rattle.pass_layout.specs.declared.Layout.{Layout}
 use Rattle.pass_layout.specs.Layout.{Ordered}
 use Rattle.pass_layout.specs.Work.{floorIn}
 use Rattle.pass_layout.proofs.Regions.{floor-stays}
-use Rattle.pass_refusal.specs.Refusal.{faultAt}
+use Rattle.refusals.specs.Refusal.{rowAt}
 use Rattle.pass_setup.specs.declared.Setup.{Setup}
 use Rattle.pass_setup.specs.declared.Setup.the-variants.{Refused}
 use Rattle.pass_setup.specs.Setup.{woundOf, areasOf, sumX, sumY, weightOf, meansOf, gradientsX, gradientsY, setupOf}
@@ -180,9 +181,9 @@ all-sound f h = rw (le-ltb (firstRefused (sumX f) (sumY f) (weightOf f) (pointCo
 -- rows 20 and 21
 module _ (l : Layout) (w : List Float) (u : List ℕ) (o : Ordered l (length w) (length u)) (t : Wound l (floorIn l w u) w u) {w₁ w₂ : List Float}
     (g : GatheredTo (gradientsAt l) (l .triangles) u w w₁) {c : Check} (d : Divided (l .gradients) (l .points) w₁ w₂ c) where
-  pub row-20 : (x : Found) → c ≡ check.Refused x → {s : Setup} → s ≡ Refused (faultAt (x .number) (x .place)) → SetUp l w u w₂ u s
+  pub row-20 : (x : Refusal) → c ≡ check.Refused x → {s : Setup} → s ≡ Refused (rowAt (x .number) (x .place)) → SetUp l w u w₂ u s
   row-20 x e q =
-      refused-by (faultAt (x .number) (x .place)) (stays l w u (floorIn l w u) o t g d) q told (λ h. absurd (omega (arith, none-refused t))) (λ h. still-turned l w u (floorIn l w u) o t g d)
+      refused-by (rowAt (x .number) (x .place)) (stays l w u (floorIn l w u) o t g d) q told (λ h. absurd (omega (arith, none-refused t))) (λ h. still-turned l w u (floorIn l w u) o t g d)
       (λ h. summed l w u (floorIn l w u) o t g d) (λ h. unjoined l w u (floorIn l w u) o t g d) (λ h p. absurd (some p))
     where
       some : l .points ≤ refusedPoint (floorIn l w u) → ⊥
@@ -192,7 +193,7 @@ module _ (l : Layout) (w : List Float) (u : List ℕ) (o : Ordered l (length w) 
           let z : _≡_ {A = ℕ} 0 1 = cc in
           omega arith
 
-      told : Refused (faultAt (x .number) (x .place)) ≡ setupOf (floorIn l w u)
+      told : Refused (rowAt (x .number) (x .place)) ≡ setupOf (floorIn l w u)
       told = unfold setupOf in rw (t .none, le-ltb (triangleCount (floorIn l w u)) (triangleCount (floorIn l w u)) (omega arith), ← answered l w u (floorIn l w u) o t g d, e)
 
   pub still-averaged : c ≡ check.Sound → Averaged l (floorIn l w₂ u) w₂ u

@@ -29,7 +29,7 @@ use Rattle.pass_layout.specs.Layout.{Ordered}
 use Rattle.pass_layout.specs.Matrices.{massAt}
 use Rattle.pass_layout.specs.Work.{floorIn}
 use Rattle.pass_layout.proofs.Regions.{floor-stays}
-use Rattle.pass_refusal.specs.Refusal.{between}
+use Rattle.refusals.specs.Refusal.{between}
 use Rattle.pass_setup.specs.declared.Setup.{Setup}
 use Rattle.pass_setup.specs.declared.Setup.the-variants.{Edges, Refused}
 use Rattle.pass_setup.specs.Setup.{degenerateOf, edgesOf, lowersOf, uppersOf, pointsIn, transportsOf, meansOf, afterTransports, setupOf}

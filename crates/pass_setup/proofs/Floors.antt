@@ -13,13 +13,14 @@ use lib.Ieee.{nan}
 use Rattle.mesh.specs.Mesh.{Tri, tri, Good, All}
 use Rattle.pass_setup.proofs.Keyed.{Keyed, cuts-keyed}
 use Rattle.linear_cells.proofs.Loops.{length-tab, getD-tab}
-use Rattle.edges.specs.Table.{lower, upper}
+use Rattle.edges.specs.Sides.{lower, upper}
 use Rattle.edges.proofs.Split.{length-map}
 use Rattle.floor.specs.declared.Check.{Check}
 use Rattle.floor.specs.declared.Check.the-variants as check
 use Rattle.floor.specs.Floor.{Floor, pointCount, triangleCount, valueAt, triangleAt}
 use Rattle.floor.proofs.Lowest.{lowest-holds}
-use Rattle.pass_geometries.specs.Geometries.{geometryOn, isDegenerate, cornersOf, areaOf, firstDegenerate, Cornered}
+use Rattle.pass_geometries.specs.Geometries.{geometryOn, isDegenerate, cornersOf, areaOf, firstDegenerate}
+use Rattle.pass_geometries.specs.Work.{Cornered}
 use Rattle.pass_geometries.proofs.Steps.{kept-corners}
 use Rattle.pass_geometries.proofs.Good.{sound-before, first-most, degenerate-at, good-at, good-swapped}
 use Rattle.pass_transports.specs.declared.Answer.{Answer}
@@ -27,10 +28,10 @@ use Rattle.pass_transports.specs.declared.Answer.the-variants as answer
 use Rattle.pass_transports.specs.Transports as transports
 use Rattle.pass_transports.proofs.Lists.{length-coefficients}
 use Rattle.mesh.specs.Claim.{InRange}
-use Rattle.pass_refusal.specs.Refusal.{faultAt}
+use Rattle.refusals.specs.Refusal.{rowAt}
 use Rattle.pass_setup.specs.declared.Setup.{Setup}
 use Rattle.pass_setup.specs.declared.Setup.the-variants.{Edges, Refused}
-use Rattle.pass_setup.specs.Setup.{geometryAt, degenerateOf, woundOf, areasOf, meansOf, gradientsX, gradientsY, edgesOf, lowersOf, uppersOf, pointsIn, transportsOf, triangleFault, afterTransports, afterMeans, setupOf}
+use Rattle.pass_setup.specs.Setup.{geometryAt, degenerateOf, woundOf, areasOf, meansOf, gradientsX, gradientsY, edgesOf, lowersOf, uppersOf, pointsIn, transportsOf, triangleRefusal, afterTransports, afterMeans, setupOf}
 
 -- ---- what holds of all of a list, place by place
 
@@ -104,10 +105,10 @@ module _ (f : Floor) where
 
   -- ---- row 19: the lowest degenerate triangle's number and place
 
-  pub fault-19 : degenerateOf f < triangleCount f → triangleFault (geometryAt f (degenerateOf f)) ≡ faultAt 19 (degenerateOf f)
+  pub fault-19 : degenerateOf f < triangleCount f → triangleRefusal (geometryAt f (degenerateOf f)) ≡ rowAt 19 (degenerateOf f)
   unfolding degenerateOf firstDegenerate geometryAt
   fault-19 h =
-      ap triangleFault
+      ap triangleRefusal
       (degenerate-at (valueAt (f .xs)) (valueAt (f .ys)) (triangleAt (f .triangles) (degenerateOf f)) (degenerateOf f)
       (lowest-holds (λ i. isDegenerate (geometryOn (valueAt (f .xs)) (valueAt (f .ys)) (triangleAt (f .triangles) i) i)) (triangleCount f) h))
 
@@ -154,7 +155,7 @@ module _ (f : Floor) {m : ℕ} (h : setupOf f ≡ Edges m) where
       most = unfold degenerateOf in first-most (valueAt (f .xs)) (valueAt (f .ys)) (triangleAt (f .triangles)) (triangleCount f)
 
       go : (b : Bool) → ltb (degenerateOf f) (triangleCount f) ≡ b
-          → cond b (Refused (triangleFault (geometryAt f (degenerateOf f)))) (afterMeans (meansOf f) (afterTransports (length (edgesOf f)) (transports.transportsAnswer (pointsIn f) (lowersOf f) (uppersOf f)))) ≡ Edges m
+          → cond b (Refused (triangleRefusal (geometryAt f (degenerateOf f)))) (afterMeans (meansOf f) (afterTransports (length (edgesOf f)) (transports.transportsAnswer (pointsIn f) (lowersOf f) (uppersOf f)))) ≡ Edges m
           → (degenerateOf f ≡ triangleCount f) × (afterMeans (meansOf f) (afterTransports (length (edgesOf f)) (transports.transportsAnswer (pointsIn f) (lowersOf f) (uppersOf f))) ≡ Edges m)
       go true e z = let y : _≡_ {A = ℕ} 0 1 = cc in absurd (omega arith)
       go false e z = (omega (arith, ltb-false (degenerateOf f) (triangleCount f) e, most), z)

@@ -12,8 +12,9 @@ use Rattle.mesh.specs.Mesh.{Side, side, Tri, tri, sidesAfter, All}
 use Rattle.pass_setup.proofs.Keyed.{Keyed}
 use Rattle.linear_cells.specs.Region.{region}
 use Rattle.linear_cells.proofs.Regions.{length-region, getD-region}
-use Rattle.runs.proofs.Runs.{sets-behind}
-use Rattle.edges.specs.Table.{loOf, hiOf, sidesIn, lower, upper, split, NumbersOf}
+use Rattle.slices.proofs.Runs.{sets-behind}
+use Rattle.edges.specs.Table.{loOf, hiOf, sidesIn, split, NumbersOf}
+use Rattle.edges.specs.Sides.{lower, upper}
 use Rattle.edges.specs.Numbering.{triFrom, trisFrom, NumberedTo}
 use Rattle.edges.specs.Numbering as numbering
 use Rattle.edges.proofs.Tree.{length-pairs}

@@ -16,10 +16,11 @@ use Rattle.float.proofs.Above.{above-test, above-fails, zero-not-positive, pass
 use Rattle.plane.specs.declared.Pair.{Pair}
 use Rattle.mesh.specs.Mesh.{Tri, tri, Side, side, Good, All}
 use Rattle.complex.specs.declared.Complex.{Complex}
-use Rattle.edges.specs.Table.{lower, upper}
+use Rattle.edges.specs.Sides.{lower, upper}
 use Rattle.floor.specs.declared.Check.{Check}
 use Rattle.floor.specs.declared.Check.the-variants as check
-use Rattle.floor.specs.Checks.{lowest, rowAt}
+use Rattle.refusals.specs.Refusal.{rowAt, between}
+use Rattle.floor.specs.Checks.{lowest}
 use Rattle.floor.specs.Floor.{Floor, pointCount, triangleCount, valueAt, triangleAt}
 use Rattle.floor.proofs.Lowest.{lowest-most, lowest-before, lowest-clear, lowest-holds, lowest-is}
 use Rattle.geometry.specs.declared.Geometry.{Geometry}
@@ -27,7 +28,8 @@ use Rattle.geometry.specs.declared.Geometry.the-variants as geometries
 use Rattle.geometry.specs.declared.TriangleGeometry.{TriangleGeometry}
 use Rattle.geometry.specs.declared.Transport.the-variants.{Coefficient, MeanSize}
 use Rattle.geometry.specs.Edge.{transportOf}
-use Rattle.geometry.specs.Triangle.{orientation, longest, areaOf, SMALLEST-AREA, degenerate, placed, geometry, number}
+use Rattle.plane.specs.Pair.{orientation}
+use Rattle.geometry.specs.Triangle.{longest, areaOf, SMALLEST-AREA, degenerate, placed, geometry, number}
 use Rattle.geometry.proofs.Sound.{positive-area}
 use Rattle.pass_geometries.specs.Geometries.{geometryOn, isDegenerate, firstDegenerate}
 use Rattle.pass_geometries.specs.Geometries as geo
@@ -37,8 +39,7 @@ use Rattle.pass_gradients.proofs.Weights.{Misses, so-sum, none-sum}
 use Rattle.pass_transports.specs.declared.Answer.{Answer}
 use Rattle.pass_transports.specs.declared.Answer.the-variants as answer
 use Rattle.pass_transports.specs.Transports as transports
-use Rattle.pass_refusal.specs.declared.Fault.{Fault}
-use Rattle.pass_refusal.specs.Refusal.{faultAt, between}
+use Rattle.refusals.specs.declared.Refusal.{Refusal}
 use Rattle.pass_setup.specs.declared.Setup.{Setup}
 use Rattle.pass_setup.specs.declared.Setup.the-variants.{Edges, Refused}
 use Rattle.pass_setup.specs.Setup.{geometryAt, degenerateOf, woundOf, areasOf, sumX, sumY, weightOf, meansOf, edgesOf, lowersOf, uppersOf, pointsIn, afterTransports, afterMeans, setupOf}
@@ -358,12 +359,12 @@ module _ (f : Floor) where
   unfolding setupOf
   past-19 e = rw (e, le-ltb (triangleCount f) (triangleCount f) (omega arith))
 
-  at-19 : (t : ℕ) → degenerateOf f ≡ t → t < triangleCount f → setupOf f ≡ Refused (faultAt 19 t)
+  at-19 : (t : ℕ) → degenerateOf f ≡ t → t < triangleCount f → setupOf f ≡ Refused (rowAt 19 t)
   unfolding setupOf
   at-19 t e l = let k : degenerateOf f < triangleCount f = rw e l in rw (fault-19 f k, e, lt-ltb t (triangleCount f) l)
 
   module _ (ok : SoundFloor f) where
-    to-setup : (x : Fault) → RefusedFloor f x → setupOf f ≡ Refused x
+    to-setup : (x : Refusal) → RefusedFloor f x → setupOf f ≡ Refused x
     to-setup x (by-19 t l r n e) = at-19 t (is-19 t l r n) l ∙ ap Refused (sym e)
     to-setup x (by-20 n v l r b e) =
         let c = clear-19 n in
@@ -382,10 +383,10 @@ module _ (f : Floor) where
         past-19 c ∙ ap byMeans (means-clear c (a .no-20-or-21)) ∙ ap (afterTransports (length (edgesOf f))) (answer-clear c ok (a .no-22))
 
     -- one of the two
-    pub decided : ((x : Fault) × RefusedFloor f x) ⊎ AcceptedFloor f
+    pub decided : ((x : Refusal) × RefusedFloor f x) ⊎ AcceptedFloor f
     decided = triangles (ltb (degenerateOf f) (triangleCount f)) refl
       where
-        edges : (c : degenerateOf f ≡ triangleCount f) → NoPointBefore f (pointCount f) → (b : Bool) → ltb (firstEdge c ok) (length (edgesOf f)) ≡ b → ((x : Fault) × RefusedFloor f x) ⊎ AcceptedFloor f
+        edges : (c : degenerateOf f ≡ triangleCount f) → NoPointBefore f (pointCount f) → (b : Bool) → ltb (firstEdge c ok) (length (edgesOf f)) ≡ b → ((x : Refusal) × RefusedFloor f x) ⊎ AcceptedFloor f
         edges c n true e =
             let l = ltb-true (firstEdge c ok) (length (edgesOf f)) e in
             inl (between (lowerOf f (firstEdge c ok)) (upperOf f (firstEdge c ok)), by-22 (no-19 c) n (firstEdge c ok) l (holds-22 c ok l) (before-22 c ok) refl)
@@ -394,12 +395,12 @@ module _ (f : Floor) where
             inr (record { no-19 = no-19 c; no-20-or-21 = n; no-22 = λ i h. before-22 c ok i (omega arith) })
 
         point : (c : degenerateOf f ≡ triangleCount f) → firstRefused (sumX f) (sumY f) (weightOf f) (pointCount f) < pointCount f → (a : Bool) → notPositive (weightOf f (firstRefused (sumX f) (sumY f) (weightOf f) (pointCount f))) ≡ a
-            → Row20 f (firstRefused (sumX f) (sumY f) (weightOf f) (pointCount f)) ⊎ Row21 f (firstRefused (sumX f) (sumY f) (weightOf f) (pointCount f)) → ((x : Fault) × RefusedFloor f x) ⊎ AcceptedFloor f
-        point c l true p r = inl (faultAt 20 _, by-20 (no-19 c) _ l (tests-20 c _ .0 p) (before-point c) refl)
+            → Row20 f (firstRefused (sumX f) (sumY f) (weightOf f) (pointCount f)) ⊎ Row21 f (firstRefused (sumX f) (sumY f) (weightOf f) (pointCount f)) → ((x : Refusal) × RefusedFloor f x) ⊎ AcceptedFloor f
+        point c l true p r = inl (rowAt 20 _, by-20 (no-19 c) _ l (tests-20 c _ .0 p) (before-point c) refl)
         point c l false p (inl r) = absurd (passed (tests-20 c _) p r)
-        point c l false p (inr r) = inl (faultAt 21 _, by-21 (no-19 c) _ l (passed (tests-20 c _) p) r (before-point c) refl)
+        point c l false p (inr r) = inl (rowAt 21 _, by-21 (no-19 c) _ l (passed (tests-20 c _) p) r (before-point c) refl)
 
-        points : (c : degenerateOf f ≡ triangleCount f) → (b : Bool) → ltb (firstRefused (sumX f) (sumY f) (weightOf f) (pointCount f)) (pointCount f) ≡ b → ((x : Fault) × RefusedFloor f x) ⊎ AcceptedFloor f
+        points : (c : degenerateOf f ≡ triangleCount f) → (b : Bool) → ltb (firstRefused (sumX f) (sumY f) (weightOf f) (pointCount f)) (pointCount f) ≡ b → ((x : Refusal) × RefusedFloor f x) ⊎ AcceptedFloor f
         points c true e =
             let l = ltb-true (firstRefused (sumX f) (sumY f) (weightOf f) (pointCount f)) (pointCount f) e in
             point c l (notPositive (weightOf f (firstRefused (sumX f) (sumY f) (weightOf f) (pointCount f)))) refl (holds-point c l)
@@ -407,18 +408,18 @@ module _ (f : Floor) where
             let l : firstRefused (sumX f) (sumY f) (weightOf f) (pointCount f) ≡ pointCount f = omega (arith, ltb-false (firstRefused (sumX f) (sumY f) (weightOf f) (pointCount f)) (pointCount f) e, most-point c) in
             edges c (subst (NoPointBefore f) l (before-point c)) (ltb (firstEdge c ok) (length (edgesOf f))) refl
 
-        triangles : (b : Bool) → ltb (degenerateOf f) (triangleCount f) ≡ b → ((x : Fault) × RefusedFloor f x) ⊎ AcceptedFloor f
-        triangles true e = let l = ltb-true (degenerateOf f) (triangleCount f) e in inl (faultAt 19 (degenerateOf f), by-19 (degenerateOf f) l (holds-19 l) before-19 refl)
+        triangles : (b : Bool) → ltb (degenerateOf f) (triangleCount f) ≡ b → ((x : Refusal) × RefusedFloor f x) ⊎ AcceptedFloor f
+        triangles true e = let l = ltb-true (degenerateOf f) (triangleCount f) e in inl (rowAt 19 (degenerateOf f), by-19 (degenerateOf f) l (holds-19 l) before-19 refl)
         triangles false e = let c : degenerateOf f ≡ triangleCount f = omega (arith, ltb-false (degenerateOf f) (triangleCount f) e, most-19) in points c (ltb (firstRefused (sumX f) (sumY f) (weightOf f) (pointCount f)) (pointCount f)) refl
 
     -- "given exactly if"
-    pub setup-rows : (x : Fault) → (setupOf f ≡ Refused x) ↔ RefusedFloor f x
+    pub setup-rows : (x : Refusal) → (setupOf f ≡ Refused x) ↔ RefusedFloor f x
     setup-rows x = (λ h. from decided h, to-setup x)
       where
-        from : ((y : Fault) × RefusedFloor f y) ⊎ AcceptedFloor f → setupOf f ≡ Refused x → RefusedFloor f x
+        from : ((y : Refusal) × RefusedFloor f y) ⊎ AcceptedFloor f → setupOf f ≡ Refused x → RefusedFloor f x
         from (inl y) h = let z : Refused (y .0) ≡ Refused x = sym (to-setup (y .0) (y .1)) ∙ h in subst (RefusedFloor f) (same z) (y .1)
           where
-            same : {x y : Fault} → Refused x ≡ Refused y → x ≡ y
+            same : {x y : Refusal} → Refused x ≡ Refused y → x ≡ y
             same e = cc
         from (inr a) h = let z : Edges (length (edgesOf f)) ≡ Refused x = sym (accepted-setup a) ∙ h in absurd (differ z)
           where
@@ -428,7 +429,7 @@ module _ (f : Floor) where
     pub setup-accepted : (m : ℕ) → setupOf f ≡ Edges m → AcceptedFloor f
     setup-accepted m h = from decided
       where
-        from : ((y : Fault) × RefusedFloor f y) ⊎ AcceptedFloor f → AcceptedFloor f
+        from : ((y : Refusal) × RefusedFloor f y) ⊎ AcceptedFloor f → AcceptedFloor f
         from (inl y) = let e : Refused (y .0) ≡ Edges m = sym (to-setup (y .0) (y .1)) ∙ h in absurd (differ e)
           where
             differ : Refused (y .0) ≡ Edges m → ⊥

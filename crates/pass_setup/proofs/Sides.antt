@@ -14,14 +14,14 @@ use lib.Ieee.{Float}
 use lib.Ieee.Positive.{positive}
 use lib.Ieee.Bits.{is-true}
 use Rattle.float.specs.Double.{HALF, lit, isFinite, _⊕_, _⊗_}
-use Rattle.float.proofs.Within.{Within}
+use Rattle.float.proofs.Within.{Within, and-both}
 use Rattle.float.proofs.Above.{above-finite}
 use Rattle.float.proofs.Far.{middle-finite}
 use Rattle.mesh.specs.Mesh.{Tri, tri, Side, side, key, indexIn, marked, cuts, mid, at, lies, one, count, Good, All}
 use Rattle.mesh.proofs.Cuts.{index-only, key-rising}
 use Rattle.mesh.proofs.Theorem.{refines}
 use Rattle.mesh.specs.Claim.{InRange}
-use Rattle.edges.specs.Table.{lower, upper}
+use Rattle.edges.specs.Sides.{lower, upper}
 use Rattle.floor.specs.Floor.{Floor, pointCount, triangleCount, valueAt, triangleAt}
 use Rattle.geometry.proofs.Sound.{Spot, small-corners}
 use Rattle.pass_geometries.specs.Geometries.{geometryOn, isDegenerate}
@@ -132,10 +132,6 @@ module _ (f : Floor) (ok : SoundFloor f) (a : AcceptedFloor f) where
           pick false true s e g j k X Y Z = rw (eqb-true v y g) Y
           pick false false true e g j k X Y Z = rw (eqb-true v z j) Z
           pick false false false e g j k X Y Z = absurd (subst T (sym k) tt)
-
-  and-both : (p q : Bool) → p && q ≡ true → (p ≡ true) × (q ≡ true)
-  and-both true q h = (refl, h)
-  and-both false q h = absurd (subst T (sym h) tt)
 
   -- the middle of a side is finite
   pub side-middle : (u v i : ℕ) → i < triangleCount f → lies u v (triangleAt (f .triangles) i) ≡ true

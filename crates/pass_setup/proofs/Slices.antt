@@ -12,7 +12,7 @@ use Rattle.edges.specs.Numbering.{triFrom, Below}
 use Rattle.edges.proofs.Numbering.{length-tris, tri-at}
 use Rattle.floor.specs.declared.Check.the-variants.{Sound}
 use Rattle.floor.specs.Floor.{Floor, pointCount, triangleCount, valueAt, triangleAt}
-use Rattle.pass_geometries.specs.Geometries.{coordsFrom, Kept}
+use Rattle.pass_geometries.specs.Work.{coordsFrom, Kept}
 use Rattle.pass_geometries.proofs.Steps.{corners-below}
 use Rattle.pass_gradients.proofs.Means.{sound-all}
 use Rattle.mesh.specs.Claim.{InRange}
@@ -20,7 +20,7 @@ use Rattle.pass_layout.specs.declared.Layout.{Layout}
 use Rattle.pass_layout.specs.Layout.{Ordered}
 use Rattle.pass_layout.specs.Work.{floorIn}
 use Rattle.pass_layout.proofs.Regions.{floor-stays}
-use Rattle.pass_refusal.specs.declared.Fault.{Fault}
+use Rattle.refusals.specs.declared.Refusal.{Refusal}
 use Rattle.pass_setup.specs.declared.Setup.{Setup}
 use Rattle.pass_setup.specs.declared.Setup.the-variants.{Refused}
 use Rattle.pass_setup.specs.Setup.{degenerateOf, sumX, sumY, weightOf, meansOf, edgesOf, setupOf}
@@ -88,7 +88,7 @@ pub record Stays (l : Layout) (w : List Float) (u : List ℕ) (w₁ : List Float
 pub ordered-now : {l : Layout} {w w₁ : List Float} {u u₁ : List ℕ} → Stays l w u w₁ u₁ → Ordered l (length w) (length u) → Ordered l (length w₁) (length u₁)
 ordered-now k o = rw (k .all-reals, k .all-words) o
 
-pub refused-by : {l : Layout} {w w₁ : List Float} {u u₁ : List ℕ} (x : Fault) {r : Setup} → Stays l w u w₁ u₁ → r ≡ Refused x → Refused x ≡ setupOf (floorIn l w u)
+pub refused-by : {l : Layout} {w w₁ : List Float} {u u₁ : List ℕ} (x : Refusal) {r : Setup} → Stays l w u w₁ u₁ → r ≡ Refused x → Refused x ≡ setupOf (floorIn l w u)
     → (degenerateOf (floorIn l w u) < l .triangles → Kept (geometriesAt l) w u w₁ u₁ (degenerateOf (floorIn l w u)))
     → (l .triangles ≤ degenerateOf (floorIn l w u) → Wound l (floorIn l w u) w₁ u₁) → (l .triangles ≤ degenerateOf (floorIn l w u) → Summed l (floorIn l w u) w₁)
     → (refusedPoint (floorIn l w u) < l .points → Unjoined l w u w₁ u₁)

@@ -10,11 +10,12 @@ use lib.ListN.{length, getD}
 use lib.Ieee.{Float, nan}
 use Rattle.linear_cells.specs.Region.{tab, region}
 use Rattle.linear_cells.proofs.Loops.{tab-ext}
-use Rattle.runs.proofs.Runs.{sets-behind}
+use Rattle.slices.proofs.Runs.{sets-behind}
 use Rattle.edges.specs.Numbering.{triFrom, Below}
 use Rattle.floor.specs.Floor.{Floor, triangleCount, valueAt, triangleAt}
-use Rattle.pass_geometries.specs.Geometries.{geometryIn, isDegenerate, areaOn, cornersOf, areaOf, firstDegenerate, areasUpTo, woundUpTo, coordsFrom, Cornered}
-use Rattle.pass_geometries.specs.Geometries as geometries
+use Rattle.pass_geometries.specs.Geometries.{isDegenerate, cornersOf, areaOf, firstDegenerate}
+use Rattle.pass_geometries.specs.Work.{geometryIn, areaOn, areasUpTo, woundUpTo, coordsFrom, Cornered}
+use Rattle.pass_geometries.specs.Work as geometries
 use Rattle.pass_geometries.proofs.Steps.{corners-below, kept-lengths, one-area}
 use Rattle.pass_geometries.proofs.Joined.{joined-length}
 use Rattle.pass_geometries.proofs.Good.{sound-before, first-most, wound-length}
@@ -23,7 +24,7 @@ use Rattle.pass_layout.specs.declared.Layout.{Layout}
 use Rattle.pass_layout.specs.Layout.{Ordered}
 use Rattle.pass_layout.specs.Work.{floorIn}
 use Rattle.pass_layout.proofs.Regions.{floor-stays}
-use Rattle.pass_refusal.specs.Refusal.{faultAt}
+use Rattle.refusals.specs.Refusal.{rowAt}
 use Rattle.pass_setup.specs.declared.Setup.{Setup}
 use Rattle.pass_setup.specs.declared.Setup.the-variants.{Refused}
 use Rattle.pass_setup.specs.Setup.{geometryAt, degenerateOf, areasOf, setupOf}
@@ -88,15 +89,15 @@ module _ (l : Layout) (w : List Float) (u : List ℕ) (o : Ordered l (length w) 
     pub unjoined : Unjoined l w u w₁ u₁
     unjoined = record { reals-behind = λ j h. reals-after j (omega arith); words-behind = words-after }
 
-    pub row-19 : r < l .triangles → {s : Setup} → s ≡ Refused (faultAt 19 r) → SetUp l w u w₁ u₁ s
+    pub row-19 : r < l .triangles → {s : Setup} → s ≡ Refused (rowAt 19 r) → SetUp l w u w₁ u₁ s
     row-19 h e =
-        refused-by (faultAt 19 r) stays e told (λ g. subst (geometries.Kept (geometriesAt l) w u w₁ u₁) first k) (λ g. absurd (omega (arith, first)))
+        refused-by (rowAt 19 r) stays e told (λ g. subst (geometries.Kept (geometriesAt l) w u w₁ u₁) first k) (λ g. absurd (omega (arith, first)))
         (λ g. absurd (omega (arith, first))) (λ g. unjoined) (λ g p. absurd (omega (arith, first)))
       where
         below-all : degenerateOf (floorIn l w u) < triangleCount (floorIn l w u)
         below-all = rw (← first, triangles-of l w u (floorIn l w u) refl) h
 
-        told : Refused (faultAt 19 r) ≡ setupOf (floorIn l w u)
+        told : Refused (rowAt 19 r) ≡ setupOf (floorIn l w u)
         told = unfold setupOf in rw (fault-19 (floorIn l w u) below-all, ← first, triangles-of l w u (floorIn l w u) refl, lt-ltb r (l .triangles) h)
 
     all-areas : l .triangles ≤ r → region nan w₁ (l .areas) (l .triangles) ≡ areasOf (floorIn l w u)

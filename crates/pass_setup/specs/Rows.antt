@@ -12,9 +12,10 @@ use Rattle.plane.specs.declared.Pair.{Pair}
 use Rattle.mesh.specs.Mesh.{Tri, tri, All}
 use Rattle.mesh.specs.Claim.{InRange}
 use Rattle.floor.specs.Floor.{Floor, pointCount, triangleCount, valueAt, triangleAt}
-use Rattle.geometry.specs.Triangle.{orientation, longest, areaOf, SMALLEST-AREA, at}
-use Rattle.pass_refusal.specs.declared.Fault.{Fault}
-use Rattle.pass_refusal.specs.Refusal.{faultAt, between}
+use Rattle.plane.specs.Pair.{orientation}
+use Rattle.geometry.specs.Triangle.{longest, areaOf, SMALLEST-AREA, at}
+use Rattle.refusals.specs.declared.Refusal.{Refusal}
+use Rattle.refusals.specs.Refusal.{rowAt, between}
 use Rattle.pass_setup.specs.Setup.{sumX, sumY, weightOf, edgesOf, lowersOf, uppersOf}
 
 -- ---- a floor as rows 3 to 8 leave it
@@ -96,10 +97,10 @@ abbrev pub NoPointBefore : Floor → ℕ → Type 0
 NoPointBefore f v = NoneBefore (Row20 f) v × NoneBefore (Row21 f) v
 
 -- why a floor is refused before its matrices are made
-pub data RefusedFloor (f : Floor) (x : Fault) : Type 0 where
-  by-19 : (t : ℕ) → t < triangleCount f → Row19 f t → NoneBefore (Row19 f) t → x ≡ faultAt 19 t → RefusedFloor f x
-  by-20 : NoTriangle f → (v : ℕ) → v < pointCount f → Row20 f v → NoPointBefore f v → x ≡ faultAt 20 v → RefusedFloor f x
-  by-21 : NoTriangle f → (v : ℕ) → v < pointCount f → ¬ Row20 f v → Row21 f v → NoPointBefore f v → x ≡ faultAt 21 v → RefusedFloor f x
+pub data RefusedFloor (f : Floor) (x : Refusal) : Type 0 where
+  by-19 : (t : ℕ) → t < triangleCount f → Row19 f t → NoneBefore (Row19 f) t → x ≡ rowAt 19 t → RefusedFloor f x
+  by-20 : NoTriangle f → (v : ℕ) → v < pointCount f → Row20 f v → NoPointBefore f v → x ≡ rowAt 20 v → RefusedFloor f x
+  by-21 : NoTriangle f → (v : ℕ) → v < pointCount f → ¬ Row20 f v → Row21 f v → NoPointBefore f v → x ≡ rowAt 21 v → RefusedFloor f x
   by-22 : NoTriangle f → NoPointBefore f (pointCount f) → (e : ℕ) → e < length (edgesOf f) → Row22 f e → NoneBefore (Row22 f) e → x ≡ between (lowerOf f e) (upperOf f e) → RefusedFloor f x
 
 -- none of these rows holds

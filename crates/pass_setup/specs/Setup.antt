@@ -10,7 +10,7 @@ use Rattle.float.specs.Double.{_⊘_}
 use Rattle.complex.specs.declared.Complex.{Complex}
 use Rattle.linear_cells.specs.Region.{tab}
 use Rattle.mesh.specs.Mesh.{Tri, Side, sidesAfter}
-use Rattle.edges.specs.Table.{lower, upper}
+use Rattle.edges.specs.Sides.{lower, upper}
 use Rattle.floor.specs.declared.Check.{Check}
 use Rattle.floor.specs.declared.Check.the-variants as check
 use Rattle.floor.specs.Floor.{Floor, pointCount, triangleCount, valueAt, triangleAt}
@@ -21,8 +21,8 @@ use Rattle.pass_gradients.specs.Gradients.{sumTo, weighedX, weighedY, checkMean
 use Rattle.pass_transports.specs.declared.Answer.{Answer}
 use Rattle.pass_transports.specs.declared.Answer.the-variants as answer
 use Rattle.pass_transports.specs.Transports as transports
-use Rattle.pass_refusal.specs.declared.Fault.{Fault}
-use Rattle.pass_refusal.specs.Refusal.{faultAt}
+use Rattle.refusals.specs.declared.Refusal.{Refusal}
+use Rattle.refusals.specs.Refusal.{rowAt}
 use Rattle.pass_setup.specs.declared.Setup.{Setup}
 use Rattle.pass_setup.specs.declared.Setup.the-variants.{Edges, Refused}
 
@@ -87,22 +87,22 @@ transportsOf f = transports.coefficientsOf (pointsIn f) (lowersOf f) (uppersOf f
 -- ---- the answer: how many edges there are, or rows 19 to 22 in their order
 
 -- row 19's number and place of a degenerate triangle, and row 22's of an edge
-abbrev pub triangleFault : Geometry → Fault
-triangleFault g = faultAt (number g) (getD (place g) 0 0)
+abbrev pub triangleRefusal : Geometry → Refusal
+triangleRefusal g = rowAt (number g) (getD (place g) 0 0)
 
-abbrev pub edgeFault : Answer → Fault
-edgeFault a = record { number = transports.number a; place = getD (transports.place a) 0 0; other = getD (transports.place a) 1 0; reason = 0 }
+abbrev pub edgeRefusal : Answer → Refusal
+edgeRefusal a = record { number = transports.number a; place = getD (transports.place a) 0 0; other = getD (transports.place a) 1 0; pass = 0; reason = 0 }
 
 abbrev pub afterTransports : ℕ → Answer → Setup
 afterTransports m answer.Done = Edges m
-afterTransports m (answer.MeanSize a b) = Refused (edgeFault (answer.MeanSize a b))
+afterTransports m (answer.MeanSize a b) = Refused (edgeRefusal (answer.MeanSize a b))
 
 abbrev pub afterMeans : Check → Setup → Setup
 afterMeans check.Sound next = next
-afterMeans (check.Refused x) next = Refused (faultAt (x .number) (x .place))
+afterMeans (check.Refused x) next = Refused (rowAt (x .number) (x .place))
 
 unfoldable pub setupOf : Floor → Setup
 setupOf f =
-    cond (ltb (degenerateOf f) (triangleCount f)) (Refused (triangleFault (geometryAt f (degenerateOf f))))
+    cond (ltb (degenerateOf f) (triangleCount f)) (Refused (triangleRefusal (geometryAt f (degenerateOf f))))
     (afterMeans (meansOf f)
     (afterTransports (length (edgesOf f)) (transports.transportsAnswer (pointsIn f) (lowersOf f) (uppersOf f))))

@@ -11,7 +11,7 @@ use Rattle.edges.specs.Numbering.{triFrom, Below}
 use Rattle.floor.specs.declared.Check.the-variants.{Sound}
 use Rattle.floor.specs.Floor.{Floor, pointCount, triangleCount, triangleAt}
 use Rattle.pass_geometries.specs.declared.GeometriesPlan.{GeometriesPlan}
-use Rattle.pass_geometries.specs.Geometries.{Kept}
+use Rattle.pass_geometries.specs.Work.{Kept}
 use Rattle.float.specs.Double.{_⊘_}
 use Rattle.pass_gradients.specs.declared.GradientsPlan.{GradientsPlan}
 use Rattle.pass_gradients.specs.Gradients.{firstRefused}

@@ -1,14 +1,15 @@
 // The first part of a pass: triangles put counter-clockwise and their areas, size gradients, numbered edges, transports. It refuses by rows 19 to 22.
-// specs/Setup.antt says what they are, and specs/Work.antt where they stand. Each function is the rest of the work once the stages before it are done.
+// specs/Setup.antt says what they are, and specs/Work.antt where they are. Each `set_up..` function does the stage that it is named for and all after it:
+// `set_up`, then `set_up_from_gradients`, `set_up_from_edges` and `set_up_transports`.
 use floor::Check;
 use pass_layout::Layout;
-use pass_refusal::Fault;
 use pass_transports::Answer;
+use refusals::Refusal;
 ghost use mathlib.Core.Path.{_≡_};
 ghost use Prim.Native.Nat.{_*_};
 ghost use lib.ListN.{length};
 ghost use Rattle.edges.specs.Numbering.{Below};
-ghost use Rattle.pass_refusal.specs.Refusal.{faultAt, between};
+ghost use Rattle.refusals.specs.Refusal.{rowAt, between};
 ghost use Rattle.pass_layout.specs.Layout.{Ordered};
 ghost use Rattle.pass_layout.specs.Work.{floorIn};
 ghost use Rattle.pass_setup.specs.Work.{Wound, Averaged, Joined, SetUp};
@@ -16,16 +17,17 @@ ghost use Rattle.pass_setup.specs.Work.{Wound, Averaged, Joined, SetUp};
 // How many edges the floor has; or a refusal.
 pub enum Setup {
     Edges(usize),
-    Refused(Fault),
+    Refused(Refusal),
 }
 
 fn refused(number: u64, place: u64) -> Setup
-    ensures { λ r. ⌜ r ≡ Setup.Refused (faultAt number place) ⌝ }
+    ensures { λ r. ⌜ r ≡ Setup.Refused (rowAt number place) ⌝ }
 {
-    Setup::Refused(Fault {
+    Setup::Refused(Refusal {
         number,
         place,
         other: 0,
+        pass: 0,
         reason: 0,
     })
 }
@@ -33,16 +35,17 @@ fn refused(number: u64, place: u64) -> Setup
 fn refused_between(a: usize, b: usize) -> Setup
     ensures { λ r. ⌜ r ≡ Setup.Refused (between a b) ⌝ }
 {
-    Setup::Refused(Fault {
+    Setup::Refused(Refusal {
         number: 22,
         place: a as u64,
         other: b as u64,
+        pass: 0,
         reason: 0,
     })
 }
 
-// The transports of the m edges, up to the first that row 22 refuses.
-fn take_transports(work: &mut [f64], words: &[u32], l: Layout, m: usize) -> Setup
+// The last stage: the transports of the m edges, up to the first that row 22 refuses.
+fn set_up_transports(work: &mut [f64], words: &[u32], l: Layout, m: usize) -> Setup
     requires { ⌜ Ordered l (length (now work)) (length (now words)) ⌝ }
     requires { ⌜ Joined l m (floorIn l (now work) (now words)) (now work) (now words) ⌝ }
     ensures { λ r. ⌜ SetUp l (now (work .entry)) (now (words .entry)) (now (work .exit)) (now (words .entry)) r ⌝ }
@@ -68,8 +71,8 @@ fn take_transports(work: &mut [f64], words: &[u32], l: Layout, m: usize) -> Setu
     refused_between(a, b)
 }
 
-// The edges, in the order first met, and with them the rest.
-fn number_edges(work: &mut [f64], words: &mut [u32], l: Layout) -> Setup
+// From the edges on: they are numbered in the order first met; then the transports.
+fn set_up_from_edges(work: &mut [f64], words: &mut [u32], l: Layout) -> Setup
     requires { ⌜ Ordered l (length (now work)) (length (now words)) ⌝ }
     requires { ⌜ Averaged l (floorIn l (now work) (now words)) (now work) (now words) ⌝ }
     ensures { λ r. ⌜ SetUp l (now (work .entry)) (now (words .entry)) (now (work .exit)) (now (words .exit)) r ⌝ }
@@ -88,11 +91,11 @@ fn number_edges(work: &mut [f64], words: &mut [u32], l: Layout) -> Setup
         sides: m,
     };
     edges::numbers::split_ends(words, t, l.from, l.to);
-    take_transports(work, words, l, m)
+    set_up_transports(work, words, l, m)
 }
 
-// The size gradients, up to the first point that row 20 or 21 refuses, and then the rest.
-fn take_gradients(work: &mut [f64], words: &mut [u32], l: Layout) -> Setup
+// From the size gradients on, up to the first point that row 20 or 21 refuses; then the edges and transports.
+fn set_up_from_gradients(work: &mut [f64], words: &mut [u32], l: Layout) -> Setup
     requires { ⌜ Ordered l (length (now work)) (length (now words)) ⌝ }
     requires { ⌜ Wound l (floorIn l (now work) (now words)) (now work) (now words) ⌝ }
     ensures { λ r. ⌜ SetUp l (now (work .entry)) (now (words .entry)) (now (work .exit)) (now (words .exit)) r ⌝ }
@@ -110,12 +113,12 @@ fn take_gradients(work: &mut [f64], words: &mut [u32], l: Layout) -> Setup
     pass_gradients::gather(work, words, p);
     let means = pass_gradients::divide(work, l.gradients, l.points);
     let Check::Refused(found) = means else {
-        return number_edges(work, words, l);
+        return set_up_from_edges(work, words, l);
     };
     refused(found.number, found.place)
 }
 
-// The corners counter-clockwise and the areas, up to the first triangle that row 19 refuses, and then the rest.
+// All of set-up: the corners counter-clockwise and the areas, up to the first triangle that row 19 refuses; then the gradients, edges and transports.
 pub fn set_up(work: &mut [f64], words: &mut [u32], l: Layout) -> Setup
     requires { ⌜ Ordered l (length (now work)) (length (now words)) ⌝ }
     requires { ⌜ Below (l .points) (l .given) (now words) (3 * l .triangles) ⌝ }
@@ -134,5 +137,5 @@ pub fn set_up(work: &mut [f64], words: &mut [u32], l: Layout) -> Setup
     if first < l.triangles {
         return refused(19, first as u64);
     }
-    take_gradients(work, words, l)
+    set_up_from_gradients(work, words, l)
 }

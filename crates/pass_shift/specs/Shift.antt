@@ -1,23 +1,13 @@
 -- The traces of both matrices and the shift of the energy in the Rust's `solve_mesh`, lines 1420 to 1433. Definitions only.
-use Prim.Native.Nat.{ℕ, _+_, _≤_}
-use mathlib.Core.Bool.{cond}
 use mathlib.Core.List.{List}
 use lib.Ieee.{Float}
-use Rattle.float.specs.Double.{lit, notPositive, _⊗_, _⊘_}
-use Rattle.linear_hermitian.specs.declared.Hermitian.{Hermitian}
+use Rattle.float.specs.Double.{lit, _⊗_, _⊘_}
 use Rattle.linear_hermitian.specs.Hermitian.{Matrix, traceOf, shiftedBy}
-use Rattle.pass_refusal.specs.declared.Stage.{Stage}
-use Rattle.pass_refusal.specs.declared.Stage.the-variants.{Done, Refused}
-use Rattle.pass_refusal.specs.Refusal.{gaveUp}
 use Rattle.pass_shift.specs.declared.Traces.{Traces}
 
 -- of the diagonals, before any shift
 unfoldable pub tracesOf : List Float → List Float → Traces
 tracesOf mass energy = record { energy = traceOf energy; mass = traceOf mass }
-
--- reason 1, and then reason 2
-unfoldable pub tracesStage : Traces → Stage
-tracesStage t = cond (notPositive (t .energy)) (Refused (gaveUp 1 0)) (cond (notPositive (t .mass)) (Refused (gaveUp 2 0)) Done)
 
 -- ENERGY_SHIFT, 1e-8
 abbrev pub ENERGY-SHIFT : Float
@@ -29,9 +19,3 @@ shiftOf t = ENERGY-SHIFT ⊗ t .energy ⊘ t .mass
 
 unfoldable pub shiftedEnergy : Matrix → Matrix → Matrix
 shiftedEnergy mass energy = shiftedBy (shiftOf (tracesOf (mass .diagonal) (energy .diagonal))) mass energy
-
--- ---- lengths and offsets
-
-pub record TraceRoom (len : ℕ) (mass energy : Hermitian) : Type 0 where
-  pub mass-in : mass .diagonal + mass .size ≤ len
-  pub energy-in : energy .diagonal + energy .size ≤ len

@@ -1,12 +1,13 @@
 // The traces of the mass and the energy matrix, refusal 24 by reasons 1 and 2, and the shift of the energy in place.
 use linear_hermitian::Hermitian;
-use pass_refusal::Stage;
+use refusals::Stage;
 ghost use mathlib.Core.Path.{_≡_};
 ghost use lib.ListN.{length};
 ghost use lib.Ieee.{nan};
 ghost use Rattle.linear_cells.specs.Region.{region};
 ghost use Rattle.linear_hermitian.specs.Work.{ShiftRoom, shiftMatrix};
-ghost use Rattle.pass_shift.specs.Shift.{tracesOf, tracesStage, shiftOf, TraceRoom};
+ghost use Rattle.pass_shift.specs.Shift.{tracesOf, shiftOf};
+ghost use Rattle.pass_shift.specs.Work.{tracesStage, TraceRoom};
 
 const ENERGY_SHIFT: f64 = 1e-8;
 
@@ -30,10 +31,10 @@ pub fn check(t: Traces) -> Stage
     ensures { λ r. ⌜ r ≡ tracesStage t ⌝ }
 {
     if float::not_positive(t.energy) {
-        return pass_refusal::gave_up(1, 0);
+        return refusals::gave_up(1, 0);
     }
     if float::not_positive(t.mass) {
-        return pass_refusal::gave_up(2, 0);
+        return refusals::gave_up(2, 0);
     }
     Stage::Done
 }

@@ -12,7 +12,7 @@ use Rattle.complex.specs.declared.Complex.{Complex}
 use Rattle.linear_cells.specs.Region.{region, put, Apart}
 use Rattle.linear_cells.specs.Cell.{flat, regionC, putC}
 use Rattle.linear_cells.proofs.Loops.{apart, length-tab}
-use Rattle.linear_cells.specs.Rows.{laid}
+use Rattle.linear_cells.specs.Spans.{laid}
 use Rattle.linear_cells.proofs.Regions.{length-region, length-put, put-region, region-else}
 use Rattle.linear_cells.proofs.Cells.{length-flat, length-putC, regionC-same, regionC-putC, regionC-else, regionC-put-else}
 use Rattle.linear_hermitian.specs.declared.Hermitian.{Hermitian}
@@ -306,10 +306,10 @@ module _ (w : List Float) (h mass : Hermitian) (l : Vectors) (from to : List ℕ
   guided-off e = rw (not-true (t .guided) e) (softens-none w h mass l from to)
 
   module _ (ok : SoftRoom (length w) h mass l) where
-    pub guided-added : not (t .guided) ≡ false → {w₁ w₂ : List Float} → w₁ ≡ putC w (l .direction) (guidedTargets (region nan w (t .theta) (h .size)))
+    pub guided-added : not (t .guided) ≡ false → {w₁ w₂ : List Float} → w₁ ≡ putC w (l .direction) (guidedTargets (region nan w (t .guidance) (h .size)))
         → Softens w₁ w₂ h mass l from to (termOf (t .weight) (regionC w₁ (l .direction) (h .size))) → Softens w w₂ h mass l from to (guidedIn w h t)
     guided-added f e₁ a =
-        rw (not-false (t .guided) f) (aimed-then w h mass l from to ok (guidedTargets (region nan w (t .theta) (h .size))) (length-guided _ ∙ length-region nan w (t .theta) (h .size)) e₁ (termOf (t .weight)) a)
+        rw (not-false (t .guided) f) (aimed-then w h mass l from to ok (guidedTargets (region nan w (t .guidance) (h .size))) (length-guided _ ∙ length-region nan w (t .guidance) (h .size)) e₁ (termOf (t .weight)) a)
 
     pub aligned-added : {w₁ w₂ : List Float} → w₁ ≡ putC w (l .direction) (alignedTargets (t .angle) (h .size))
         → Softens w₁ w₂ h mass l from to (termOf (t .alignment) (regionC w₁ (l .direction) (h .size))) → Softens w w₂ h mass l from to (alignedIn h t)

@@ -16,9 +16,9 @@ use Rattle.pass_soft.specs.Work.{GuideRoom}
 
 -- ---- guide
 
-module _ (w : List Float) (theta target n : ℕ) where
+module _ (w : List Float) (guidance target n : ℕ) where
   atAngle : ℕ → Complex → Complex
-  atAngle i z = fourfold (getD w (theta + i) nan)
+  atAngle i z = fourfold (getD w (guidance + i) nan)
 
   unfoldable pub guideTo : ℕ → List Complex
   unfolding atAngle
@@ -28,16 +28,16 @@ module _ (w : List Float) (theta target n : ℕ) where
   unfolding guideTo
   guide-none = each-none atAngle w target n
 
-  pub guide-again : GuideRoom (length w) theta target n → (i : ℕ) → i < n → {w₁ w₂ : List Float} → w₁ ≡ putC w target (guideTo i)
-      → w₂ ≡ setC w₁ target n i (fourfold (getD w₁ (theta + i) nan)) → w₂ ≡ putC w target (guideTo (i + 1))
+  pub guide-again : GuideRoom (length w) guidance target n → (i : ℕ) → i < n → {w₁ w₂ : List Float} → w₁ ≡ putC w target (guideTo i)
+      → w₂ ≡ setC w₁ target n i (fourfold (getD w₁ (guidance + i) nan)) → w₂ ≡ putC w target (guideTo (i + 1))
   unfolding guideTo atAngle
   guide-again ok i l {w₁} e₁ e₂ =
-      each-again atAngle w target n (ok .target-in) i l e₁ e₂ (rw (each-real atAngle w target n theta n i i (ok .target-theta) l e₁))
+      each-again atAngle w target n (ok .target-in) i l e₁ e₂ (rw (each-real atAngle w target n guidance n i i (ok .target-guidance) l e₁))
 
-  pub guide-done : {w₁ : List Float} {i : ℕ} → i ≤ n → n ≤ i → w₁ ≡ putC w target (guideTo i) → w₁ ≡ putC w target (guidedTargets (region nan w theta n))
+  pub guide-done : {w₁ : List Float} {i : ℕ} → i ≤ n → n ≤ i → w₁ ≡ putC w target (guideTo i) → w₁ ≡ putC w target (guidedTargets (region nan w guidance n))
   unfolding guideTo guidedTargets atAngle
   guide-done l g e =
-      each-done atAngle w target n l g e ∙ ap (putC w target) (sym (rw length-region (tab-ext _ _ n (λ i h. rw (getD-region w theta n i nan h)))))
+      each-done atAngle w target n l g e ∙ ap (putC w target) (sym (rw length-region (tab-ext _ _ n (λ i h. rw (getD-region w guidance n i nan h)))))
 
 -- ---- align
 

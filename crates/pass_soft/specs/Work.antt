@@ -17,10 +17,10 @@ use Rattle.pass_soft.specs.Soft.{System, Term, guidedTargets, alignedTar
 
 -- ---- lengths and offsets
 
-pub record GuideRoom (len theta target n : ℕ) : Type 0 where
-  pub theta-in : theta + n ≤ len
+pub record GuideRoom (len guidance target n : ℕ) : Type 0 where
+  pub guidance-in : guidance + n ≤ len
   pub target-in : target + 2 * n ≤ len
-  pub target-theta : Apart target (2 * n) theta n
+  pub target-guidance : Apart target (2 * n) guidance n
 
 -- both matrices below the vectors, and apart from each other
 pub record SoftRoom (len : ℕ) (h mass : Hermitian) (l : Vectors) : Type 0 where
@@ -37,7 +37,7 @@ systemIn w h l from to = record { matrix = matrix w h from to; rhs = regionC w (
 
 -- the terms, with the guidance angles in the slice
 abbrev pub guidedIn : List Float → Hermitian → Terms → List Term
-guidedIn w h t = cond (t .guided) (termOf (t .weight) (guidedTargets (region nan w (t .theta) (h .size)))) []
+guidedIn w h t = cond (t .guided) (termOf (t .weight) (guidedTargets (region nan w (t .guidance) (h .size)))) []
 
 abbrev pub alignedIn : Hermitian → Terms → List Term
 alignedIn h t = termOf (t .alignment) (alignedTargets (t .angle) (h .size))

@@ -21,21 +21,21 @@ fn target_at(angle: f64) -> Complex
     Complex::from_angle(complex::FIELD_SYMMETRY * angle)
 }
 
-fn guide_at(work: &mut [f64], theta: usize, target: usize, n: usize, i: usize)
-    requires { ⌜ (i < n) × (target + n + i < length (now work)) × (theta + i < length (now work)) ⌝ }
-    ensures { λ _. ⌜ now (work .exit) ≡ setC (now (work .entry)) target n i (fourfold (getD (now (work .entry)) (theta + i) nan)) ⌝ }
+fn guide_at(work: &mut [f64], guidance: usize, target: usize, n: usize, i: usize)
+    requires { ⌜ (i < n) × (target + n + i < length (now work)) × (guidance + i < length (now work)) ⌝ }
+    ensures { λ _. ⌜ now (work .exit) ≡ setC (now (work .entry)) target n i (fourfold (getD (now (work .entry)) (guidance + i) nan)) ⌝ }
 {
-    let z = target_at(load_real(work, theta, i));
+    let z = target_at(load_real(work, guidance, i));
     store(work, target, n, i, z);
 }
 
-// The targets of the n guidance angles that stand from theta on.
-pub fn guide(work: &mut [f64], theta: usize, target: usize, n: usize)
-    requires { ⌜ GuideRoom (length (now work)) theta target n ⌝ }
-    ensures { λ _. ⌜ now (work .exit) ≡ putC (now (work .entry)) target (guidedTargets (region nan (now (work .entry)) theta n)) ⌝ }
+// The targets of the n guidance angles from `guidance` on.
+pub fn guide(work: &mut [f64], guidance: usize, target: usize, n: usize)
+    requires { ⌜ GuideRoom (length (now work)) guidance target n ⌝ }
+    ensures { λ _. ⌜ now (work .exit) ≡ putC (now (work .entry)) target (guidedTargets (region nan (now (work .entry)) guidance n)) ⌝ }
 {
     for i in 0..n {
-        guide_at(work, theta, target, n, i);
+        guide_at(work, guidance, target, n, i);
     }
 }
 
@@ -83,7 +83,7 @@ pub fn add_term(
 pub struct Terms {
     pub guided: bool,
     pub weight: f64,
-    pub theta: usize,
+    pub guidance: usize,
     pub alignment: f64,
     pub angle: f64,
 }
@@ -97,14 +97,14 @@ fn guided_term(
     to: &[u32],
     t: Terms,
 )
-    requires { ⌜ SoftRoom (length (now work)) h mass l × (t .theta + h .size ≤ l .x) ⌝ }
+    requires { ⌜ SoftRoom (length (now work)) h mass l × (t .guidance + h .size ≤ l .x) ⌝ }
     requires { ⌜ Graph mass (now from) (now to) ⌝ }
     ensures { λ _. ⌜ Softens (now (work .entry)) (now (work .exit)) h mass l (now (from .entry)) (now (to .entry)) (guidedIn (now (work .entry)) h t) ⌝ }
 {
     if !t.guided {
         return;
     }
-    guide(work, t.theta, l.direction, h.size);
+    guide(work, t.guidance, l.direction, h.size);
     add_term(work, h, mass, l, t.weight, from, to);
 }
 
@@ -135,7 +135,7 @@ pub fn soften(
     to: &[u32],
     t: Terms,
 )
-    requires { ⌜ SoftRoom (length (now work)) h mass l × (t .theta + h .size ≤ l .x) ⌝ }
+    requires { ⌜ SoftRoom (length (now work)) h mass l × (t .guidance + h .size ≤ l .x) ⌝ }
     requires { ⌜ Graph mass (now from) (now to) ⌝ }
     ensures { λ _. ⌜ Softens (now (work .entry)) (now (work .exit)) h mass l (now (from .entry)) (now (to .entry)) (termsIn (now (work .entry)) h t) ⌝ }
 {

@@ -16,9 +16,9 @@ use Rattle.linear_conjugate_gradient.specs.Solve.{State}
 use Rattle.linear_conjugate_gradient.specs.Work.{read, lay, VectorRoom, SolverRoom, Engine}
 use Rattle.linear_conjugate_gradient.proofs.Iterations.{engine-still}
 use Rattle.linear_conjugate_gradient.proofs.Lays.{read-sized, lay-read, lay-then, length-lay, get-below, get-matrix}
-use Rattle.pass_refusal.specs.declared.Stage.{Stage}
-use Rattle.pass_refusal.specs.declared.Stage.the-variants.{Done, Refused}
-use Rattle.pass_refusal.specs.declared.Fault.{Fault}
+use Rattle.refusals.specs.declared.Stage.{Stage}
+use Rattle.refusals.specs.declared.Stage.the-variants.{Done, Refused}
+use Rattle.refusals.specs.declared.Refusal.{Refusal}
 use Rattle.linear_conjugate_gradient.specs.Found.{Found, vector, gave}
 use Rattle.pass_solution.specs.Solution.{onward}
 use Rattle.pass_solution.specs.Work.{foundStage, Framed, Answers, leftBy}
@@ -55,7 +55,7 @@ framed-engine w h l from to u t ok g n en {w₁} e =
 
 -- ---- answers
 
-pub not-done : {s : Stage} {r : Fault} → s ≡ Refused r → s ≡ Done → ⊥
+pub not-done : {s : Stage} {r : Refusal} → s ≡ Refused r → s ≡ Done → ⊥
 not-done e d = let z : _≡_ {A = ℕ} 0 1 = cc in omega arith
 
 -- a stage that is done has found the vector that stands at x

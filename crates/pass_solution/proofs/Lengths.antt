@@ -12,7 +12,7 @@ use Rattle.root.specs.Root.{rootOf}
 use Rattle.complex.specs.declared.Complex.{Complex}
 use Rattle.complex.specs.Complex.{czero}
 use Rattle.linear_cells.proofs.Loops.{length-tab}
-use Rattle.linear_hermitian.specs.Hermitian.{Matrix, dotOf, normOf, scaled, applied}
+use Rattle.linear_hermitian.specs.Hermitian.{Matrix, dotOf, vectorNorm, scaled, applied}
 use Rattle.linear_vectors.specs.Vectors.{zipOf, addScaled, subScaled, recipsOf, scaledBy}
 use Rattle.linear_vectors.proofs.Zip.{length-zipOf}
 use Rattle.linear_conjugate_gradient.specs.Method.{firstNotPositive, LoopState, stepBy, steps, conjugateGradient, massSquared, normalizedOf}
@@ -61,7 +61,7 @@ step-long n m inverse limit s next e f =
     let d : List Complex = zipOf (addScaled (dot ⊘ s .residualDot)) (scaled inverse r) (s .direction) in
     let h : length x ≡ n = length-zipOf (addScaled alpha) (s .x) (s .direction) ∙ e in
     long-cond n (notPositive denominator) _ _ (long-gave n 6 0)
-    (long-cond n (le (normOf r) limit) _ _ (long-vector n x h)
+    (long-cond n (le (vectorNorm r) limit) _ _ (long-vector n x h)
     (long-cond n (notPositive dot) _ _ (long-gave n 7 0) (f (record { x = x; residual = r; direction = d; residualDot = dot }) h)))
 
 steps-long : (n : ℕ) (m : Matrix) (inverse : List Float) (limit : Float) (k : ℕ) (s : LoopState) → length (s .x) ≡ n → Long n (steps m inverse limit k s)
@@ -77,10 +77,10 @@ solution-long m k rhs =
     let dot : Float = dotOf z rhs .re in
     let vertex : ℕ = firstNotPositive (m .diagonal) in
     let s : LoopState = record { x = replicate n czero; residual = rhs; direction = z; residualDot = dot } in
-    long-cond n (notPositive (normOf rhs)) _ _ (long-gave n 3 0)
+    long-cond n (notPositive (vectorNorm rhs)) _ _ (long-gave n 3 0)
     (long-cond n (ltb vertex (length (m .diagonal))) _ _ (long-gave n 4 vertex)
     (long-cond n (notPositive dot) _ _ (long-gave n 5 0)
-    (steps-long n m (recipsOf (m .diagonal)) (innerTolerance ⊗ normOf rhs) k s (length-replicate n czero))))
+    (steps-long n m (recipsOf (m .diagonal)) (innerTolerance ⊗ vectorNorm rhs) k s (length-replicate n czero))))
 
 -- ---- normalize_in_mass
 

@@ -30,8 +30,8 @@ use Rattle.linear_conjugate_gradient.specs.Solve.{State, Outcome, solved, norma
 use Rattle.linear_conjugate_gradient.specs.Work.{read, lay, VectorRoom, SolverRoom, Solved, InMass}
 use Rattle.linear_conjugate_gradient.proofs.Lays.{Sized, read-sized, lay-read, get-x, get-all, put-x, put-p}
 use Rattle.linear_conjugate_gradient.proofs.Method.{answered, answered-held, solved-method, solved-sized}
-use Rattle.pass_refusal.specs.declared.Stage.{Stage}
-use Rattle.pass_refusal.specs.declared.Stage.the-variants.{Done, Refused}
+use Rattle.refusals.specs.declared.Stage.{Stage}
+use Rattle.refusals.specs.declared.Stage.the-variants.{Done, Refused}
 use Rattle.linear_conjugate_gradient.specs.Found.{vector, gave}
 use Rattle.pass_solution.specs.Solution.{innerTolerance, solutionOf}
 use Rattle.pass_solution.specs.Work.{refusalOf, foundStage, Framed, Solves, normalizedLeft, Normalizes}

@@ -15,15 +15,15 @@ use Rattle.linear_conjugate_gradient.specs.Found.{Found, vector, gave}
 use Rattle.linear_conjugate_gradient.specs.Method.{massSquared, normalizedOf}
 use Rattle.linear_conjugate_gradient.specs.Solve.{State, solved, normalizedVector}
 use Rattle.linear_conjugate_gradient.specs.Work.{read, lay}
-use Rattle.pass_refusal.specs.declared.Fault.{Fault}
-use Rattle.pass_refusal.specs.declared.Stage.{Stage}
-use Rattle.pass_refusal.specs.declared.Stage.the-variants.{Done, Refused}
-use Rattle.pass_refusal.specs.Refusal.{gaveUp}
+use Rattle.refusals.specs.declared.Refusal.{Refusal}
+use Rattle.refusals.specs.declared.Stage.{Stage}
+use Rattle.refusals.specs.declared.Stage.the-variants.{Done, Refused}
+use Rattle.refusals.specs.Refusal.{gaveUp}
 use Rattle.pass_solution.specs.Solution.{innerTolerance, solutionOf}
 
 -- what document 01 says of a reason of the solver: the row, the reason and the place
-abbrev pub refusalOf : Reason → Fault
-refusalOf r = record { number = number r; place = place r; other = 0; reason = reason r }
+abbrev pub refusalOf : Reason → Refusal
+refusalOf r = record { number = number r; place = place r; other = 0; pass = 0; reason = reason r }
 
 -- a vector is a stage done; a reason is row 24
 unfoldable pub foundStage : Found → Stage

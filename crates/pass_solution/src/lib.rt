@@ -6,12 +6,12 @@ use linear_conjugate_gradient::Vectors;
 use linear_conjugate_gradient::conjugate_gradient;
 use linear_hermitian::Hermitian;
 use linear_packing::Packing;
-use pass_refusal::Stage;
+use refusals::Stage;
 ghost use mathlib.Core.Path.{_≡_};
 ghost use lib.ListN.{length};
 ghost use Rattle.linear_hermitian.specs.Work.{Graph};
 ghost use Rattle.linear_conjugate_gradient.specs.Work.{SolverRoom, Engine};
-ghost use Rattle.pass_refusal.specs.declared.Stage.the-variants.{Refused};
+ghost use Rattle.refusals.specs.declared.Stage.the-variants.{Refused};
 ghost use Rattle.pass_solution.specs.Solution.{innerMost, linearMost};
 ghost use Rattle.pass_solution.specs.Work.{refusalOf, Solves, Normalizes};
 
@@ -54,13 +54,13 @@ fn gave_up(r: Reason) -> Stage
     ensures { λ s. ⌜ s ≡ Refused (refusalOf r) ⌝ }
 {
     match r {
-        Reason::RightHandNorm => pass_refusal::gave_up(3, 0),
-        Reason::Diagonal(vertex) => pass_refusal::gave_up(4, vertex as u64),
-        Reason::FirstResidual => pass_refusal::gave_up(5, 0),
-        Reason::Denominator => pass_refusal::gave_up(6, 0),
-        Reason::LostDefiniteness => pass_refusal::gave_up(7, 0),
-        Reason::CountSpent => pass_refusal::gave_up(8, 0),
-        Reason::MassOfIterate => pass_refusal::gave_up(9, 0),
+        Reason::RightHandNorm => refusals::gave_up(3, 0),
+        Reason::Diagonal(vertex) => refusals::gave_up(4, vertex as u64),
+        Reason::FirstResidual => refusals::gave_up(5, 0),
+        Reason::Denominator => refusals::gave_up(6, 0),
+        Reason::LostDefiniteness => refusals::gave_up(7, 0),
+        Reason::CountSpent => refusals::gave_up(8, 0),
+        Reason::MassOfIterate => refusals::gave_up(9, 0),
     }
 }
 

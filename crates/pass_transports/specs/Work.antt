@@ -10,7 +10,7 @@ use Rattle.complex.specs.declared.Complex.{Complex}
 use Rattle.complex.specs.Complex.{cnan}
 use Rattle.geometry.specs.declared.Transport.{Transport}
 use Rattle.geometry.specs.declared.Transport.the-variants.{Coefficient, MeanSize}
-use Rattle.pass_geometries.specs.Geometries.{coordsFrom}
+use Rattle.pass_geometries.specs.Work.{coordsFrom}
 use Rattle.linear_cells.specs.Region.{tab}
 use Rattle.linear_cells.specs.Cell.{setC, regionC, putC}
 use Rattle.pass_transports.specs.declared.Answer.{Answer}

@@ -1,4 +1,6 @@
 -- sub2, dot2, cross2, rotate_90 and scale2 of the Rust, on pairs of doubles, each operation rounded once. Definitions only.
+use mathlib.Core.List.{List}
+use lib.ListN.{getD}
 use lib.Ieee.{Float, nan, neg}
 use Rattle.float.specs.Double.{_⊕_, _⊖_, _⊗_}
 use Rattle.plane.specs.declared.Pair.{Pair}
@@ -21,3 +23,11 @@ scale2 a k = record { x = a .x ⊗ k; y = a .y ⊗ k }
 -- what stands past the end of a list of pairs
 abbrev pub no-pair : Pair
 no-pair = record { x = nan; y = nan }
+
+-- twice the signed area of the triangle a b c
+unfoldable pub orientation : Pair → Pair → Pair → Float
+orientation a b c = cross2 (sub2 b a) (sub2 c a)
+
+-- the same of an array of three
+abbrev pub orientationOf : List Pair → Float
+orientationOf ps = orientation (getD ps 0 no-pair) (getD ps 1 no-pair) (getD ps 2 no-pair)

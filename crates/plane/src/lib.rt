@@ -43,3 +43,11 @@ pub fn scale2(a: Pair, factor: f64) -> Pair
         y: a.y * factor,
     }
 }
+
+// Twice the signed area of a triangle.
+pub fn twice_signed_area(corners: [Pair; 3]) -> f64
+    ensures { λ r. ⌜ r ≡ Pairs.orientationOf corners ⌝ }
+{
+    let a = corners[0];
+    cross2(sub2(corners[1], a), sub2(corners[2], a))
+}

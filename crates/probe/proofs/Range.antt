@@ -10,6 +10,7 @@ use Rattle.complex.specs.Complex.{isZero}
 use Rattle.complex.specs.Angle.{IsCross, crossAngle}
 use Rattle.complex.proofs.Range.{cross-angle-range}
 use Rattle.plane.specs.declared.Pair.{Pair}
+use Rattle.plane.specs.Pair.{orientation}
 use Rattle.probe.specs.declared.Weighing.{Weighing}
 use Rattle.probe.specs.declared.Weighing.the-variants.{Inside, Outside}
 use Rattle.probe.specs.declared.Visit.{Visit}
@@ -17,7 +18,7 @@ use Rattle.probe.specs.declared.Visit.the-variants.{Passed, Vanished, Fo
 use Rattle.probe.specs.declared.Probe.{Probe}
 use Rattle.probe.specs.declared.Probe.the-variants.{NotTriples, NoAngle, TooLarge}
 use Rattle.probe.specs.Weights.{usable, weighedAt, interpolated, answered}
-use Rattle.probe.specs.Probe.{every, finite, small, cornerAt, told, denominator, visited, visitOf, visitAt, decided, foundFrom, probeOf, AngleRange}
+use Rattle.probe.specs.Probe.{every, finite, small, cornerAt, told, visited, visitOf, visitAt, decided, foundFrom, probeOf, AngleRange}
 
 -- what a triangle says
 abbrev Cross : Visit → Type 0
@@ -39,10 +40,10 @@ told-cross Outside a b c = tt
 
 visited-cross : (at p q r : Pair) (a b c : Float) → Cross (visited at p q r a b c)
 unfolding visited
-visited-cross at p q r a b c = go (usable (denominator p q r))
+visited-cross at p q r a b c = go (usable (orientation p q r))
   where
-    go : (t : Bool) → Cross (cond t (told (weighedAt at p q r (denominator p q r)) a b c) Passed)
-    go true = told-cross (weighedAt at p q r (denominator p q r)) a b c
+    go : (t : Bool) → Cross (cond t (told (weighedAt at p q r (orientation p q r)) a b c) Passed)
+    go true = told-cross (weighedAt at p q r (orientation p q r)) a b c
     go false = tt
 
 visit-cross : (alpha pts : List Float) (at : Pair) (i j k : ℕ) → Cross (visitOf alpha pts at i j k)

@@ -7,9 +7,9 @@ use lib.Dec.{ltb, eqb}
 use lib.ListN.{getD, length}
 use lib.Ieee.{Float, nan, lt, le, neg}
 use Rattle.float.specs.Double.{lit, mag, isFinite}
-use Rattle.complex.specs.Angle.{IsCross}
+use Rattle.complex.specs.Angle.{LARGEST-ANGLE, IsCross}
 use Rattle.plane.specs.declared.Pair.{Pair}
-use Rattle.plane.specs.Pair.{sub2, cross2, no-pair}
+use Rattle.plane.specs.Pair.{no-pair, orientation}
 use Rattle.probe.specs.declared.Weighing.{Weighing}
 use Rattle.probe.specs.declared.Weighing.the-variants.{Inside, Outside}
 use Rattle.probe.specs.declared.Visit.{Visit}
@@ -26,9 +26,6 @@ abbrev pub finite : Float → Bool
 finite x = isFinite x
 
 -- at most 131,072 in size
-abbrev pub LARGEST-ANGLE : Float
-LARGEST-ANGLE = lit 0x4100_0000_0000_0000
-
 abbrev pub small : Float → Bool
 small x = not (lt LARGEST-ANGLE (mag x))
 
@@ -45,17 +42,10 @@ abbrev pub told : Weighing → Float → Float → Float → Visit
 told (Inside w) a b c = answered (interpolated w a b c)
 told Outside a b c = Passed
 
--- twice the signed area of p, q, r
-unfoldable pub denominator : Pair → Pair → Pair → Float
-denominator p q r = cross2 (sub2 q p) (sub2 r p)
-
-abbrev pub denominatorBy : List Pair → Float
-denominatorBy ps = denominator (getD ps 0 no-pair) (getD ps 1 no-pair) (getD ps 2 no-pair)
-
--- of a triangle with corners at p, q, r
+-- of a triangle with corners at p, q, r; its weights are over twice its signed area
 unfoldable pub visited : Pair → Pair → Pair → Pair → Float → Float → Float → Visit
 visited at p q r a b c =
-    cond (usable (denominator p q r)) (told (weighedAt at p q r (denominator p q r)) a b c) Passed
+    cond (usable (orientation p q r)) (told (weighedAt at p q r (orientation p q r)) a b c) Passed
 
 -- the same of an array of three
 abbrev pub visitedBy : Pair → List Pair → Float → Float → Float → Visit

@@ -3,7 +3,7 @@ ghost use mathlib.Core.Path.{_≡_};
 ghost use Prim.Native.Nat.{_+_, _*_, _<_, _≤_};
 ghost use lib.ListN.{length};
 ghost use Rattle.probe.specs.Weights.{usable, within, weight, weighed, interpolated, answered};
-ghost use Rattle.probe.specs.Probe.{every, finite, taken, cornerAt, denominatorBy, visitedBy, visitOf, visitAt, foundFrom, probeOf, AngleRange};
+ghost use Rattle.probe.specs.Probe.{every, finite, taken, cornerAt, visitedBy, visitOf, visitAt, foundFrom, probeOf, AngleRange};
 use complex::Complex;
 use plane::Pair;
 
@@ -120,19 +120,11 @@ fn position(points: &[f64], v: usize) -> Pair
     }
 }
 
-// Twice the signed area.
-fn denominator_of(corners: [Pair; 3]) -> f64
-    ensures { λ r. ⌜ r ≡ denominatorBy corners ⌝ }
-{
-    let p = corners[0];
-    plane::cross2(plane::sub2(corners[1], p), plane::sub2(corners[2], p))
-}
-
 // What a triangle with these corners and angles says of the question point.
 fn visit_corners(at: Pair, corners: [Pair; 3], a: f64, b: f64, c: f64) -> Visit
     ensures { λ r. ⌜ r ≡ visitedBy at corners a b c ⌝ }
 {
-    let denominator = denominator_of(corners);
+    let denominator = plane::twice_signed_area(corners);
     if is_usable(denominator) {
         let weighing = weights_of(at, corners, denominator);
         let Weighing::Inside(w) = weighing else {

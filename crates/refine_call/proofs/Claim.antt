@@ -15,7 +15,8 @@ use Rattle.mesh.proofs.Order.{cut-sides}
 use Rattle.mesh.proofs.Points.{points-length}
 use Rattle.floor.specs.declared.Check.{Check}
 use Rattle.floor.specs.declared.Check.the-variants.{Sound, Refused}
-use Rattle.floor.specs.Checks.{row, lowest, badPoint, badSize, badCorner, wellFormed, notFiniteOrBelowZero, checkFloor}
+use Rattle.refusals.specs.Refusal.{row}
+use Rattle.floor.specs.Checks.{lowest, badPoint, badSize, badCorner, wellFormed, notFiniteOrBelowZero, checkFloor}
 use Rattle.floor.proofs.Lowest.{lowest-before}
 use Rattle.floor.proofs.Rows.{or-none, whole-slices}
 use Rattle.refinement.specs.Flag.{flaggedTri}

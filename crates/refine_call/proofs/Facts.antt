@@ -15,10 +15,11 @@ use Rattle.mesh.specs.Points.{morePoints, moreSizes}
 use Rattle.edges.specs.Table.{pairs}
 use Rattle.edges.specs.TwoSlices.{loAt, hiAt, sidesAt}
 use Rattle.edges.proofs.Tree.{length-pairs}
-use Rattle.floor.specs.declared.Refusal.{Refusal}
+use Rattle.refusals.specs.declared.Refusal.{Refusal}
 use Rattle.floor.specs.declared.Check.{Check}
 use Rattle.floor.specs.declared.Check.the-variants.{Sound, Refused}
-use Rattle.floor.specs.Checks.{row, wellFormed, notFiniteOrBelowZero, andThen, checkFloor}
+use Rattle.refusals.specs.Refusal.{row}
+use Rattle.floor.specs.Checks.{wellFormed, notFiniteOrBelowZero, andThen, checkFloor}
 use Rattle.floor.proofs.Rows.{or-none, whole-slices}
 use Rattle.refinement.specs.declared.Cut.{Cut}
 use Rattle.refinement.specs.Flag.{flaggedTri}
@@ -28,13 +29,13 @@ use Rattle.refinement.proofs.Triangles.{tris-length, corners-length}
 use Rattle.refinement.proofs.Parts.{refined-most}
 use Rattle.mesh.proofs.Points.{points-length, sizes-length}
 use Rattle.refine_floor.specs.Stored.{Stored}
-use Rattle.refine_floor.specs.Marks.{markedBy, MarksRoom, Marked}
-use Rattle.refine_floor.proofs.Splitting.{front-same}
+use Rattle.refine_call.specs.Marks.{markedBy, MarksRoom, Marked}
+use Rattle.refine_call.proofs.Splitting.{front-same}
 use Rattle.refine_call.specs.declared.Counts.{Counts}
 use Rattle.refine_call.specs.declared.Answer.{Answer}
 use Rattle.refine_call.specs.declared.Answer.the-variants.{Refinement}
 use Rattle.refine_call.specs.Call.{answerOf, Called, short, checkRest, checkCall}
-use Rattle.refine_call.specs.Steps.{Marks, Pieces, Filled, ResultRoom}
+use Rattle.refine_call.specs.Steps.{Marks, Pieces, Filled, ResultRoom, FloorRoom, PutsFloor}
 use Rattle.refine_call.proofs.Lists.{refined-none, corners-of-tris, ends-front}
 
 -- ---- tests
@@ -128,7 +129,9 @@ rest-refused c rest x e = rw e
 pub called-refused : {r : Refined} {newPoints newSizes : List Float} {newTriangles cutEnds : List ℕ} {a : Answer} (c c′ : Check) (x : Refusal) → c ≡ c′ → c ≡ Refused x → a ≡ answerOf (Refused x) r → Called c′ r newPoints newSizes newTriangles cutEnds a newPoints newSizes newTriangles cutEnds
 called-refused c c′ x e h g = let z : c′ ≡ Refused x = sym e ∙ h in rw z (record { answer = g; points = refl; sizes = refl; triangles = refl; ends = refl })
 
-pub called-done : {r : Refined} {newPoints newSizes newPoints′ newSizes′ : List Float} {newTriangles cutEnds newTriangles′ cutEnds′ : List ℕ} {a : Counts} (c c′ : Check) → c ≡ c′ → c ≡ Sound → Filled r newPoints newSizes newTriangles cutEnds a newPoints′ newSizes′ newTriangles′ cutEnds′ → Called c′ r newPoints newSizes newTriangles cutEnds (Refinement a) newPoints′ newSizes′ newTriangles′ cutEnds′
+pub called-done : {r : Refined} {newPoints newSizes newPoints′ newSizes′ : List Float} {newTriangles cutEnds newTriangles′ cutEnds′ : List ℕ}
+    {a : Counts} (c c′ : Check) → c ≡ c′ → c ≡ Sound → Filled r newPoints newSizes newTriangles cutEnds a newPoints′ newSizes′ newTriangles′ cutEnds′
+    → Called c′ r newPoints newSizes newTriangles cutEnds (Refinement a) newPoints′ newSizes′ newTriangles′ cutEnds′
 called-done c c′ e h g =
     let z : c′ ≡ Sound = sym e ∙ h in
     rw z (record { answer = ap Refinement (g .counts); points = g .points; sizes = g .sizes; triangles = g .triangles; ends = g .ends })
@@ -156,8 +159,9 @@ module _ {n : ℕ} {cut : Cut} {l e w w′ : List ℕ} (h : Marks n cut l e w) w
 
 module _ (threshold : Float) (angles points sizes : List Float) (l : List ℕ) (newPoints newSizes : List Float) (newTriangles cutEnds : List ℕ)
     (room : ResultRoom (length points) (length l) (length sizes) (length newPoints) (length newSizes) (length newTriangles) (length cutEnds)) where
-  pub marks-room : MarksRoom (length points / 3) (3 * (length l / 3)) (length l / 3) (length l) (length cutEnds) (length newTriangles)
+  pub marks-room : MarksRoom (length points / 3) (3 * (length l / 3)) (3 * (length l / 3)) (length l / 3) (length l) (length cutEnds) (length newTriangles)
   marks-room = record {
+    marks-before = omega arith;
     corners-in = omega (arith, room .whole-corners);
     ends-in = omega (arith, room .in-ends);
     marks-in = omega (arith, room .in-triangles);
@@ -176,14 +180,15 @@ module _ (threshold : Float) (angles points sizes : List Float) (l : List ℕ) (
       cut-marks = found .cut-marks;
     }
 
-    pub floor-room : (2 * cut .sides ≤ length ends) × ((length points + 3 * cut .sides ≤ length newPoints) × (length sizes + cut .sides ≤ length newSizes))
-    floor-room = (
-      omega (arith, room .in-ends, found .same-ends, found .few, found .seldom),
-      (omega (arith, room .whole, room .in-points, found .few, found .seldom), omega (arith, room .sized, room .in-sizes, found .few, found .seldom)),
-    )
+    pub floor-room : FloorRoom (length points) (length sizes) (length ends) (cut .sides) (length newPoints) (length newSizes)
+    floor-room = record {
+      ends-in = omega (arith, room .in-ends, found .same-ends, found .few, found .seldom);
+      in-points = omega (arith, room .whole, room .in-points, found .few, found .seldom);
+      in-sizes = omega (arith, room .sized, room .in-sizes, found .few, found .seldom);
+    }
 
     pub filled : {newPoints′ newSizes′ : List Float} {newTriangles′ : List ℕ} {k : ℕ} → Pieces (length points / 3) cut l ends marks newTriangles′ k
-        → (newPoints′ ≡ sets newPoints 0 (morePoints points (sidesAt ends (cut .sides)))) × (newSizes′ ≡ sets newSizes 0 (moreSizes sizes (sidesAt ends (cut .sides))))
+        → PutsFloor points sizes (sidesAt ends (cut .sides)) newPoints newSizes newPoints′ newSizes′
         → Filled (refinementOf threshold angles points sizes (trisOf l)) newPoints newSizes newTriangles cutEnds
         (record { points = length points / 3 + cut .sides; triangles = k; flagged = cut .flagged; cut = cut .sides }) newPoints′ newSizes′ newTriangles′ ends
     unfolding refinementOf refine
@@ -200,8 +205,8 @@ module _ (threshold : Float) (angles points sizes : List Float) (l : List ℕ) (
         let z = sizes-length sizes L in
         record {
           counts = counts-same (third (length (morePoints points L)) (n + cut .sides) (omega (arith, p, room .whole, len))) (omega (arith, stored .counted)) (found .flagged) len;
-          points = rw s at (put .0) ∙ front newPoints (morePoints points L) (omega (arith, p, room .whole, len, room .in-points, found .few, found .seldom));
-          sizes = rw s at (put .1) ∙ front newSizes (moreSizes sizes L) (omega (arith, z, room .sized, len, room .in-sizes, found .few, found .seldom));
+          points = rw s at (put .points-put) ∙ front newPoints (morePoints points L) (omega (arith, p, room .whole, len, room .in-points, found .few, found .seldom));
+          sizes = rw s at (put .sizes-put) ∙ front newSizes (moreSizes sizes L) (omega (arith, z, room .sized, len, room .in-sizes, found .few, found .seldom));
           triangles = stored .stands
               ∙ front-same (cornersOf new) marks newTriangles (omega (arith, long, many, room .in-triangles, found .same)) (found .same) (λ j g. found .behind j (omega (arith, long, stored .counted, made .least)))
               ∙ front newTriangles (cornersOf new) (omega (arith, long, many, room .in-triangles));

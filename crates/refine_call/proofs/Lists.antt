@@ -11,7 +11,7 @@ use Rattle.edges.specs.TwoSlices.{loAt, hiAt, sidesAt}
 use Rattle.edges.proofs.Tree.{length-pairs}
 use Rattle.refinement.specs.Floor.{tris, triAt, cornersOf, endsOf, over}
 use Rattle.refinement.proofs.Triangles.{corners-append}
-use Rattle.refine_floor.proofs.Splitting.{drop-same}
+use Rattle.refine_call.proofs.Splitting.{drop-same}
 
 -- with no cut sides each triangle is its only piece
 pub refined-none : (n : ℕ) (ts : List Tri) → refined (mid n []) ts ≡ ts

@@ -1,3 +1,4 @@
 pub mod Call
 pub mod Claim
 pub mod Steps
+pub mod Marks

@@ -4,14 +4,16 @@ use mathlib.Core.Path.{_≡_}
 use mathlib.Core.Logic.{_≢_}
 use mathlib.Core.List.{List}
 use lib.ListN.{length, getD}
+use lib.Seq.{sets}
 use lib.Ieee.{Float}
 use Rattle.floor.specs.Checks.{MOST-POINTS, MOST-TRIANGLES}
-use Rattle.mesh.specs.Mesh.{mid, refined}
+use Rattle.mesh.specs.Mesh.{Side, mid, refined}
+use Rattle.mesh.specs.Points.{morePoints, moreSizes}
 use Rattle.edges.specs.TwoSlices.{sidesAt, HeldInTwo}
 use Rattle.refinement.specs.declared.Cut.{Cut}
 use Rattle.refinement.specs.Floor.{Refined, trisOf, cornersOf, endsOf, over}
 use Rattle.refine_floor.specs.Stored.{Stored}
-use Rattle.refine_floor.specs.Marks.{markedBy, CutsAt}
+use Rattle.refine_call.specs.Marks.{markedBy, CutsAt}
 use Rattle.refine_call.specs.declared.Counts.{Counts}
 use Rattle.refine_call.specs.Call.{countsOf}
 
@@ -50,3 +52,14 @@ pub record ResultRoom (points corners sizes newPoints newSizes newTriangles cutE
   pub in-sizes : points / 3 + 3 * (corners / 3) ≤ newSizes
   pub in-triangles : 12 * (corners / 3) ≤ newTriangles
   pub in-ends : 8 * (corners / 3) ≤ cutEnds
+
+-- there is room for the points and the sizes of a floor with `cut` cut sides, whose ends are given
+pub record FloorRoom (points sizes ends cut newPoints newSizes : ℕ) : Type 0 where
+  pub ends-in : 2 * cut ≤ ends
+  pub in-points : points + 3 * cut ≤ newPoints
+  pub in-sizes : sizes + cut ≤ newSizes
+
+-- the given points and sizes, and behind them those of the midpoints of the cut sides s, at the front of two slices
+pub record PutsFloor (points sizes : List Float) (s : List Side) (newPoints newSizes newPoints′ newSizes′ : List Float) : Type 0 where
+  pub points-put : newPoints′ ≡ sets newPoints 0 (morePoints points s)
+  pub sizes-put : newSizes′ ≡ sets newSizes 0 (moreSizes sizes s)

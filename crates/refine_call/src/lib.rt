@@ -1,18 +1,20 @@
 // Refinement as a call of its own, with the angles given: document 01's refusals, and refine_once's floor in four lent slices.
-// No work is lent to it and it has none of its own: what it keeps until it is done stands where its results will (crate refine_floor, module marks), in no
+// No work is lent to it and it has none of its own: what it keeps until it is done stands where its results will (module marks), in no
 // place that they do not fill. specs/Call.antt says what it answers and writes, specs/Claim.antt what holds of that, specs/Steps.antt what its steps leave.
+pub mod marks;
+pub mod points;
+
 use edges::Table;
 use refinement::Cut;
 ghost use mathlib.Core.Path.{_≡_};
-ghost use Prim.Native.Nat.{_+_, _*_, _≤_};
+ghost use Prim.Native.Nat.{_≤_};
 ghost use lib.ListN.{length};
 ghost use lib.Seq.{sets};
-ghost use Rattle.mesh.specs.Points.{morePoints, moreSizes};
 ghost use Rattle.edges.specs.TwoSlices.{sidesAt};
 ghost use Rattle.floor.specs.Checks.{MOST-POINTS, MOST-TRIANGLES};
 ghost use Rattle.refinement.specs.Floor.{refinementOf, trisOf};
 ghost use Rattle.refine_call.specs.Call.{short, checkRest, checkCall, CalledOn};
-ghost use Rattle.refine_call.specs.Steps.{Marks, Pieces, Filled, ResultRoom};
+ghost use Rattle.refine_call.specs.Steps.{Marks, Pieces, Filled, ResultRoom, FloorRoom, PutsFloor};
 
 // How many points and triangles the refined floor has, how many triangles were flagged, and how many sides cut.
 pub struct Counts {
@@ -88,18 +90,6 @@ fn check_call(
     check_rest(points.len() / 3, triangles.len() / 3, angles, threshold, l)
 }
 
-// The corners of the triangles, where no side is cut.
-fn put_corners(triangles: &[u32], out: &mut [u32])
-    requires { ⌜ length (now triangles) ≤ length (now out) ⌝ }
-    ensures { λ _. ⌜ now (out .exit) ≡ sets (now (out .entry)) 0 (now (triangles .entry)) ⌝ }
-{
-    let mut i = 0;
-    while i < triangles.len() {
-        out[i] = triangles[i];
-        i += 1;
-    }
-}
-
 // The pieces of the triangles whose sides are cut, over their marks. How many there are.
 fn put_pieces(
     triangles: &[u32],
@@ -113,7 +103,7 @@ fn put_pieces(
 {
     let count = triangles.len() / 3;
     if cut.flagged == 0 {
-        put_corners(triangles, new_triangles);
+        slices::copy_u32(triangles, new_triangles, 0);
         return count;
     }
     let table = Table {
@@ -121,7 +111,7 @@ fn put_pieces(
         buckets: 3 * cut.flagged,
         sides: cut.sides,
     };
-    refine_floor::marks::refine_marked(triangles, count, points, ends, new_triangles, table)
+    marks::refine_marked(triangles, count, points, ends, new_triangles, table)
 }
 
 // The points and the sizes of the refined floor.
@@ -133,12 +123,12 @@ fn put_floor(
     new_points: &mut [f64],
     new_sizes: &mut [f64],
 )
-    requires { ⌜ (2 * count ≤ length (now ends)) × ((length (now points) + 3 * count ≤ length (now «new_points»)) × (length (now sizes) + count ≤ length (now «new_sizes»))) ⌝ }
-    ensures { λ _. ⌜ (now («new_points» .exit) ≡ sets (now («new_points» .entry)) 0 (morePoints (now (points .entry)) (sidesAt (now (ends .entry)) count)))
-        × (now («new_sizes» .exit) ≡ sets (now («new_sizes» .entry)) 0 (moreSizes (now (sizes .entry)) (sidesAt (now (ends .entry)) count))) ⌝ }
+    requires { ⌜ FloorRoom (length (now points)) (length (now sizes)) (length (now ends)) count (length (now «new_points»)) (length (now «new_sizes»)) ⌝ }
+    ensures { λ _. ⌜ PutsFloor (now (points .entry)) (now (sizes .entry)) (sidesAt (now (ends .entry)) count)
+        (now («new_points» .entry)) (now («new_sizes» .entry)) (now («new_points» .exit)) (now («new_sizes» .exit)) ⌝ }
 {
-    refine_floor::put_points(points, ends, count, new_points);
-    refine_floor::put_sizes(sizes, ends, count, new_sizes);
+    points::put_points(points, ends, count, new_points);
+    points::put_sizes(sizes, ends, count, new_sizes);
 }
 
 // The refinement of an accepted floor: cut sides, pieces, points and sizes. What it keeps in between stands where results will.
@@ -161,7 +151,7 @@ fn refine_sound(
 {
     let n = points.len() / 3;
     let count = triangles.len() / 3;
-    let cut = refine_floor::marks::cut_sides(
+    let cut = marks::cut_sides(
         triangles,
         count,
         n,

@@ -1,3 +1,2 @@
 pub mod Guidance
-pub mod Marks
 pub mod Stored

@@ -6,7 +6,7 @@ use mathlib.Core.Path.{_≡_, refl, ap, _∙_}
 use mathlib.Core.List.{List, [], _∷_}
 use lib.ListN.{length, length-append, set}
 use lib.Seq.{sets, length-sets}
-use Rattle.runs.proofs.Runs.{sets-append}
+use Rattle.slices.proofs.Runs.{sets-append}
 use Rattle.replay.specs.Rows.{upTo}
 
 module _ {A : Type 0} where

@@ -62,7 +62,7 @@ fn corner(row: &[u8], k: usize) -> u32
     (crate::word(row, k) % 0x1_0000_0000) as u32
 }
 
-// Corners likewise.
+// The corners of a row.
 pub fn corners(row: &[u8], k: usize, n: usize, out: &mut [u32])
     requires { ⌜ k + length (now out) ≤ 0x1000_0000 ⌝ }
     ensures { λ _. ⌜ now (out .exit) ≡ sets (now (out .entry)) 0 (upTo (λ i. cornerAt (now (row .entry)) (k + i)) (atMost (length (now (out .entry))) n)) ⌝ }

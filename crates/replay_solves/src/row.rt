@@ -69,7 +69,7 @@ fn asked_of(row: &[u8]) -> Asked {
 }
 
 // Number, reason and pass of a refusal, and its places; or four zeros, a zero and the counts.
-fn same_refusal(row: &[u8], r: calls::Refusal) -> bool {
+fn same_refusal(row: &[u8], r: refusals::Refusal) -> bool {
     if r.number != quarter(row, 11, 0) {
         return false;
     }
@@ -133,12 +133,12 @@ fn wiped(row: &[u8], i: u64, most: usize) -> usize
 // Zeros at the front of a slice.
 fn wipe(n: usize, out: &mut [f64]) {
     let m = rows::at_most(n, out.len());
-    linear_cells::zero(&mut out[0..m]);
+    slices::zero(&mut out[0..m]);
 }
 
 fn wipe_u32(n: usize, out: &mut [u32]) {
     let m = rows::at_most(n, out.len());
-    linear_cells::zero_u32(&mut out[0..m]);
+    slices::zero_u32(&mut out[0..m]);
 }
 
 // Whether all of the work is as lent, or the lent part zeros.

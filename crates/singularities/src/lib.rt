@@ -74,7 +74,7 @@ pub enum Singularities {
     NotTriples,
 }
 
-// The counts with triangle t's charge added.
+// The counts with one more triangle's charge added.
 fn add_charge(counts: Counts, charge: i64) -> Counts
     requires { ⌜ (counts .valence_3 < 0x7fff_ffff_ffff_ffff) × (counts .valence_5 < 0x7fff_ffff_ffff_ffff) ⌝ }
     ensures { λ r. ⌜ r ≡ counted counts charge ⌝ }

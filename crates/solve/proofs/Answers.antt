@@ -8,8 +8,8 @@ use lib.ListN.{getD}
 use lib.Ieee.{Float, nan}
 use Rattle.linear_cells.specs.Region.{region}
 use Rattle.linear_cells.proofs.Loops.{tab-ext}
-use Rattle.pass_refusal.specs.declared.Fault.{Fault}
-use Rattle.pass_refusal.specs.declared.Stage.the-variants as stage
+use Rattle.refusals.specs.declared.Refusal.{Refusal}
+use Rattle.refusals.specs.declared.Stage.the-variants as stage
 use Rattle.pass_options.specs.Pass.{Passed, field, faulty, stageOf}
 use Rattle.calls.specs.declared.Outcome.{Outcome}
 use Rattle.solve.specs.declared.Found.{Found}
@@ -19,7 +19,7 @@ pub both-true : (a b : Bool) → (a && b) ≡ true → a ≡ true
 both-true true b e = refl
 both-true false b e = e
 
-pub stage-faulty : (p : Passed) (x : Fault) → stage.Refused x ≡ stageOf p → p ≡ faulty x
+pub stage-faulty : (p : Passed) (x : Refusal) → stage.Refused x ≡ stageOf p → p ≡ faulty x
 stage-faulty (faulty y) x e = cc
 stage-faulty (field alpha) x e = let z : _≡_ {A = ℕ} 0 1 = cc in absurd (omega arith)
 

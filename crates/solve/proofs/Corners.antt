@@ -5,7 +5,7 @@ use mathlib.Core.Path.{_≡_, sym, ap, _∙_}
 use mathlib.Core.List.{List, [], _∷_, append-nil}
 use lib.ListN.{length, getD}
 use lib.Seq.{sets}
-use Rattle.runs.proofs.Runs.{sets-within}
+use Rattle.slices.proofs.Runs.{sets-within}
 use Rattle.mesh.specs.Mesh.{Tri, tri, All}
 use Rattle.mesh.specs.Claim.{InRange}
 use Rattle.mesh.proofs.Whole.{All-append}

@@ -8,7 +8,7 @@ use lib.Ieee.{Float}
 use Rattle.pass.specs.Pass.{passOf}
 use Rattle.pass.proofs.Facts.{pass-facts}
 use Rattle.pass.proofs.Rows.{pass-rows}
-use Rattle.calls.specs.declared.Refusal.{Refusal}
+use Rattle.refusals.specs.declared.Refusal.{Refusal}
 use Rattle.calls.specs.declared.Counts.{Counts}
 use Rattle.calls.specs.declared.Outcome.{Outcome}
 use Rattle.calls.specs.declared.Outcome.the-variants.{Refused}
@@ -22,7 +22,7 @@ use Rattle.calls.proofs.Accepted.{solve-accepted}
 use Rattle.solve.specs.Demands.{Refines, DemandThree, DemandOne, Demands}
 use Rattle.solve.proofs.Sound.{first-sound, second-sound}
 
-module _ (c : Call) (lent : Lent) {r : Outcome} {coarse fine work : List Float} {numbers : List ℕ} (ends : Ends (solveOf passOf c lent) r coarse fine work numbers) where
+module _ (c : Call) (lent : Lent) {r : Outcome} {coarse fine work : List Float} {words : List ℕ} (ends : Ends (solveOf passOf c lent) r coarse fine work words) where
   by-rows : Refusals passOf c lent
   by-rows = refusals passOf c lent
 
@@ -35,7 +35,7 @@ module _ (c : Call) (lent : Lent) {r : Outcome} {coarse fine work : List Float} 
       (record { accepted = sym (ends .outcome) ∙ h .accepted; first = h .first; above = h .above; flags = h .flags }) in
       record { claim = claim; answer = rw (ends .coarse-left, ends .fine-left) (claim .answer) }
 
-  demand-one : DemandOne c lent r coarse fine work numbers
+  demand-one : DemandOne c lent r coarse fine work words
   demand-one = record {
     refused = refused-when;
     first-rows = λ d p. pass-rows (firstFloor c) (c .options) (c .guidance) (c .iterations) (first-sound c lent p d);
@@ -43,10 +43,10 @@ module _ (c : Call) (lent : Lent) {r : Outcome} {coarse fine work : List Float} 
         pass-rows (secondFloor c alpha) (withoutThreshold (c .options)) (extended (c .guidance) (refinedBy c alpha .cut)) (c .iterations) (second-sound c lent p d alpha f g .floor);
     second-sound = λ d p alpha f g. second-sound c lent p d alpha f g;
     no-angles = λ x h. let e = by-rows .no-angles x (sym (ends .outcome) ∙ h) in (ends .coarse-left ∙ e .0, ends .fine-left ∙ e .1);
-    untouched = λ i h. let e = by-rows .untouched i h in (ends .work-left ∙ ap (λ (l : Lent). l .work) e, ends .numbers-left ∙ ap (λ (l : Lent). l .numbers) e);
-    zeros = λ s. let e = by-rows .zeros s in (ends .work-left ∙ e .0, ends .numbers-left ∙ e .1);
+    untouched = λ i h. let e = by-rows .untouched i h in (ends .work-left ∙ ap (λ (l : Lent). l .work) e, ends .words-left ∙ ap (λ (l : Lent). l .words) e);
+    zeros = λ s. let e = by-rows .zeros s in (ends .work-left ∙ e .0, ends .words-left ∙ e .1);
     accepted = λ counts h. rw (ends .coarse-left, ends .fine-left) (solve-accepted passOf pass-facts c lent counts (sym (ends .outcome) ∙ h));
   }
 
-  pub demands : Demands c lent r coarse fine work numbers
+  pub demands : Demands c lent r coarse fine work words
   demands = record { one = demand-one; three = refining }

@@ -7,9 +7,9 @@ use mathlib.Core.List.{List}
 use lib.ListN.{length}
 use lib.Ieee.{Float}
 use Rattle.edges.specs.Numbering.{Below}
-use Rattle.pass_refusal.specs.declared.Fault.{Fault}
-use Rattle.pass_refusal.specs.declared.Stage.{Stage}
-use Rattle.pass_refusal.specs.declared.Stage.the-variants as stage
+use Rattle.refusals.specs.declared.Refusal.{Refusal}
+use Rattle.refusals.specs.declared.Stage.{Stage}
+use Rattle.refusals.specs.declared.Stage.the-variants as stage
 use Rattle.pass_options.specs.declared.Options.{Options}
 use Rattle.pass_options.specs.Options.{guidanceOf}
 use Rattle.pass_options.specs.Pass.{Passed, field, faulty}
@@ -36,7 +36,7 @@ some-triangles-fit true t = omega arith
 some-triangles-fit false t = omega arith
 
 -- two answers of one pass
-one-answer : {A : Type 0} {p : Passed} {x : Fault} {alpha : List Float} → p ≡ faulty x → p ≡ field alpha → A
+one-answer : {A : Type 0} {p : Passed} {x : Refusal} {alpha : List Float} → p ≡ faulty x → p ≡ field alpha → A
 one-answer e g = let z : _≡_ {A = ℕ} 0 1 = cc in absurd (omega arith)
 
 one-truth : {A : Type 0} {b : Bool} → b ≡ true → b ≡ false → A
@@ -67,7 +67,7 @@ module _ (points : List Float) (corners : List ℕ) (sizes angles : List Float) 
     same : SameLengths w w₁ u u₁
     same = record { all-reals = made .all-reals; all-words = made .all-words }
 
-    pub passes-refused : (x : Fault) → s ≡ stage.Refused x → {r : Found} → r ≡ toldIn 1 s → PassesMade (callFor points corners sizes angles o a) w w₁ u u₁ r
+    pub passes-refused : (x : Refusal) → s ≡ stage.Refused x → {r : Found} → r ≡ toldIn 1 s → PassesMade (callFor points corners sizes angles o a) w w₁ u u₁ r
     unfolding foundOf
     passes-refused x h told =
         let p : firstPass passOf (callFor points corners sizes angles o a) ≡ faulty x = stage-faulty _ x (sym h ∙ made .answer) in

@@ -14,7 +14,7 @@ use Rattle.mesh.specs.Mesh.{Tri, Side, All, Good, cuts, mid, refine, refined}
 use Rattle.mesh.specs.Claim.{InRange}
 use Rattle.mesh.proofs.Whole.{All-map, good-in-range}
 use Rattle.mesh.proofs.Good.{refined-good}
-use Rattle.runs.proofs.Runs.{sets-before}
+use Rattle.slices.proofs.Runs.{sets-before}
 use Rattle.edges.specs.declared.Table.{Table}
 use Rattle.edges.specs.Table.{sidesIn, endOf, cutsIn}
 use Rattle.edges.specs.Numbering.{trisFrom, Below}
@@ -34,13 +34,13 @@ use Rattle.pass_options.specs.Pass.{stageOf}
 use Rattle.pass.specs.declared.Asked.{Asked}
 use Rattle.pass.specs.Pass.{passOf}
 use Rattle.pass.proofs.Facts.{pass-facts}
-use Rattle.pass_refusal.specs.declared.Fault.{Fault}
-use Rattle.pass_refusal.specs.declared.Stage.{Stage}
-use Rattle.pass_refusal.specs.declared.Stage.the-variants as stage
+use Rattle.refusals.specs.declared.Refusal.{Refusal}
+use Rattle.refusals.specs.declared.Stage.{Stage}
+use Rattle.refusals.specs.declared.Stage.the-variants as stage
 use Rattle.pass_floor.specs.Lay.{passOver, passAt, LaidRoom, Made}
 use Rattle.calls.specs.Checks.{mostPoints, mostTriangles}
 use Rattle.calls.specs.Solve.{firstFloor, secondPass, refinedBy, refines, inPass, extended, withoutThreshold}
-use Rattle.calls.proofs.Lists.{both-good}
+use Rattle.mesh.proofs.Good.{both-good}
 use Rattle.calls.proofs.Room.{points-in}
 use Rattle.solve.specs.declared.Found.{Found}
 use Rattle.solve.specs.declared.Found.the-variants.{Once, Twice, Refused}
@@ -198,7 +198,7 @@ module _ (points : List Float) (corners : List ℕ) (sizes angles : List Float) 
         lengths : SameLengths w w′ u u′
         lengths = record { all-reals = made .all-reals; all-words = made .all-words ∙ long }
 
-        pub second-refused : (x : Fault) → s ≡ stage.Refused x → {r : Found} → r ≡ toldIn 2 s → SecondMade (callFor points corners sizes angles o a) w w′ u u′ r
+        pub second-refused : (x : Refusal) → s ≡ stage.Refused x → {r : Found} → r ≡ toldIn 2 s → SecondMade (callFor points corners sizes angles o a) w w′ u u′ r
         unfolding foundAfter
         second-refused x h told = record {
           answer = rw (some-flagged some, stage-faulty (secondPass passOf (callFor points corners sizes angles o a) (firstIn (length points / 3) w)) x (sym h ∙ answered)) (told ∙ ap (toldIn 2) h);

@@ -51,7 +51,8 @@ use Rattle.calls.specs.Checks.{Call, Lent, lengthsOf, pointsIn, trianglesIn, ta
 use Rattle.calls.specs.Solve.{firstFloor, firstPass, refinedBy, secondFloor, withoutThreshold, extended, refines}
 use Rattle.calls.specs.Claim.{Listed}
 use Rattle.calls.specs.Refusals.{Passes}
-use Rattle.calls.proofs.Lists.{both-good, counted-found}
+use Rattle.mesh.proofs.Good.{both-good}
+use Rattle.calls.proofs.Lists.{counted-found}
 use Rattle.calls.proofs.Claim.{lt-le}
 use Rattle.calls.proofs.Ready.{row-passed, sound-ready, corners-in}
 use Rattle.calls.proofs.Room.{points-in, second-points}

@@ -8,7 +8,7 @@ use mathlib.Core.List.{List}
 use lib.ListN.{length, replicate}
 use lib.Ieee.{Float}
 use Rattle.float.specs.Double.{lit}
-use Rattle.floor.specs.declared.Refusal.{Refusal as Early}
+use Rattle.refusals.specs.declared.Refusal.{Refusal}
 use Rattle.floor.specs.declared.Check.{Check}
 use Rattle.floor.specs.declared.Check.the-variants as check
 use Rattle.refinement.specs.Floor.{over}
@@ -18,7 +18,7 @@ use Rattle.calls.specs.declared.Counts.{Counts}
 use Rattle.calls.specs.declared.Outcome.{Outcome}
 use Rattle.calls.specs.declared.Outcome.the-variants as outcome
 use Rattle.calls.specs.Checks.{Call, Lent, lengthsOf, pointsIn, trianglesIn, isAdaptive, mostPoints, mostTriangles, checkSolve}
-use Rattle.calls.specs.Solve.{firstPass, secondPass, refinedBy, refines, early, Ended, afterSecond, afterFirst, solvedOnce, solveOf, Ends}
+use Rattle.calls.specs.Solve.{firstPass, secondPass, refinedBy, refines, Ended, afterSecond, afterFirst, solvedOnce, solveOf, Ends}
 use Rattle.calls.proofs.Ready.{sound-ready}
 use Rattle.calls.proofs.Room.{second-points, second-few}
 use Rattle.solve.specs.declared.Found.{Found}
@@ -29,32 +29,32 @@ use Rattle.solve.proofs.Made.{some-points-fit}
 
 module _ (c : Call) (l : Lent) where
   -- rows 1 to 18: nothing is touched
-  refused-ends : (x : Early) → checkSolve c (lengthsOf l) ≡ check.Refused x → Ends (solveOf passOf c l) (outcome.Refused (early x)) (l .coarse) (l .fine) (l .work) (l .numbers)
+  refused-ends : (x : Refusal) → checkSolve c (lengthsOf l) ≡ check.Refused x → Ends (solveOf passOf c l) (outcome.Refused x) (l .coarse) (l .fine) (l .work) (l .words)
   unfolding solveOf
-  refused-ends x e = rw e (record { outcome = refl; coarse-left = refl; fine-left = refl; work-left = refl; numbers-left = refl })
+  refused-ends x e = rw e (record { outcome = refl; coarse-left = refl; fine-left = refl; work-left = refl; words-left = refl })
 
-  pub ends-early : {k : Check} → k ≡ checkSolve c (lengthsOf l) → (x : Early) → k ≡ check.Refused x → {r : Outcome} → r ≡ toldEarly k
-      → Ends (solveOf passOf c l) r (l .coarse) (l .fine) (l .work) (l .numbers)
+  pub ends-early : {k : Check} → k ≡ checkSolve c (lengthsOf l) → (x : Refusal) → k ≡ check.Refused x → {r : Outcome} → r ≡ toldEarly k
+      → Ends (solveOf passOf c l) r (l .coarse) (l .fine) (l .work) (l .words)
   ends-early e x h told = rw (told ∙ ap toldEarly h) (refused-ends x (sym e ∙ h))
 
-  module _ (sound : checkSolve c (lengthsOf l) ≡ check.Sound) {w′ : List Float} {u′ : List ℕ} {found : Found} (made : PassesMade c (l .work) w′ (l .numbers) u′ found) where
+  module _ (sound : checkSolve c (lengthsOf l) ≡ check.Sound) {w′ : List Float} {u′ : List ℕ} {found : Found} (made : PassesMade c (l .work) w′ (l .words) u′ found) where
     module _ {coarse′ fine′ : List Float} {r : Outcome} (done : Finished found (pointsIn c) w′ (l .coarse) (l .fine) coarse′ fine′ r)
         {w″ : List Float} {u″ : List ℕ} (no-reals : w″ ≡ replicate (length w′) (lit 0)) (no-words : u″ ≡ replicate (length u′) 0) where
       reals-gone : w″ ≡ replicate (length (l .work)) (lit 0)
       reals-gone = no-reals ∙ ap (λ (k : ℕ). replicate k (lit 0)) (made .lengths .all-reals)
 
-      words-gone : u″ ≡ replicate (length (l .numbers)) 0
+      words-gone : u″ ≡ replicate (length (l .words)) 0
       words-gone = no-words ∙ ap (λ (k : ℕ). replicate k 0) (made .lengths .all-words)
 
       -- what is found decides, by cases
       ends-by : (f : Found) → found ≡ f → (e : Ended) → e .outcome ≡ outcomeOf f → e .lent .coarse ≡ coarseLeft f (pointsIn c) w′ (l .coarse) → e .lent .fine ≡ fineLeft f (pointsIn c) w′ (l .fine)
-          → e .lent .work ≡ replicate (length (l .work)) (lit 0) → e .lent .numbers ≡ replicate (length (l .numbers)) 0 → Ends e r coarse′ fine′ w″ u″
-      ends-by f is e told left-coarse left-fine left-work left-numbers = record {
+          → e .lent .work ≡ replicate (length (l .work)) (lit 0) → e .lent .words ≡ replicate (length (l .words)) 0 → Ends e r coarse′ fine′ w″ u″
+      ends-by f is e told left-coarse left-fine left-work left-words = record {
         outcome = done .outcome ∙ ap outcomeOf is ∙ sym told;
         coarse-left = done .coarse-left ∙ ap (λ (x : Found). coarseLeft x (pointsIn c) w′ (l .coarse)) is ∙ sym left-coarse;
         fine-left = done .fine-left ∙ ap (λ (x : Found). fineLeft x (pointsIn c) w′ (l .fine)) is ∙ sym left-fine;
         work-left = reals-gone ∙ sym left-work;
-        numbers-left = words-gone ∙ sym left-numbers;
+        words-left = words-gone ∙ sym left-words;
       }
 
       after-second : (alpha : List Float) → firstPass passOf c ≡ field alpha → refines c alpha ≡ true → (q : Passed) → secondPass passOf c alpha ≡ q
@@ -83,7 +83,7 @@ module _ (c : Call) (l : Lent) where
 
 -- ---- what the calls of `solve` ask for
 
-pub ready-for : (c : Call) (l : Lent) → checkSolve c (lengthsOf l) ≡ check.Sound → ReadyFor c (l .work) (l .numbers)
+pub ready-for : (c : Call) (l : Lent) → checkSolve c (lengthsOf l) ≡ check.Sound → ReadyFor c (l .work) (l .words)
 unfolding mostPoints
 ready-for c l s =
     let r = sound-ready c (lengthsOf l) s in
@@ -136,7 +136,7 @@ twice-fits c l s work e (Twice k) g =
     let few = second-few c (t .alpha) (r .whole) in
     (omega (arith, t .cut), omega (arith, t .cut))
 
-pub finish-room : (c : Call) (l : Lent) → checkSolve c (lengthsOf l) ≡ check.Sound → {w′ : List Float} {u′ : List ℕ} {found : Found} → PassesMade c (l .work) w′ (l .numbers) u′ found
+pub finish-room : (c : Call) (l : Lent) → checkSolve c (lengthsOf l) ≡ check.Sound → {w′ : List Float} {u′ : List ℕ} {found : Found} → PassesMade c (l .work) w′ (l .words) u′ found
     → FinishRoom found (pointsIn c) (length w′) (length (l .coarse)) (length (l .fine))
 finish-room c l s {w′} {u′} {found} made =
     let r = sound-ready c (lengthsOf l) s in

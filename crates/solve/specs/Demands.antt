@@ -1,4 +1,4 @@
--- What is owed of a whole solve, as claims on what the function `solve` answers and leaves: r is its outcome, coarse, fine, work and numbers are the lent
+-- What is owed of a whole solve, as claims on what the function `solve` answers and leaves: r is its outcome, coarse, fine, work and words are the lent
 -- slices as they are when it returns. Proved in proofs/Demands of everything that meets the contract of `solve`. Definitions only.
 use Prim.Native.Nat.{ℕ}
 use mathlib.Core.Path.{_≡_}
@@ -13,7 +13,7 @@ use Rattle.pass_options.specs.Table.{FirstHolds}
 use Rattle.pass_options.specs.Pass.{field}
 use Rattle.pass.specs.Pass.{passOf}
 use Rattle.pass.specs.Rows.{PassRows}
-use Rattle.calls.specs.declared.Refusal.{Refusal}
+use Rattle.refusals.specs.declared.Refusal.{Refusal}
 use Rattle.calls.specs.declared.Counts.{Counts}
 use Rattle.calls.specs.declared.Outcome.{Outcome}
 use Rattle.calls.specs.declared.Outcome.the-variants.{Solved, Refused}
@@ -38,7 +38,7 @@ pub record DemandThree (c : Call) (lent : Lent) (counts : Counts) (alpha coarse 
   pub answer : answerPart (pointsIn c) (counts .flagged) coarse fine ≡ take (pointsIn c) (claim .beta)
 
 -- demand 1, of a call whose outcome is r: "every solve ends in a field or in a refusal with its number and place from document 01's table"
-pub record DemandOne (c : Call) (lent : Lent) (r : Outcome) (coarse fine work : List Float) (numbers : List ℕ) : Type 0 where
+pub record DemandOne (c : Call) (lent : Lent) (r : Outcome) (coarse fine work : List Float) (words : List ℕ) : Type 0 where
   -- a refusal is given exactly if its row holds and no earlier one does: rows 1 to 18 by the table, and each pass's rows 19 to 24 ..
   pub refused : (x : Refusal) → (r ≡ Refused x) ↔ RefusedBy passOf c lent x
   -- .. in the table's words, over the floors that the checks and the first pass leave
@@ -50,11 +50,11 @@ pub record DemandOne (c : Call) (lent : Lent) (r : Outcome) (coarse fine work : 
   -- "a refusal leaves the answer slices untouched"
   pub no-angles : (x : Refusal) → r ≡ Refused x → (coarse ≡ lent .coarse) × (fine ≡ lent .fine)
   -- "through row 18 work is untouched; later, accepted or refused, all of it ends as zeros"
-  pub untouched : (i : ℕ) → FirstHolds (table c (lengthsOf lent)) i → (work ≡ lent .work) × (numbers ≡ lent .numbers)
-  pub zeros : Passes c lent → (work ≡ replicate (length (lent .work)) (lit 0)) × (numbers ≡ replicate (length (lent .numbers)) 0)
+  pub untouched : (i : ℕ) → FirstHolds (table c (lengthsOf lent)) i → (work ≡ lent .work) × (words ≡ lent .words)
+  pub zeros : Passes c lent → (work ≡ replicate (length (lent .work)) (lit 0)) × (words ≡ replicate (length (lent .words)) 0)
   -- an accepted solve gives the first pass's field, and the second's where it refines
   pub accepted : (counts : Counts) → r ≡ Solved counts → Accepted passOf c lent counts coarse fine
 
-pub record Demands (c : Call) (lent : Lent) (r : Outcome) (coarse fine work : List Float) (numbers : List ℕ) : Type 0 where
-  pub one : DemandOne c lent r coarse fine work numbers
+pub record Demands (c : Call) (lent : Lent) (r : Outcome) (coarse fine work : List Float) (words : List ℕ) : Type 0 where
+  pub one : DemandOne c lent r coarse fine work words
   pub three : (counts : Counts) (alpha : List Float) → Refines c r counts alpha → DemandThree c lent counts alpha coarse fine

@@ -12,11 +12,12 @@ use Rattle.mesh.specs.Mesh.{cuts, marked}
 use Rattle.edges.specs.Table.{Held, sidesIn}
 use Rattle.floor.specs.declared.Check.{Check}
 use Rattle.floor.specs.declared.Check.the-variants as check
+use Rattle.floor.specs.Checks.{MOST-TRIANGLES}
 use Rattle.refinement.specs.declared.Cut.{Cut}
 use Rattle.refinement.specs.Flag.{flaggedTri}
 use Rattle.refinement.specs.Floor.{trisOf, over}
-use Rattle.pass_refusal.specs.declared.Stage.{Stage}
-use Rattle.pass_refusal.specs.declared.Stage.the-variants as stage
+use Rattle.refusals.specs.declared.Stage.{Stage}
+use Rattle.refusals.specs.declared.Stage.the-variants as stage
 use Rattle.pass_options.specs.declared.Options.{Options}
 use Rattle.pass_options.specs.Pass.{Passed, field, faulty}
 use Rattle.pass.specs.declared.Asked.{Asked}
@@ -26,7 +27,7 @@ use Rattle.calls.specs.declared.Lengths.{Lengths}
 use Rattle.calls.specs.declared.Outcome.{Outcome}
 use Rattle.calls.specs.declared.Outcome.the-variants as outcome
 use Rattle.calls.specs.Checks.{Call, Lent, callOf, pointsIn, trianglesIn, isAdaptive, Ready}
-use Rattle.calls.specs.Solve.{firstPass, secondPass, refinedBy, refines, early, inPass}
+use Rattle.calls.specs.Solve.{firstPass, secondPass, refinedBy, refines, inPass}
 use Rattle.solve.specs.declared.Found.{Found}
 use Rattle.solve.specs.declared.Found.the-variants.{Once, Twice, Refused}
 
@@ -34,11 +35,11 @@ use Rattle.solve.specs.declared.Found.the-variants.{Once, Twice, Refused
 
 -- as a call
 abbrev pub callFor : List Float → List ℕ → List Float → List Float → Options → Asked → Call
-callFor points corners sizes angles o a = callOf points corners sizes o (a .guided) (a .weight) angles (a .iterations)
+callFor points corners sizes guidance o a = callOf points corners sizes o (a .guided) (a .weight) guidance (a .iterations)
 
 -- as the slices that it is lent
 abbrev pub lent : List Float → List Float → List Float → List ℕ → Lent
-lent coarse fine work numbers = record { coarse = coarse; fine = fine; work = work; numbers = numbers }
+lent coarse fine work words = record { coarse = coarse; fine = fine; work = work; words = words }
 
 -- what the second pass is asked for: "the Rust drops guidance whose weight is not above 0"
 abbrev pub again : Asked → Asked
@@ -46,7 +47,7 @@ again a = record { guided = a .guided && lt (lit 0) (a .weight); weight = a .wei
 
 -- a call that passed rows 1 to 18 with these work slices; its angle slices are as long as they need be
 abbrev pub lengthsFor : Call → ℕ → ℕ → Lengths
-lengthsFor c work numbers = record { coarse = pointsIn c; fine = pointsIn c + 3 * trianglesIn c; work = work; numbers = numbers }
+lengthsFor c work words = record { coarse = pointsIn c; fine = pointsIn c + 3 * trianglesIn c; work = work; words = words }
 
 abbrev pub ReadyFor : Call → List Float → List ℕ → Type 0
 ReadyFor c w u = Ready c (lengthsFor c (length w) (length u))
@@ -56,7 +57,7 @@ ReadyFor c w u = Ready c (lengthsFor c (length w) (length u))
 -- what checks and a pass that refused stand for; where they did not, nothing is told
 abbrev pub toldEarly : Check → Outcome
 toldEarly check.Sound = outcome.Solved (record { flagged = 0; cut = 0 })
-toldEarly (check.Refused x) = outcome.Refused (early x)
+toldEarly (check.Refused x) = outcome.Refused x
 
 abbrev pub toldIn : ℕ → Stage → Found
 toldIn k stage.Done = Once
@@ -109,12 +110,12 @@ pub record SameLengths (w w′ : List Float) (u u′ : List ℕ) : Type 0 where
 -- ---- the cut sides, in a table at the front of the u32 work: a bucket a point, and room for three sides a triangle behind them
 
 -- of the lengths of the triangle and the work slices, with n points
-pub record CutRoom (corners n work numbers : ℕ) : Type 0 where
+pub record CutRoom (corners n work words : ℕ) : Type 0 where
   pub some : 0 < n
   pub few-buckets : n ≤ 2 ^ 32
-  pub few : corners / 3 ≤ 32768
+  pub few : corners / 3 ≤ MOST-TRIANGLES
   pub angles-in : n ≤ work
-  pub table-in : n + 12 * (corners / 3) ≤ numbers
+  pub table-in : n + 12 * (corners / 3) ≤ words
 
 -- the sides that the angles at the front of w cut stand in the table; all behind it is as it was
 pub record CutsBy (corners : List ℕ) (n : ℕ) (threshold : Float) (w : List Float) (u u′ : List ℕ) (r : Cut) : Type 0 where

@@ -12,7 +12,8 @@ use Rattle.mesh.specs.Mesh.{cuts, mid, refined, refine}
 use Rattle.mesh.proofs.Most.{cuts-most}
 use Rattle.floor.specs.declared.Check.{Check}
 use Rattle.floor.specs.declared.Check.the-variants.{Sound, Refused}
-use Rattle.floor.specs.Checks.{row, wellFormed, notFiniteOrBelowZero, andThen, checkFloor}
+use Rattle.refusals.specs.Refusal.{row}
+use Rattle.floor.specs.Checks.{wellFormed, notFiniteOrBelowZero, andThen, checkFloor}
 use Rattle.refinement.specs.Flag.{flaggedTri}
 use Rattle.refinement.specs.Floor.{Refined, refinementOf, trisOf, cornersOf, endsOf}
 use Rattle.refine_call.specs.declared.Answer.{Answer}

@@ -14,5 +14,8 @@ use Rattle.text_answer.specs.Listing.{given, expected}
 use Rattle.text_answer.specs.Printed.{accepted, printed}
 
 pub listing : printed given ≡ expected
-unfolding given expected printed accepted isText isHead isLine isCorners every scan step afterBlank afterMinus isLead isDigit pointsUpTo anglesUpTo cornersUpTo checkFloor lowest badPoint badSize badCorner notPositive notFiniteOrBelowZero refinementOf tris flaggedTri flagged variation turnAlong marked cuts sidesAfter metAll met indexIn key refine mid morePoints midpoints moreSizes midSizes linesOf triangleLines sideLines lineOf columnsOf inSix lead ofInt add sub mul div rem neg le lt ne eq mag ofBits
+unfolding given expected printed accepted isText isHead isLine isCorners every scan step afterBlank afterMinus isLead isDigit pointsUpTo
+    anglesUpTo cornersUpTo checkFloor lowest badPoint badSize badCorner notPositive notFiniteOrBelowZero refinementOf tris flaggedTri flagged
+    variation turnAlong marked cuts sidesAfter metAll met indexIn key refine mid morePoints midpoints moreSizes midSizes linesOf triangleLines
+    sideLines lineOf columnsOf inSix lead ofInt add sub mul div rem neg le lt ne eq mag ofBits
 listing = refl

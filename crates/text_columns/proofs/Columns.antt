@@ -13,7 +13,7 @@ use lib.Seq.{sets, take-suc, length-take-le}
 use Rattle.text_columns.specs.declared.Scan.{Scan}
 use Rattle.text_columns.specs.declared.Scan.the-variants.{Blank, Minus, Zero, Whole, Negative, Bad}
 use Rattle.text_columns.specs.Columns.{lead, inSix, columnOf, columnsOf, lineOf, blankOrDigit, isLead, isDigit, afterBlank, afterMinus, step, scan, sizeOf}
-use Rattle.runs.proofs.Runs.{sets-next}
+use Rattle.slices.proofs.Runs.{sets-next}
 
 -- ---- tests
 

@@ -13,7 +13,7 @@ use lib.Ieee.{Float}
 use Rattle.float.specs.Double.{lit}
 use Rattle.text_columns.specs.Columns.{isWhole, sizeOf, doubleOf}
 use Rattle.text_columns.proofs.Columns.{few, and-both}
-use Rattle.runs.proofs.Runs.{sets-next}
+use Rattle.slices.proofs.Runs.{sets-next}
 use Rattle.text_floor.specs.Text.{columnAt, first, second, third, isLine, every, pointCount, triangleCount, isHead, isText, radians, pointsUpTo, anglesUpTo, cornersUpTo, thresholdIn, ReadTo}
 use Rattle.text_floor.specs.declared.Read.the-variants.{Floor, Other}
 

@@ -12,7 +12,7 @@ use Rattle.refinement.proofs.Triangles.{tris-length}
 use Rattle.refine_call.specs.declared.Counts.{Counts}
 use Rattle.text_columns.specs.Columns.{lineOf}
 use Rattle.text_columns.proofs.Columns.{line-length}
-use Rattle.runs.proofs.Runs.{sets-next}
+use Rattle.slices.proofs.Runs.{sets-next}
 use Rattle.text_lines.specs.Lines.{triangleLines, sideLines, linesOf, sidesUpTo}
 use Rattle.text_lines.specs.Lines.{lineAt, sideAt}
 

@@ -5,19 +5,15 @@ use borrow.Author.Needs.{needs}
 use Rattle.arctangent.proofs.at_infinity.Statement.{statement}
 use Rattle.arctangent.proofs.at_infinity.Tie as tie
 
-switch-of-requires : tie.Need-switch-of-requires
-switch-of-requires c κs = search needs
-
 returns : tie.Need-returns
 unfolding atInfinity
 returns c = simp (eq-eqb _ _ (c .before .if1 .taken), c .switch-of .ensures)
-
-switch-of-requires-2 : tie.Need-switch-of-requires-2
-switch-of-requires-2 c κs = search needs
 
 returns-2 : tie.Need-returns-2
 unfolding atInfinity
 returns-2 c = simp (ne-eqb _ _ (c .before .if1 .left), c .switch-of2 .ensures)
 
 pub at-infinity-spec : {M : Type 1} → statement M
-at-infinity-spec = tie.close (tie.spec switch-of-requires returns switch-of-requires-2 returns-2)
+at-infinity-spec =
+    tie.close
+    (tie.spec (λ c κs. search needs) returns (λ c κs. search needs) returns-2)

@@ -5,18 +5,9 @@ use borrow.Author.Needs.{needs}
 use Rattle.arctangent.proofs.atan.Statement.{statement}
 use Rattle.arctangent.proofs.atan.Tie as tie
 
-high-word-requires : tie.Need-high-word-requires
-high-word-requires c κs = search needs
-
-is-nan-requires : tie.Need-is-nan-requires
-is-nan-requires c κs = search needs
-
 returns : tie.Need-returns
 unfolding atanOf
 returns c = simp (← c .before .before .before .high-word .ensures, le-leb _ _ (c .before .before .if1 .taken), ← c .before .is-nan .ensures, c .if2 .taken)
-
-sign-bit-requires : tie.Need-sign-bit-requires
-sign-bit-requires c κs = search needs
 
 returns-2 : tie.Need-returns-2
 unfolding atanOf
@@ -30,45 +21,40 @@ returns-4 : tie.Need-returns-4
 unfolding atanOf
 returns-4 c = simp (← c .before .before .before .high-word .ensures, lt-leb _ _ (c .before .before .if1 .left), lt-ltb _ _ (c .before .if4 .taken), lt-ltb _ _ (c .if5 .taken))
 
-atan-tail-requires : tie.Need-atan-tail-requires
-atan-tail-requires c κs = search needs
-
 returns-5 : tie.Need-returns-5
 unfolding atanOf
 returns-5 c = simp (← c .before .before .before .before .high-word .ensures, lt-leb _ _ (c .before .before .before .if1 .left), lt-ltb _ _ (c .before .before .if4 .taken), le-ltb _ _ (c .before .if5 .left), c .atan-tail .ensures)
 
-abs-requires : tie.Need-abs-requires
-abs-requires c κs = search needs
-
-atan-size-requires : tie.Need-atan-size-requires
-atan-size-requires c κs = search needs
-
-sign-bit-requires-2 : tie.Need-sign-bit-requires-2
-sign-bit-requires-2 c κs = search needs
-
 returns-6 : tie.Need-returns-6
 unfolding atanOf
-returns-6 c = simp (← c .before .before .before .before .before .before .high-word .ensures, lt-leb _ _ (c .before .before .before .before .before .if1 .left), le-ltb _ _ (c .before .before .before .before .if4 .left), ← c .before .before .before .abs .ensures, c .before .before .atan-size .ensures, ← c .before .sign-bit2 .ensures, eq-eqb _ _ (c .if6 .taken))
+returns-6 c =
+    simp (
+      ← c .before .before .before .before .before .before .high-word .ensures,
+      lt-leb _ _ (c .before .before .before .before .before .if1 .left),
+      le-ltb _ _ (c .before .before .before .before .if4 .left),
+      ← c .before .before .before .abs .ensures,
+      c .before .before .atan-size .ensures,
+      ←
+          c .before .sign-bit2 .ensures,
+      eq-eqb _ _ (c .if6 .taken),
+    )
 
 returns-7 : tie.Need-returns-7
 unfolding atanOf
-returns-7 c = simp (← c .before .before .before .before .before .before .high-word .ensures, lt-leb _ _ (c .before .before .before .before .before .if1 .left), le-ltb _ _ (c .before .before .before .before .if4 .left), ← c .before .before .before .abs .ensures, c .before .before .atan-size .ensures, ← c .before .sign-bit2 .ensures, ne-eqb _ _ (c .if6 .left))
+returns-7 c =
+    simp (
+      ← c .before .before .before .before .before .before .high-word .ensures,
+      lt-leb _ _ (c .before .before .before .before .before .if1 .left),
+      le-ltb _ _ (c .before .before .before .before .if4 .left),
+      ← c .before .before .before .abs .ensures,
+      c .before .before .atan-size .ensures,
+      ←
+          c .before .sign-bit2 .ensures,
+      ne-eqb _ _ (c .if6 .left),
+    )
 
 pub atan-spec : {M : Type 1} → statement M
 atan-spec =
     tie.close
-    (tie.spec
-    high-word-requires
-    is-nan-requires
-    returns
-    sign-bit-requires
-    returns-2
-    returns-3
-    returns-4
-    atan-tail-requires
-    returns-5
-    abs-requires
-    atan-size-requires
-    sign-bit-requires-2
-    returns-6
-    returns-7)
+    (tie.spec (λ c κs. search needs) (λ c κs. search needs) returns (λ c κs. search needs) returns-2 returns-3 returns-4 (λ c κs. search needs)
+    returns-5 (λ c κs. search needs) (λ c κs. search needs) (λ c κs. search needs) returns-6 returns-7)

@@ -4,12 +4,11 @@ use borrow.Author.Needs.{needs}
 use Rattle.arctangent.proofs.atan_near.Statement.{statement}
 use Rattle.arctangent.proofs.atan_near.Tie as tie
 
-atan-tail-requires : tie.Need-atan-tail-requires
-atan-tail-requires c κs = search needs
-
 returns : tie.Need-returns
 unfolding atanNear
 returns c = simp (c .atan-tail .ensures)
 
 pub atan-near-spec : {M : Type 1} → statement M
-atan-near-spec = tie.close (tie.spec atan-tail-requires returns)
+atan-near-spec =
+    tie.close
+    (tie.spec (λ c κs. search needs) returns)

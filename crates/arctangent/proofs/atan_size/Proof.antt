@@ -5,29 +5,17 @@ use borrow.Author.Needs.{needs}
 use Rattle.arctangent.proofs.atan_size.Statement.{statement}
 use Rattle.arctangent.proofs.atan_size.Tie as tie
 
-atan-near-requires : tie.Need-atan-near-requires
-atan-near-requires c κs = search needs
-
 returns : tie.Need-returns
 unfolding atanSize
 returns c = simp (lt-ltb _ _ (c .before .if1 .taken), c .atan-near .ensures)
-
-atan-near-requires-2 : tie.Need-atan-near-requires-2
-atan-near-requires-2 c κs = search needs
 
 returns-2 : tie.Need-returns-2
 unfolding atanSize
 returns-2 c = simp (le-ltb _ _ (c .before .before .if1 .left), lt-ltb _ _ (c .before .if2 .taken), c .atan-near2 .ensures)
 
-atan-near-requires-3 : tie.Need-atan-near-requires-3
-atan-near-requires-3 c κs = search needs
-
 returns-3 : tie.Need-returns-3
 unfolding atanSize
 returns-3 c = simp (le-ltb _ _ (c .before .before .before .if1 .left), le-ltb _ _ (c .before .before .if2 .left), lt-ltb _ _ (c .before .if3 .taken), c .atan-near3 .ensures)
-
-atan-near-requires-4 : tie.Need-atan-near-requires-4
-atan-near-requires-4 c κs = search needs
 
 returns-4 : tie.Need-returns-4
 unfolding atanSize
@@ -36,12 +24,4 @@ returns-4 c = simp (le-ltb _ _ (c .before .before .before .if1 .left), le-ltb _ 
 pub atan-size-spec : {M : Type 1} → statement M
 atan-size-spec =
     tie.close
-    (tie.spec
-    atan-near-requires
-    returns
-    atan-near-requires-2
-    returns-2
-    atan-near-requires-3
-    returns-3
-    atan-near-requires-4
-    returns-4)
+    (tie.spec (λ c κs. search needs) returns (λ c κs. search needs) returns-2 (λ c κs. search needs) returns-3 (λ c κs. search needs) returns-4)

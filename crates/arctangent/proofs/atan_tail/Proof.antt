@@ -9,4 +9,6 @@ unfolding atanTail
 returns c = refl
 
 pub atan-tail-spec : {M : Type 1} → statement M
-atan-tail-spec = tie.close (tie.spec returns)
+atan-tail-spec =
+    tie.close
+    (tie.spec returns)

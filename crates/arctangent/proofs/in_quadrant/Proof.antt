@@ -7,12 +7,11 @@ use borrow.Author.Needs.{needs}
 use Rattle.arctangent.proofs.in_quadrant.Statement.{statement}
 use Rattle.arctangent.proofs.in_quadrant.Tie as tie
 
-switch-of-requires : tie.Need-switch-of-requires
-switch-of-requires c κs = search needs
-
 returns : tie.Need-returns
 unfolding inQuadrant
 returns c = simp (c .switch-of .ensures, sign-turned (c .before .args .z) (subst T (sym (c .before .good .1 .0 .1)) tt))
 
 pub in-quadrant-spec : {M : Type 1} → statement M
-in-quadrant-spec = tie.close (tie.spec switch-of-requires returns)
+in-quadrant-spec =
+    tie.close
+    (tie.spec (λ c κs. search needs) returns)

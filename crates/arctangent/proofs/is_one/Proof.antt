@@ -3,11 +3,10 @@ use borrow.Author.Needs.{needs}
 use Rattle.arctangent.proofs.is_one.Statement.{statement}
 use Rattle.arctangent.proofs.is_one.Tie as tie
 
-bits-requires : tie.Need-bits-requires
-bits-requires c κs = search needs
-
 returns : tie.Need-returns
 returns c = rw (c .bits .ensures)
 
 pub is-one-spec : {M : Type 1} → statement M
-is-one-spec = tie.close (tie.spec bits-requires returns)
+is-one-spec =
+    tie.close
+    (tie.spec (λ c κs. search needs) returns)

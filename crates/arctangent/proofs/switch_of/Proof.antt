@@ -16,4 +16,6 @@ returns-4 : tie.Need-returns-4
 returns-4 c = simp (ne-eqb _ _ (c .before .before .if1 .left), ne-eqb _ _ (c .before .if2 .left), ne-eqb _ _ (c .if3 .left))
 
 pub switch-of-spec : {M : Type 1} → statement M
-switch-of-spec = tie.close (tie.spec returns returns-2 returns-3 returns-4)
+switch-of-spec =
+    tie.close
+    (tie.spec returns returns-2 returns-3 returns-4)

@@ -4,9 +4,6 @@ use borrow.Author.Needs.{needs}
 use Rattle.arctangent.proofs.upright_of.Statement.{statement}
 use Rattle.arctangent.proofs.upright_of.Tie as tie
 
-sign-bit-requires : tie.Need-sign-bit-requires
-sign-bit-requires c κs = search needs
-
 returns : tie.Need-returns
 returns c = simp (← c .before .sign-bit .ensures, eq-eqb _ _ (c .if1 .taken))
 
@@ -14,4 +11,6 @@ returns-2 : tie.Need-returns-2
 returns-2 c = simp (← c .before .sign-bit .ensures, ne-eqb _ _ (c .if1 .left))
 
 pub upright-of-spec : {M : Type 1} → statement M
-upright-of-spec = tie.close (tie.spec sign-bit-requires returns returns-2)
+upright-of-spec =
+    tie.close
+    (tie.spec (λ c κs. search needs) returns returns-2)

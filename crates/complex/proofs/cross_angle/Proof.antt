@@ -6,12 +6,6 @@ use borrow.Author.Needs.{needs}
 use Rattle.complex.proofs.cross_angle.Statement.{statement}
 use Rattle.complex.proofs.cross_angle.Tie as tie
 
-argument-requires : tie.Need-argument-requires
-argument-requires c κs = search needs
-
-rem-euclid-requires : tie.Need-rem-euclid-requires
-rem-euclid-requires c κs = search needs
-
 returns : tie.Need-returns
 unfolding crossAngle inRange
 returns c = crossed (c .before .before .before .before .args .value) (c .before .before .rem-euclid .result) (simp (← c .before .before .before .argument .ensures, ← c .before .before .rem-euclid .ensures, c .before .if1 .taken, c .if2 .taken))
@@ -26,4 +20,5 @@ returns-3 c = crossed (c .before .before .before .args .value) (lit 0) (simp (�
 
 pub cross-angle-spec : {M : Type 1} → statement M
 cross-angle-spec =
-    tie.close (tie.spec argument-requires rem-euclid-requires returns returns-2 returns-3)
+    tie.close
+    (tie.spec (λ c κs. search needs) (λ c κs. search needs) returns returns-2 returns-3)

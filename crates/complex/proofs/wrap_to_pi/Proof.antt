@@ -6,9 +6,6 @@ use borrow.Author.Needs.{needs}
 use Rattle.complex.proofs.wrap_to_pi.Statement.{statement}
 use Rattle.complex.proofs.wrap_to_pi.Tie as tie
 
-rem-euclid-requires : tie.Need-rem-euclid-requires
-rem-euclid-requires c κs = search needs
-
 returns : tie.Need-returns
 unfolding wrapToPi unwound
 returns c = wrapped-from (c .before .before .args .angle) (c .before .rem-euclid .result ⊖ PI ⊕ TAU) (simp (← c .before .rem-euclid .ensures, c .if1 .taken))
@@ -18,4 +15,6 @@ unfolding wrapToPi unwound
 returns-2 c = wrapped-from (c .before .before .args .angle) (c .before .rem-euclid .result ⊖ PI) (simp (← c .before .rem-euclid .ensures, c .if1 .left))
 
 pub wrap-to-pi-spec : {M : Type 1} → statement M
-wrap-to-pi-spec = tie.close (tie.spec rem-euclid-requires returns returns-2)
+wrap-to-pi-spec =
+    tie.close
+    (tie.spec (λ c κs. search needs) returns returns-2)

@@ -10,4 +10,6 @@ returns-2 : tie.Need-returns-2
 returns-2 c = rw (ne-eqb (c .before .args .a) (c .before .args .c) (c .if1 .left))
 
 pub same-side-spec : {M : Type 1} → statement M
-same-side-spec = tie.close (tie.spec returns returns-2)
+same-side-spec =
+    tie.close
+    (tie.spec returns returns-2)

@@ -6,17 +6,13 @@ use Rattle.edges.specs.Table.{slotOf}
 use Rattle.edges.proofs.slot.Statement.{statement}
 use Rattle.edges.proofs.slot.Tie as tie
 
-index-requires : tie.Need-index-requires
-index-requires c κs = search needs
-
 returns : tie.Need-returns
 returns c = let e = c .before .index .ensures in (unfold slotOf in rw (lt-ltb _ _ (rw e at (c .if1 .taken)), e), c .if1 .taken)
-
-rem-result : tie.Need-rem-result
-rem-result c = search needs
 
 returns-2 : tie.Need-returns-2
 returns-2 c = let e = c .before .index .ensures in (unfold slotOf in rw (le-ltb _ _ (rw e at (c .if1 .left)), e), mod-lt _ (c .before .before .pre))
 
 pub slot-spec : {M : Type 1} → statement M
-slot-spec = tie.close (tie.spec index-requires returns rem-result returns-2)
+slot-spec =
+    tie.close
+    (tie.spec (λ c κs. search needs) returns (λ c. search needs) returns-2)

@@ -22,4 +22,6 @@ returns-2 : tie.Need-returns-2
 returns-2 c = abs-bits (c .before .args .x) (held (c .before))
 
 pub abs-spec : {M : Type 1} → statement M
-abs-spec = tie.close (tie.spec returns float-to-bits-result float-from-bits-result returns-2)
+abs-spec =
+    tie.close
+    (tie.spec returns float-to-bits-result float-from-bits-result returns-2)

@@ -14,4 +14,6 @@ returns-2 : tie.Need-returns-2
 returns-2 c = search needs
 
 pub bits-spec : {M : Type 1} → statement M
-bits-spec = tie.close (tie.spec returns float-to-bits-result returns-2)
+bits-spec =
+    tie.close
+    (tie.spec returns float-to-bits-result returns-2)

@@ -14,4 +14,6 @@ returns-2 : tie.Need-returns-2
 returns-2 c = search needs
 
 pub from-bits-spec : {M : Type 1} → statement M
-from-bits-spec = tie.close (tie.spec returns float-from-bits-result returns-2)
+from-bits-spec =
+    tie.close
+    (tie.spec returns float-from-bits-result returns-2)

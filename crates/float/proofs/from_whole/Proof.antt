@@ -19,17 +19,11 @@ held : (n : ℕ) → n < 0x20_0000_0000_0000 → T (inFloat binary64 (toZ w64 n)
 unfolding inFloat
 held n h = let g : n ≤ 2 ^ 53 = omega arith in subst T (sym (ap (inFloat binary64) (stays n h) ∙ le-leb n (2 ^ 53) g)) tt
 
-cast-result : tie.Need-cast-result
-cast-result c = search needs
-
 int-to-float-result : tie.Need-int-to-float-result
 int-to-float-result c = held (c .before .before .args .n) (c .before .if1 .taken)
 
 returns : tie.Need-returns
 returns c = ap (ofInt binary64) (stays (c .before .before .args .n) (c .before .if1 .taken))
-
-nearest-u64-to-f64-requires : tie.Need-nearest-u64-to-f64-requires
-nearest-u64-to-f64-requires c κs = search needs
 
 returns-2 : tie.Need-returns-2
 returns-2 c = search needs
@@ -37,4 +31,4 @@ returns-2 c = search needs
 pub from-whole-spec : {M : Type 1} → statement M
 from-whole-spec =
     tie.close
-    (tie.spec cast-result int-to-float-result returns nearest-u64-to-f64-requires returns-2)
+    (tie.spec (λ c. search needs) int-to-float-result returns (λ c κs. search needs) returns-2)

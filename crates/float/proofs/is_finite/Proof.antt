@@ -4,11 +4,10 @@ use Rattle.float.proofs.Facts.{finite-is}
 use Rattle.float.proofs.is_finite.Statement.{statement}
 use Rattle.float.proofs.is_finite.Tie as tie
 
-abs-requires : tie.Need-abs-requires
-abs-requires c κs = search needs
-
 returns : tie.Need-returns
 returns c = rw (c .abs .ensures) (finite-is (c .before .args .x))
 
 pub is-finite-spec : {M : Type 1} → statement M
-is-finite-spec = tie.close (tie.spec abs-requires returns)
+is-finite-spec =
+    tie.close
+    (tie.spec (λ c κs. search needs) returns)

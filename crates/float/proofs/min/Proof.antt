@@ -12,4 +12,6 @@ returns-3 : tie.Need-returns-3
 returns-3 c = simp (c .before .if1 .left, c .if2 .left)
 
 pub min-spec : {M : Type 1} → statement M
-min-spec = tie.close (tie.spec returns returns-2 returns-3)
+min-spec =
+    tie.close
+    (tie.spec returns returns-2 returns-3)

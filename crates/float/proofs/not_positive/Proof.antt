@@ -4,9 +4,6 @@ use borrow.Author.Needs.{needs}
 use Rattle.float.proofs.not_positive.Statement.{statement}
 use Rattle.float.proofs.not_positive.Tie as tie
 
-is-finite-requires : tie.Need-is-finite-requires
-is-finite-requires c κs = search needs
-
 returns : tie.Need-returns
 unfolding notPositive
 returns c = rw (← c .before .is-finite .ensures, c .if1 .taken)
@@ -16,4 +13,6 @@ unfolding notPositive
 returns-2 c = rw (← c .before .is-finite .ensures, c .if1 .left)
 
 pub not-positive-spec : {M : Type 1} → statement M
-not-positive-spec = tie.close (tie.spec is-finite-requires returns returns-2)
+not-positive-spec =
+    tie.close
+    (tie.spec (λ c κs. search needs) returns returns-2)

@@ -9,12 +9,6 @@ use Rattle.float.proofs.Own.{rem-small}
 use Rattle.float.proofs.rem_euclid.Statement.{statement}
 use Rattle.float.proofs.rem_euclid.Tie as tie
 
-abs-requires : tie.Need-abs-requires
-abs-requires c κs = search needs
-
-abs-requires-2 : tie.Need-abs-requires-2
-abs-requires-2 c κs = search needs
-
 -- where |x| is below |y|
 itself : (c : tie.Start) (a b : Float) → a ≡ mag (c .args .x) → b ≡ mag (c .args .y) → lt a b ≡ true → rem binary64 (c .args .x) (c .args .y) ≡ c .args .x
 itself c a b e g h = rem-small (c .args .x) (c .args .y) (subst T (sym (c .good .0 .1)) tt) (rw (e, g) at h)
@@ -32,4 +26,6 @@ returns-4 : tie.Need-returns-4
 returns-4 c = simp (c .if3 .left)
 
 pub rem-euclid-spec : {M : Type 1} → statement M
-rem-euclid-spec = tie.close (tie.spec abs-requires abs-requires-2 returns returns-2 returns-3 returns-4)
+rem-euclid-spec =
+    tie.close
+    (tie.spec (λ c κs. search needs) (λ c κs. search needs) returns returns-2 returns-3 returns-4)

@@ -8,12 +8,6 @@ returns : tie.Need-returns
 unfolding roundAway
 returns c = simp (c .if1 .taken)
 
-abs-requires : tie.Need-abs-requires
-abs-requires c κs = search needs
-
-round-size-requires : tie.Need-round-size-requires
-round-size-requires c κs = search needs
-
 returns-2 : tie.Need-returns-2
 unfolding roundAway
 returns-2 c = simp (c .before .before .before .before .if1 .left, ← c .before .before .before .abs .ensures, c .before .before .if2 .taken, c .before .round-size .ensures, c .if3 .taken)
@@ -28,4 +22,5 @@ returns-4 c = simp (c .before .before .if1 .left, ← c .before .abs .ensures, c
 
 pub round-spec : {M : Type 1} → statement M
 round-spec =
-    tie.close (tie.spec returns abs-requires round-size-requires returns-2 returns-3 returns-4)
+    tie.close
+    (tie.spec returns (λ c κs. search needs) (λ c κs. search needs) returns-2 returns-3 returns-4)

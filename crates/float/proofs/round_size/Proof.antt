@@ -4,12 +4,6 @@ use borrow.Author.Needs.{needs}
 use Rattle.float.proofs.round_size.Statement.{statement}
 use Rattle.float.proofs.round_size.Tie as tie
 
-whole-requires : tie.Need-whole-requires
-whole-requires c κs = search needs
-
-from-whole-requires : tie.Need-from-whole-requires
-from-whole-requires c κs = search needs
-
 returns : tie.Need-returns
 unfolding roundSize
 returns c = simp (← c .before .before .whole .ensures, ← c .before .from-whole .ensures, c .if1 .taken)
@@ -19,4 +13,6 @@ unfolding roundSize
 returns-2 c = simp (← c .before .before .whole .ensures, ← c .before .from-whole .ensures, c .if1 .left)
 
 pub round-size-spec : {M : Type 1} → statement M
-round-size-spec = tie.close (tie.spec whole-requires from-whole-requires returns returns-2)
+round-size-spec =
+    tie.close
+    (tie.spec (λ c κs. search needs) (λ c κs. search needs) returns returns-2)

@@ -21,4 +21,6 @@ returns-3 : tie.Need-returns-3
 returns-3 c = not-above (c .before .args .x) (c .if1 .left)
 
 pub whole-spec : {M : Type 1} → statement M
-whole-spec = tie.close (tie.spec truncating-f64-to-u64-requires returns returns-2 returns-3)
+whole-spec =
+    tie.close
+    (tie.spec truncating-f64-to-u64-requires returns returns-2 returns-3)

@@ -20,13 +20,10 @@ returns-2 c = signed-high (c .before .before .args .x) (c .before .if1 .taken) (
 returns-3 : tie.Need-returns-3
 returns-3 c = signed-nan (c .before .before .args .x) (c .if3 .taken)
 
-sub-result : tie.Need-sub-result
-sub-result c = search needs
-
 returns-4 : tie.Need-returns-4
 returns-4 c = signed-low (c .before .before .args .x) (c .before .if1 .left) (c .if3 .left)
 
 pub whole-signed-spec : {M : Type 1} → statement M
 whole-signed-spec =
     tie.close
-    (tie.spec truncating-f64-to-i64-requires returns returns-2 returns-3 sub-result returns-4)
+    (tie.spec truncating-f64-to-i64-requires returns returns-2 returns-3 (λ c. search needs) returns-4)

@@ -5,24 +5,9 @@ use Rattle.floor.specs.Checks.{badCorner}
 use Rattle.floor.proofs.bad_corner.Statement.{statement}
 use Rattle.floor.proofs.bad_corner.Tie as tie
 
-mul-corners : tie.Need-mul-corners
-mul-corners c = search needs
-
-corners-requires : tie.Need-corners-requires
-corners-requires c κs = search needs
-
-index-requires : tie.Need-index-requires
-index-requires c κs = search needs
-
 returns : tie.Need-returns
 unfolding badCorner
 returns c = let e = c .before .before .corners .ensures in simp (rw (c .before .index .ensures, e) at (le-leb _ _ (c .if1 .taken)))
-
-index-requires-2 : tie.Need-index-requires-2
-index-requires-2 c κs = search needs
-
-index-requires-3 : tie.Need-index-requires-3
-index-requires-3 c κs = search needs
 
 returns-2 : tie.Need-returns-2
 unfolding badCorner
@@ -30,17 +15,17 @@ returns-2 c = let e = c .before .before .before .before .corners .ensures in let
 
 returns-3 : tie.Need-returns-3
 unfolding badCorner
-returns-3 c = let e = c .before .before .before .before .before .corners .ensures in simp (c .index3 .ensures, e, rw (c .before .before .before .before .index .ensures, e) at (lt-leb _ _ (c .before .before .before .if1 .left)), rw (c .before .before .index2 .ensures, e) at (lt-leb _ _ (c .before .if2 .left)))
+returns-3 c =
+    let e = c .before .before .before .before .before .corners .ensures in simp (
+      c .index3 .ensures,
+      e,
+      rw (c .before .before .before .before .index .ensures, e) at (lt-leb _ _ (c .before .before .before .if1 .left)),
+      rw
+          (c .before .before .index2 .ensures, e) at (lt-leb _ _ (c .before .if2 .left)),
+    )
 
 pub bad-corner-spec : {M : Type 1} → statement M
 bad-corner-spec =
     tie.close
-    (tie.spec
-    mul-corners
-    corners-requires
-    index-requires
-    returns
-    index-requires-2
-    index-requires-3
-    returns-2
+    (tie.spec (λ c. search needs) (λ c κs. search needs) (λ c κs. search needs) returns (λ c κs. search needs) (λ c κs. search needs) returns-2
     returns-3)

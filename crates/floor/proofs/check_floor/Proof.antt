@@ -5,78 +5,92 @@ use Rattle.floor.specs.Checks.{checkFloor}
 use Rattle.floor.proofs.check_floor.Statement.{statement}
 use Rattle.floor.proofs.check_floor.Tie as tie
 
-refused-requires : tie.Need-refused-requires
-refused-requires c κs = search needs
-
 returns : tie.Need-returns
 unfolding checkFloor
 returns c = simp (eq-eqb _ _ (c .before .if1 .taken)) (c .refused .ensures)
-
-refused-requires-2 : tie.Need-refused-requires-2
-refused-requires-2 c κs = search needs
 
 returns-2 : tie.Need-returns-2
 unfolding checkFloor
 returns-2 c = simp (ne-eqb _ _ (c .before .before .if1 .left), eq-eqb _ _ (c .before .if2 .taken)) (c .refused2 .ensures)
 
-refused-requires-3 : tie.Need-refused-requires-3
-refused-requires-3 c κs = search needs
-
 returns-3 : tie.Need-returns-3
 unfolding checkFloor
 returns-3 c = simp (ne-eqb _ _ (c .before .before .before .if1 .left), ne-eqb _ _ (c .before .before .if2 .left), ne-eqb _ _ (c .before .if3 .taken)) (c .refused3 .ensures)
 
-first-bad-point-requires : tie.Need-first-bad-point-requires
-first-bad-point-requires c κs = search needs
-
-refused-requires-4 : tie.Need-refused-requires-4
-refused-requires-4 c κs = search needs
-
 returns-4 : tie.Need-returns-4
 unfolding checkFloor
-returns-4 c = simp (ne-eqb _ _ (c .before .before .before .before .before .if1 .left), ne-eqb _ _ (c .before .before .before .before .if2 .left), eq-eqb _ _ (c .before .before .before .if3 .left), ← c .before .before .first-bad-point .ensures, lt-ltb _ _ (c .before .if4 .taken)) (c .refused4 .ensures)
-
-first-bad-size-requires : tie.Need-first-bad-size-requires
-first-bad-size-requires c κs = search needs
-
-refused-requires-5 : tie.Need-refused-requires-5
-refused-requires-5 c κs = search needs
+returns-4 c =
+    simp (
+      ne-eqb _ _ (c .before .before .before .before .before .if1 .left),
+      ne-eqb _ _ (c .before .before .before .before .if2 .left),
+      eq-eqb _ _
+          (c .before .before .before .if3 .left),
+      ← c .before .before .first-bad-point .ensures,
+      lt-ltb _ _ (c .before .if4 .taken),
+    )
+    (c .refused4 .ensures)
 
 returns-5 : tie.Need-returns-5
 unfolding checkFloor
-returns-5 c = simp (ne-eqb _ _ (c .before .before .before .before .before .before .before .if1 .left), ne-eqb _ _ (c .before .before .before .before .before .before .if2 .left), eq-eqb _ _ (c .before .before .before .before .before .if3 .left), ← c .before .before .before .before .first-bad-point .ensures, le-ltb _ _ (c .before .before .before .if4 .left), ← c .before .before .first-bad-size .ensures, lt-ltb _ _ (c .before .if5 .taken)) (c .refused5 .ensures)
-
-first-bad-corner-requires : tie.Need-first-bad-corner-requires
-first-bad-corner-requires c κs = search needs
-
-refused-requires-6 : tie.Need-refused-requires-6
-refused-requires-6 c κs = search needs
+returns-5 c =
+    let back7 = c .before .before .before .before .before .before .before in
+    simp (
+      ne-eqb _ _ (back7 .if1 .left),
+      ne-eqb _ _ (c .before .before .before .before .before .before .if2 .left),
+      eq-eqb _ _
+          (c .before .before .before .before .before .if3 .left),
+      ← c .before .before .before .before .first-bad-point .ensures,
+      le-ltb _ _
+          (c .before .before .before .if4 .left),
+      ← c .before .before .first-bad-size .ensures,
+      lt-ltb _ _ (c .before .if5 .taken),
+    )
+    (c .refused5 .ensures)
 
 returns-6 : tie.Need-returns-6
 unfolding checkFloor
-returns-6 c = simp (ne-eqb _ _ (c .before .before .before .before .before .before .before .before .before .if1 .left), ne-eqb _ _ (c .before .before .before .before .before .before .before .before .if2 .left), eq-eqb _ _ (c .before .before .before .before .before .before .before .if3 .left), ← c .before .before .before .before .before .before .first-bad-point .ensures, le-ltb _ _ (c .before .before .before .before .before .if4 .left), ← c .before .before .before .before .first-bad-size .ensures, le-ltb _ _ (c .before .before .before .if5 .left), ← c .before .before .first-bad-corner .ensures, lt-ltb _ _ (c .before .if6 .taken)) (c .refused6 .ensures)
+returns-6 c =
+    let back7 = c .before .before .before .before .before .before .before in
+    let back8 = back7 .before in
+    let back9 = back8 .before in
+    simp (
+      ne-eqb _ _ (back9 .if1 .left),
+      ne-eqb _ _ (back8 .if2 .left),
+      eq-eqb _ _ (back7 .if3 .left),
+      ←
+          c .before .before .before .before .before .before .first-bad-point .ensures,
+      le-ltb _ _
+          (c .before .before .before .before .before .if4 .left),
+      ← c .before .before .before .before .first-bad-size .ensures,
+      le-ltb _ _
+          (c .before .before .before .if5 .left),
+      ← c .before .before .first-bad-corner .ensures,
+      lt-ltb _ _ (c .before .if6 .taken),
+    )
+    (c .refused6 .ensures)
 
 returns-7 : tie.Need-returns-7
 unfolding checkFloor
-returns-7 c = simp (ne-eqb _ _ (c .before .before .before .before .before .before .before .before .if1 .left), ne-eqb _ _ (c .before .before .before .before .before .before .before .if2 .left), eq-eqb _ _ (c .before .before .before .before .before .before .if3 .left), ← c .before .before .before .before .before .first-bad-point .ensures, le-ltb _ _ (c .before .before .before .before .if4 .left), ← c .before .before .before .first-bad-size .ensures, le-ltb _ _ (c .before .before .if5 .left), ← c .before .first-bad-corner .ensures, le-ltb _ _ (c .if6 .left))
+returns-7 c =
+    let back7 = c .before .before .before .before .before .before .before in
+    let back8 = back7 .before in
+    simp (
+      ne-eqb _ _ (back8 .if1 .left),
+      ne-eqb _ _ (back7 .if2 .left),
+      eq-eqb _ _ (c .before .before .before .before .before .before .if3 .left),
+      ←
+          c .before .before .before .before .before .first-bad-point .ensures,
+      le-ltb _ _ (c .before .before .before .before .if4 .left),
+      ←
+          c .before .before .before .first-bad-size .ensures,
+      le-ltb _ _ (c .before .before .if5 .left),
+      ← c .before .first-bad-corner .ensures,
+      le-ltb _ _ (c .if6 .left),
+    )
 
 pub check-floor-spec : {M : Type 1} → statement M
 check-floor-spec =
     tie.close
-    (tie.spec
-    refused-requires
-    returns
-    refused-requires-2
-    returns-2
-    refused-requires-3
-    returns-3
-    first-bad-point-requires
-    refused-requires-4
-    returns-4
-    first-bad-size-requires
-    refused-requires-5
-    returns-5
-    first-bad-corner-requires
-    refused-requires-6
-    returns-6
+    (tie.spec (λ c κs. search needs) returns (λ c κs. search needs) returns-2 (λ c κs. search needs) returns-3 (λ c κs. search needs)
+    (λ c κs. search needs) returns-4 (λ c κs. search needs) (λ c κs. search needs) returns-5 (λ c κs. search needs) (λ c κs. search needs) returns-6
     returns-7)

@@ -18,17 +18,8 @@ abbrev μ-loop : tie.MeasureT-loop
 loop-holds : tie.Need-loop-holds Inv-loop μ-loop
 loop-holds c = (omega arith, lowest-none _)
 
-bad-size-requires : tie.Need-bad-size-requires Inv-loop μ-loop
-bad-size-requires c κs = search needs
-
 returns : tie.Need-returns Inv-loop μ-loop
 returns c = lowest-found _ _ _ (c .before .before .before .loop .inv .1) (sym (c .before .bad-size .ensures) ∙ c .if1 .taken) (c .before .before .loop-test .taken)
-
-add-i : tie.Need-add-i Inv-loop μ-loop
-add-i c = search needs
-
-loop-less : tie.Need-loop-less Inv-loop μ-loop
-loop-less c = search needs
 
 loop-again : tie.Need-loop-again Inv-loop μ-loop
 loop-again c = (omega arith, lowest-again _ _ (c .before .before .before .loop .inv .1) (sym (c .before .bad-size .ensures) ∙ c .if1 .left))
@@ -39,13 +30,4 @@ returns-2 c = let e : c .before .loop .i ≡ length (c .before .before .before .
 pub first-bad-size-spec : {M : Type 1} → statement M
 first-bad-size-spec =
     tie.close
-    (tie.spec
-    Inv-loop
-    μ-loop
-    loop-holds
-    bad-size-requires
-    returns
-    add-i
-    loop-less
-    loop-again
-    returns-2)
+    (tie.spec Inv-loop μ-loop loop-holds (λ c κs. search needs) returns (λ c. search needs) (λ c. search needs) loop-again returns-2)

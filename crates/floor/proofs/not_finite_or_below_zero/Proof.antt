@@ -4,9 +4,6 @@ use Rattle.floor.specs.Checks.{notFiniteOrBelowZero}
 use Rattle.floor.proofs.not_finite_or_below_zero.Statement.{statement}
 use Rattle.floor.proofs.not_finite_or_below_zero.Tie as tie
 
-is-finite-requires : tie.Need-is-finite-requires
-is-finite-requires c κs = search needs
-
 returns : tie.Need-returns
 unfolding notFiniteOrBelowZero
 returns c = rw (← c .before .is-finite .ensures, c .if1 .taken)
@@ -16,4 +13,6 @@ unfolding notFiniteOrBelowZero
 returns-2 c = rw (← c .before .is-finite .ensures, c .if1 .left)
 
 pub not-finite-or-below-zero-spec : {M : Type 1} → statement M
-not-finite-or-below-zero-spec = tie.close (tie.spec is-finite-requires returns returns-2)
+not-finite-or-below-zero-spec =
+    tie.close
+    (tie.spec (λ c κs. search needs) returns returns-2)

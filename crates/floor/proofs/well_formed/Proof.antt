@@ -21,4 +21,6 @@ unfolding wellFormed
 returns-4 c = simp (eq-eqb _ _ (c .before .before .if1 .left), eq-eqb _ _ (c .before .if2 .left), lt-leb _ _ (c .if3 .left))
 
 pub well-formed-spec : {M : Type 1} → statement M
-well-formed-spec = tie.close (tie.spec returns returns-2 returns-3 returns-4)
+well-formed-spec =
+    tie.close
+    (tie.spec returns returns-2 returns-3 returns-4)

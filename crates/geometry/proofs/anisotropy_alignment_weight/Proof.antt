@@ -8,12 +8,11 @@ returns : tie.Need-returns
 unfolding alignmentWeight
 returns c = simp (c .if1 .taken)
 
-recip-requires : tie.Need-recip-requires
-recip-requires c κs = search needs
-
 returns-2 : tie.Need-returns-2
 unfolding alignmentWeight
 returns-2 c = simp (c .before .if1 .left, c .recip .ensures)
 
 pub anisotropy-alignment-weight-spec : {M : Type 1} → statement M
-anisotropy-alignment-weight-spec = tie.close (tie.spec returns recip-requires returns-2)
+anisotropy-alignment-weight-spec =
+    tie.close
+    (tie.spec returns (λ c κs. search needs) returns-2)

@@ -4,15 +4,11 @@ use borrow.Author.Needs.{needs}
 use Rattle.geometry.proofs.squared_side.Statement.{statement}
 use Rattle.geometry.proofs.squared_side.Tie as tie
 
-sub2-requires : tie.Need-sub2-requires
-sub2-requires c κs = search needs
-
-dot2-requires : tie.Need-dot2-requires
-dot2-requires c κs = search needs
-
 returns : tie.Need-returns
 unfolding side2
 returns c = simp (c .dot2 .ensures, c .before .sub2 .ensures)
 
 pub squared-side-spec : {M : Type 1} → statement M
-squared-side-spec = tie.close (tie.spec sub2-requires dot2-requires returns)
+squared-side-spec =
+    tie.close
+    (tie.spec (λ c κs. search needs) (λ c κs. search needs) returns)

@@ -4,15 +4,11 @@ use borrow.Author.Needs.{needs}
 use Rattle.geometry.proofs.transport_angle.Statement.{statement}
 use Rattle.geometry.proofs.transport_angle.Tie as tie
 
-sub2-requires : tie.Need-sub2-requires
-sub2-requires c κs = search needs
-
-atan2-requires : tie.Need-atan2-requires
-atan2-requires c κs = search needs
-
 returns : tie.Need-returns
 unfolding transportAngle
 returns c = simp (c .atan2 .ensures, c .before .before .before .before .before .sub2 .ensures)
 
 pub transport-angle-spec : {M : Type 1} → statement M
-transport-angle-spec = tie.close (tie.spec sub2-requires atan2-requires returns)
+transport-angle-spec =
+    tie.close
+    (tie.spec (λ c κs. search needs) (λ c κs. search needs) returns)

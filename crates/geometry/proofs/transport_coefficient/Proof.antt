@@ -4,9 +4,6 @@ use borrow.Author.Needs.{needs}
 use Rattle.geometry.proofs.transport_coefficient.Statement.{statement}
 use Rattle.geometry.proofs.transport_coefficient.Tie as tie
 
-is-finite-requires : tie.Need-is-finite-requires
-is-finite-requires c κs = search needs
-
 returns : tie.Need-returns
 unfolding transportOf
 returns c = simp (← c .before .is-finite .ensures, c .if1 .taken)
@@ -15,12 +12,6 @@ returns-2 : tie.Need-returns-2
 unfolding transportOf
 returns-2 c = simp (← c .before .before .is-finite .ensures, c .before .if1 .left, c .if2 .taken)
 
-transport-angle-requires : tie.Need-transport-angle-requires
-transport-angle-requires c κs = search needs
-
-from-angle-requires : tie.Need-from-angle-requires
-from-angle-requires c κs = search needs
-
 returns-3 : tie.Need-returns-3
 unfolding transportOf
 returns-3 c = simp (← c .before .before .before .before .is-finite .ensures, c .before .before .before .if1 .left, c .before .before .if2 .left, ← c .before .transport-angle .ensures, c .from-angle .ensures)
@@ -28,10 +19,4 @@ returns-3 c = simp (← c .before .before .before .before .is-finite .ensures, c
 pub transport-coefficient-spec : {M : Type 1} → statement M
 transport-coefficient-spec =
     tie.close
-    (tie.spec
-    is-finite-requires
-    returns
-    returns-2
-    transport-angle-requires
-    from-angle-requires
-    returns-3)
+    (tie.spec (λ c κs. search needs) returns returns-2 (λ c κs. search needs) (λ c κs. search needs) returns-3)

@@ -4,12 +4,11 @@ use borrow.Author.Needs.{needs}
 use Rattle.integrals.proofs.by_series.Statement.{statement}
 use Rattle.integrals.proofs.by_series.Tie as tie
 
-abs-requires : tie.Need-abs-requires
-abs-requires c κs = search needs
-
 returns : tie.Need-returns
 unfolding bySeries
 returns c = simp (c .abs .ensures)
 
 pub by-series-spec : {M : Type 1} → statement M
-by-series-spec = tie.close (tie.spec abs-requires returns)
+by-series-spec =
+    tie.close
+    (tie.spec (λ c κs. search needs) returns)

@@ -5,14 +5,8 @@ use borrow.Author.Needs.{needs}
 use Rattle.integrals.proofs.dirichlet_by.Statement.{statement}
 use Rattle.integrals.proofs.dirichlet_by.Tie as tie
 
-enum-known-f : tie.Need-enum-known-f
-enum-known-f c = search needs
-
 dirichlet-series-requires : tie.Need-dirichlet-series-requires
 dirichlet-series-requires c κs = series-serve _ _ _ (c .before .before .before .pre) (c .before .f .given .1) .1
-
-enum-known-f-2 : tie.Need-enum-known-f-2
-enum-known-f-2 c = search needs
 
 dirichlet-closed-requires : tie.Need-dirichlet-closed-requires
 dirichlet-closed-requires c κs = closed-serve _ _ _ (c .before .before .before .pre) (c .before .f2 .given .1) .1
@@ -28,10 +22,4 @@ returns-2 c = simp (c .dirichlet-closed .ensures, closed-serve _ _ _ (c .before 
 pub dirichlet-by-spec : {M : Type 1} → statement M
 dirichlet-by-spec =
     tie.close
-    (tie.spec
-    enum-known-f
-    dirichlet-series-requires
-    enum-known-f-2
-    dirichlet-closed-requires
-    returns
-    returns-2)
+    (tie.spec (λ c. search needs) dirichlet-series-requires (λ c. search needs) dirichlet-closed-requires returns returns-2)

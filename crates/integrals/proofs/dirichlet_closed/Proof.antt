@@ -6,21 +6,6 @@ use borrow.Author.Needs.{needs}
 use Rattle.integrals.proofs.dirichlet_closed.Statement.{statement}
 use Rattle.integrals.proofs.dirichlet_closed.Tie as tie
 
-new-requires : tie.Need-new-requires
-new-requires c κs = search needs
-
-mul-requires : tie.Need-mul-requires
-mul-requires c κs = search needs
-
-new-requires-2 : tie.Need-new-requires-2
-new-requires-2 c κs = search needs
-
-add-requires : tie.Need-add-requires
-add-requires c κs = search needs
-
-scale-requires : tie.Need-scale-requires
-scale-requires c κs = search needs
-
 returns : tie.Need-returns
 unfolding dirichletClosed closedOf ofInt ofBits
 returns c = simp (c .scale .ensures, c .before .add .ensures, c .before .before .new2 .ensures, c .before .before .before .mul .ensures, c .before .before .before .before .new .ensures, c .before .before .before .before .before .pre)
@@ -28,4 +13,4 @@ returns c = simp (c .scale .ensures, c .before .add .ensures, c .before .before 
 pub dirichlet-closed-spec : {M : Type 1} → statement M
 dirichlet-closed-spec =
     tie.close
-    (tie.spec new-requires mul-requires new-requires-2 add-requires scale-requires returns)
+    (tie.spec (λ c κs. search needs) (λ c κs. search needs) (λ c κs. search needs) (λ c κs. search needs) (λ c κs. search needs) returns)

@@ -6,12 +6,11 @@ use borrow.Author.Needs.{needs}
 use Rattle.integrals.proofs.dirichlet_series.Statement.{statement}
 use Rattle.integrals.proofs.dirichlet_series.Tie as tie
 
-new-requires : tie.Need-new-requires
-new-requires c κs = search needs
-
 returns : tie.Need-returns
 unfolding dirichletSeries seriesOf ofInt ofBits
 returns c = simp (c .new .ensures, c .before .before .before .before .before .pre)
 
 pub dirichlet-series-spec : {M : Type 1} → statement M
-dirichlet-series-spec = tie.close (tie.spec new-requires returns)
+dirichlet-series-spec =
+    tie.close
+    (tie.spec (λ c κs. search needs) returns)

@@ -4,18 +4,9 @@ use borrow.Author.Needs.{needs}
 use Rattle.integrals.proofs.factors_of.Statement.{statement}
 use Rattle.integrals.proofs.factors_of.Tie as tie
 
-by-series-requires : tie.Need-by-series-requires
-by-series-requires c κs = search needs
-
-series-of-requires : tie.Need-series-of-requires
-series-of-requires c κs = search needs
-
 returns : tie.Need-returns
 unfolding factorsOf
 returns c = simp (← c .before .before .by-series .ensures, c .before .if1 .taken, c .series-of .ensures)
-
-closed-of-requires : tie.Need-closed-of-requires
-closed-of-requires c κs = search needs
 
 returns-2 : tie.Need-returns-2
 unfolding factorsOf
@@ -23,4 +14,5 @@ returns-2 c = simp (← c .before .before .by-series .ensures, c .before .if1 .l
 
 pub factors-of-spec : {M : Type 1} → statement M
 factors-of-spec =
-    tie.close (tie.spec by-series-requires series-of-requires returns closed-of-requires returns-2)
+    tie.close
+    (tie.spec (λ c κs. search needs) (λ c κs. search needs) returns (λ c κs. search needs) returns-2)

@@ -6,15 +6,6 @@ use borrow.Author.Needs.{needs}
 use Rattle.integrals.proofs.mass_by.Statement.{statement}
 use Rattle.integrals.proofs.mass_by.Tie as tie
 
-enum-told : tie.Need-enum-told
-enum-told c = search needs
-
-mass-series-requires : tie.Need-mass-series-requires
-mass-series-requires c κs = search needs
-
-enum-known-f : tie.Need-enum-known-f
-enum-known-f c = search needs
-
 mass-closed-requires : tie.Need-mass-closed-requires
 unfolding closedOf
 mass-closed-requires c κs = rw (closed-serve _ _ _ (c .before .before .before .pre) (c .before .f .given .1) .1)
@@ -30,4 +21,4 @@ returns-2 c = simp (c .mass-closed .ensures, closed-serve _ _ _ (c .before .befo
 pub mass-by-spec : {M : Type 1} → statement M
 mass-by-spec =
     tie.close
-    (tie.spec enum-told mass-series-requires enum-known-f mass-closed-requires returns returns-2)
+    (tie.spec (λ c. search needs) (λ c κs. search needs) (λ c. search needs) mass-closed-requires returns returns-2)

@@ -5,12 +5,11 @@ use borrow.Author.Needs.{needs}
 use Rattle.integrals.proofs.mass_series.Statement.{statement}
 use Rattle.integrals.proofs.mass_series.Tie as tie
 
-new-requires : tie.Need-new-requires
-new-requires c κs = search needs
-
 returns : tie.Need-returns
 unfolding massSeries ofInt ofBits
 returns c = simp (c .new .ensures)
 
 pub mass-series-spec : {M : Type 1} → statement M
-mass-series-spec = tie.close (tie.spec new-requires returns)
+mass-series-spec =
+    tie.close
+    (tie.spec (λ c κs. search needs) returns)

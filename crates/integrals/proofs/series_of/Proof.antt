@@ -10,4 +10,6 @@ unfolding seriesOf ofInt ofBits
 returns c = refl
 
 pub series-of-spec : {M : Type 1} → statement M
-series-of-spec = tie.close (tie.spec returns)
+series-of-spec =
+    tie.close
+    (tie.spec returns)

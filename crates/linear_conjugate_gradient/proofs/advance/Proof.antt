@@ -9,11 +9,10 @@ use Rattle.linear_conjugate_gradient.proofs.advance.Tie as tie
 advance-requires : tie.Need-advance-requires
 advance-requires c κs = omega (arith, apart)
 
-same-length : tie.Need-same-length
-same-length c = search needs
-
 returns : tie.Need-returns
 returns c = advance-all _ _ _ (c .before .before .before .before .before .pre) _ (c .before .before .advance .ensures)
 
 pub advance-spec : {M : Type 1} → statement M
-advance-spec = tie.close (tie.spec advance-requires same-length returns)
+advance-spec =
+    tie.close
+    (tie.spec advance-requires (λ c. search needs) returns)

@@ -9,20 +9,8 @@ use Rattle.linear_conjugate_gradient.proofs.begin.Tie as tie
 invert-requires : tie.Need-invert-requires
 invert-requires c κs = omega (arith, apart)
 
-mul-fill : tie.Need-mul-fill
-mul-fill c = search needs
-
-fill-requires : tie.Need-fill-requires
-fill-requires c κs = search needs
-
 scale-requires : tie.Need-scale-requires
 scale-requires c κs = omega (arith, apart)
-
-dot-re-requires : tie.Need-dot-re-requires
-dot-re-requires c κs = search needs
-
-same-length : tie.Need-same-length
-same-length c = search needs
 
 returns : tie.Need-returns
 returns c = search begin-all
@@ -30,11 +18,4 @@ returns c = search begin-all
 pub begin-spec : {M : Type 1} → statement M
 begin-spec =
     tie.close
-    (tie.spec
-    invert-requires
-    mul-fill
-    fill-requires
-    scale-requires
-    dot-re-requires
-    same-length
-    returns)
+    (tie.spec invert-requires (λ c. search needs) (λ c κs. search needs) scale-requires (λ c κs. search needs) (λ c. search needs) returns)

@@ -8,45 +8,21 @@ use borrow.Author.Needs.{needs}
 use Rattle.linear_conjugate_gradient.proofs.conjugate_gradient.Statement.{statement}
 use Rattle.linear_conjugate_gradient.proofs.conjugate_gradient.Tie as tie
 
-euclidean-norm-requires : tie.Need-euclidean-norm-requires
-euclidean-norm-requires c κs = search needs
-
-not-positive-requires : tie.Need-not-positive-requires
-not-positive-requires c κs = search needs
-
-same-length : tie.Need-same-length
-same-length c = search needs
-
 returns : tie.Need-returns
 returns c = solve-norm _ _ _ _ _ _ _ (c .before .before .euclidean-norm .ensures) (c .before .not-positive .ensures) (c .if1 .taken)
-
-first-not-positive-requires : tie.Need-first-not-positive-requires
-first-not-positive-requires c κs = search needs
-
-same-length-2 : tie.Need-same-length-2
-same-length-2 c = search needs
 
 returns-2 : tie.Need-returns-2
 returns-2 c =
     solve-diagonal _ _ _ _ _ _ _ (c .before .before .before .before .before .before .euclidean-norm .ensures) (c .before .before .before .before .before .not-positive .ensures)
     (c .before .before .before .before .if1 .left) (c .before .before .first-not-positive .ensures) (c .if2 .taken)
 
-begin-requires : tie.Need-begin-requires
-begin-requires c κs = search needs
-
-not-positive-requires-2 : tie.Need-not-positive-requires-2
-not-positive-requires-2 c κs = search needs
-
-same-length-3 : tie.Need-same-length-3
-same-length-3 c = search needs
-
 returns-3 : tie.Need-returns-3
 returns-3 c =
-    let start = c .before .before .before .before .before .before .before .before .before .before .before .before .before .before .before .before .before .before in
-    let back12 = c .before .before .before .before .before .before .before .before .before .before .before .before in
-    let back11 = c .before .before .before .before .before .before .before .before .before .before .before in
-    let back10 = c .before .before .before .before .before .before .before .before .before .before in
     let back8 = c .before .before .before .before .before .before .before .before in
+    let back10 = back8 .before .before in
+    let back11 = back10 .before in
+    let back12 = back11 .before in
+    let start = back12 .before .before .before .before .before .before in
     solve-first _ _ _ _ _ _ _ (back12 .euclidean-norm .ensures) (back11 .not-positive .ensures) (back10 .if1 .left) (back8 .first-not-positive .ensures) (start .pre .0)
     (c .before .before .before .before .before .before .if2 .left) (c .before .before .before .before .begin .ensures) (c .before .not-positive2 .ensures) (c .if3 .taken)
 
@@ -61,36 +37,20 @@ iterate-requires c κs =
       ),
     )
 
-same-length-4 : tie.Need-same-length-4
-same-length-4 c = search needs
-
 returns-4 : tie.Need-returns-4
 returns-4 c =
-    let start = c .before .before .before .before .before .before .before .before .before .before .before .before .before .before .before .before .before .before .before .before .before .before in
-    let back16 = c .before .before .before .before .before .before .before .before .before .before .before .before .before .before .before .before in
-    let back15 = c .before .before .before .before .before .before .before .before .before .before .before .before .before .before .before in
-    let back14 = c .before .before .before .before .before .before .before .before .before .before .before .before .before .before in
-    let back12 = c .before .before .before .before .before .before .before .before .before .before .before .before in
-    let back10 = c .before .before .before .before .before .before .before .before .before .before in
     let back8 = c .before .before .before .before .before .before .before .before in
+    let back10 = back8 .before .before in
+    let back12 = back10 .before .before in
+    let back14 = back12 .before .before in
+    let back15 = back14 .before in
+    let back16 = back15 .before in
+    let start = back16 .before .before .before .before .before .before in
     solve-run _ _ _ _ _ _ _ (back16 .euclidean-norm .ensures) (back15 .not-positive .ensures) (back14 .if1 .left) (back12 .first-not-positive .ensures) (start .pre .0) (back10 .if2 .left)
     (back8 .begin .ensures) (c .before .before .before .before .before .not-positive2 .ensures) (c .before .before .before .before .if3 .left) (c .before .before .iterate .ensures)
 
 pub conjugate-gradient-spec : {M : Type 1} → statement M
 conjugate-gradient-spec =
     tie.close
-    (tie.spec
-    euclidean-norm-requires
-    not-positive-requires
-    same-length
-    returns
-    first-not-positive-requires
-    same-length-2
-    returns-2
-    begin-requires
-    not-positive-requires-2
-    same-length-3
-    returns-3
-    iterate-requires
-    same-length-4
-    returns-4)
+    (tie.spec (λ c κs. search needs) (λ c κs. search needs) (λ c. search needs) returns (λ c κs. search needs) (λ c. search needs) returns-2
+    (λ c κs. search needs) (λ c κs. search needs) (λ c. search needs) returns-3 iterate-requires (λ c. search needs) returns-4)

@@ -9,11 +9,10 @@ use Rattle.linear_conjugate_gradient.proofs.direct.Tie as tie
 direct-requires : tie.Need-direct-requires
 direct-requires c κs = omega (arith, apart)
 
-same-length : tie.Need-same-length
-same-length c = search needs
-
 returns : tie.Need-returns
 returns c = direct-all _ _ _ (c .before .before .before .before .before .pre) _ _ (c .before .before .direct .ensures)
 
 pub direct-spec : {M : Type 1} → statement M
-direct-spec = tie.close (tie.spec direct-requires same-length returns)
+direct-spec =
+    tie.close
+    (tie.spec direct-requires (λ c. search needs) returns)

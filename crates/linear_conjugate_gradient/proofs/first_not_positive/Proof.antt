@@ -14,20 +14,8 @@ abbrev μ-loop : tie.MeasureT-loop
 loop-holds : tie.Need-loop-holds Inv-loop μ-loop
 loop-holds c = (search needs, scan-none _ _ _)
 
-load-real-requires : tie.Need-load-real-requires Inv-loop μ-loop
-load-real-requires c κs = search needs
-
-not-positive-requires : tie.Need-not-positive-requires Inv-loop μ-loop
-not-positive-requires c κs = search needs
-
 returns : tie.Need-returns Inv-loop μ-loop
 returns c = search scan-found
-
-add-i : tie.Need-add-i Inv-loop μ-loop
-add-i c = search needs
-
-loop-less : tie.Need-loop-less Inv-loop μ-loop
-loop-less c = search needs
 
 loop-again : tie.Need-loop-again Inv-loop μ-loop
 loop-again c = (search needs, search scan-again)
@@ -38,14 +26,5 @@ returns-2 c = search scan-done
 pub first-not-positive-spec : {M : Type 1} → statement M
 first-not-positive-spec =
     tie.close
-    (tie.spec
-    Inv-loop
-    μ-loop
-    loop-holds
-    load-real-requires
-    not-positive-requires
-    returns
-    add-i
-    loop-less
-    loop-again
+    (tie.spec Inv-loop μ-loop loop-holds (λ c κs. search needs) (λ c κs. search needs) returns (λ c. search needs) (λ c. search needs) loop-again
     returns-2)

@@ -26,40 +26,19 @@ iterate-once-requires c κs =
     let start = c .before .before .before .before .before .before .before in
     (same-room (c .before .before .loop .inv .1) _ _ (start .pre .0), (start .pre .1 .0, engine-still _ _ _ _ _ _ _ (start .pre .0) (start .pre .1 .1) _ (read-sized _ _ _) (c .before .before .loop .inv .2 .frame)))
 
-enum-known-p : tie.Need-enum-known-p Inv-loop μ-loop
-enum-known-p c = search needs
-
-add-answer-of : tie.Need-add-answer-of Inv-loop μ-loop
-add-answer-of c = search needs
-
-answer-of-requires : tie.Need-answer-of-requires Inv-loop μ-loop
-answer-of-requires c κs = search needs
-
-same-length : tie.Need-same-length Inv-loop μ-loop
-same-length c = search needs
-
 returns : tie.Need-returns Inv-loop μ-loop
 returns c =
-    let start = c .before .before .before .before .before .before .before .before .before .before .before .before in
     let back7 = c .before .before .before .before .before .before .before in
+    let start = back7 .before .before .before .before .before in
     run-ended _ _ _ _ _ _ _ _ (start .pre .0) _ (c .before .before .before .before .before .before .loop-test .taken) (back7 .loop .inv .2) (c .before .before .before .before .iterate-once .ensures)
     (λ next e. ⊎-elim (λ k. let z : _≡_ {A = ℕ} 0 1 = rw e at k in omega arith) (λ k. let z : _≡_ {A = ℕ} 0 2 = rw e at k in omega arith) (c .before .match .keys2)) (c .answer-of .ensures)
 
-add-i : tie.Need-add-i Inv-loop μ-loop
-add-i c = search needs
-
-loop-less : tie.Need-loop-less Inv-loop μ-loop
-loop-less c = search needs
-
 loop-again : tie.Need-loop-again Inv-loop μ-loop
 loop-again c =
-    let start = c .before .before .before .before .before .before .before .before .before .before .before .before .before in
-    let back8 = c .before .before .before .before .before .before .before .before in
     let back7 = c .before .before .before .before .before .before .before in
+    let back8 = back7 .before in
+    let start = back8 .before .before .before .before .before in
     (search needs, search needs, run-again _ _ _ _ _ _ _ _ (start .pre .0) _ (back7 .loop-test .taken) (back8 .loop .inv .2) (c .before .before .before .before .before .iterate-once .ensures) (c .before .p .given .1))
-
-same-length-2 : tie.Need-same-length-2 Inv-loop μ-loop
-same-length-2 c = search needs
 
 returns-2 : tie.Need-returns-2 Inv-loop μ-loop
 returns-2 c = run-done _ _ _ _ _ _ _ _ (c .before .loop .inv .0) (c .loop-test .left) (c .before .loop .inv .2)
@@ -67,18 +46,5 @@ returns-2 c = run-done _ _ _ _ _ _ _ _ (c .before .loop .inv .0) (c .loop-test .
 pub iterate-spec : {M : Type 1} → statement M
 iterate-spec =
     tie.close
-    (tie.spec
-    Inv-loop
-    μ-loop
-    loop-holds
-    iterate-once-requires
-    enum-known-p
-    add-answer-of
-    answer-of-requires
-    same-length
-    returns
-    add-i
-    loop-less
-    loop-again
-    same-length-2
-    returns-2)
+    (tie.spec Inv-loop μ-loop loop-holds iterate-once-requires (λ c. search needs) (λ c. search needs) (λ c κs. search needs) (λ c. search needs)
+    returns (λ c. search needs) (λ c. search needs) loop-again (λ c. search needs) returns-2)

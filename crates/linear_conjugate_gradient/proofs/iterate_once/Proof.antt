@@ -9,35 +9,16 @@ multiply-requires c κs =
     let start = c .before .before .before .before .before in
     (start .pre .0, (start .pre .1 .0, start .pre .1 .1))
 
-not-positive-requires : tie.Need-not-positive-requires
-not-positive-requires c κs = search needs
-
-same-length : tie.Need-same-length
-same-length c = search needs
-
 returns : tie.Need-returns
 returns c = iteration-broken _ _ _ _ _ _ _ (c .before .before .before .before .multiply .ensures) (c .before .not-positive .ensures) (c .if1 .taken)
 
-step-requires : tie.Need-step-requires
-step-requires c κs = search needs
-
-same-length-2 : tie.Need-same-length-2
-same-length-2 c = search needs
-
 returns-2 : tie.Need-returns-2
 returns-2 c =
-    let start = c .before .before .before .before .before .before .before .before .before .before .before .before .before .before in
     let back8 = c .before .before .before .before .before .before .before .before in
+    let start = back8 .before .before .before .before .before .before in
     iteration-stepped _ _ _ _ _ _ _ (start .pre .0) (back8 .multiply .ensures) (c .before .before .before .before .before .not-positive .ensures) (c .before .before .before .before .if1 .left) (c .before .before .step .ensures)
 
 pub iterate-once-spec : {M : Type 1} → statement M
 iterate-once-spec =
     tie.close
-    (tie.spec
-    multiply-requires
-    not-positive-requires
-    same-length
-    returns
-    step-requires
-    same-length-2
-    returns-2)
+    (tie.spec multiply-requires (λ c κs. search needs) (λ c. search needs) returns (λ c κs. search needs) (λ c. search needs) returns-2)

@@ -11,13 +11,12 @@ multiply-requires c κs =
     let start = c .before .before .before .before .before in
     (omega (arith, apart), (start .pre .1 .0, start .pre .1 .1 .packed))
 
-same-length : tie.Need-same-length
-same-length c = search needs
-
 returns : tie.Need-returns
 returns c =
     let start = c .before .before .before .before .before .before .before .before in
     multiply-engine _ _ _ _ _ (start .pre .0) (c .before .before .multiply .ensures)
 
 pub multiply-spec : {M : Type 1} → statement M
-multiply-spec = tie.close (tie.spec multiply-requires same-length returns)
+multiply-spec =
+    tie.close
+    (tie.spec multiply-requires (λ c. search needs) returns)

@@ -5,14 +5,10 @@ use borrow.Author.Needs.{needs}
 use Rattle.linear_conjugate_gradient.proofs.norm.Statement.{statement}
 use Rattle.linear_conjugate_gradient.proofs.norm.Tie as tie
 
-max-requires : tie.Need-max-requires
-max-requires c κs = search needs
-
-sqrt-requires : tie.Need-sqrt-requires
-sqrt-requires c κs = search needs
-
 returns : tie.Need-returns
 returns c = c .sqrt .ensures .0 ∙ ap rootOf (c .before .max .ensures)
 
 pub norm-spec : {M : Type 1} → statement M
-norm-spec = tie.close (tie.spec max-requires sqrt-requires returns)
+norm-spec =
+    tie.close
+    (tie.spec (λ c κs. search needs) (λ c κs. search needs) returns)

@@ -9,11 +9,10 @@ use Rattle.linear_conjugate_gradient.proofs.update.Tie as tie
 reduce-requires : tie.Need-reduce-requires
 reduce-requires c κs = omega (arith, apart)
 
-same-length : tie.Need-same-length
-same-length c = search needs
-
 returns : tie.Need-returns
 returns c = update-all _ _ _ (c .before .before .before .before .before .pre) (c .before .before .reduce .ensures)
 
 pub update-spec : {M : Type 1} → statement M
-update-spec = tie.close (tie.spec reduce-requires same-length returns)
+update-spec =
+    tie.close
+    (tie.spec reduce-requires (λ c. search needs) returns)

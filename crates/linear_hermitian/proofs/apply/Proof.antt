@@ -4,17 +4,13 @@ use borrow.Author.Needs.{needs}
 use Rattle.linear_hermitian.proofs.apply.Statement.{statement}
 use Rattle.linear_hermitian.proofs.apply.Tie as tie
 
-scale-requires : tie.Need-scale-requires
-scale-requires c κs = search needs
-
 edges-requires : tie.Need-edges-requires
 edges-requires c κs = (search needs, search needs)
-
-same-length : tie.Need-same-length
-same-length c = search needs
 
 returns : tie.Need-returns
 returns c = search apply-all
 
 pub apply-spec : {M : Type 1} → statement M
-apply-spec = tie.close (tie.spec scale-requires edges-requires same-length returns)
+apply-spec =
+    tie.close
+    (tie.spec (λ c κs. search needs) edges-requires (λ c. search needs) returns)

@@ -15,15 +15,6 @@ abbrev μ-loop : tie.MeasureT-loop
 loop-holds : tie.Need-loop-holds Inv-loop μ-loop
 loop-holds c = search (re-none, needs)
 
-dot-re-at-requires : tie.Need-dot-re-at-requires Inv-loop μ-loop
-dot-re-at-requires c κs = search needs
-
-add-i : tie.Need-add-i Inv-loop μ-loop
-add-i c = search needs
-
-loop-less : tie.Need-loop-less Inv-loop μ-loop
-loop-less c = search needs
-
 loop-again : tie.Need-loop-again Inv-loop μ-loop
 loop-again c = search (re-again, needs)
 
@@ -33,4 +24,4 @@ returns c = search re-done
 pub dot-re-spec : {M : Type 1} → statement M
 dot-re-spec =
     tie.close
-    (tie.spec Inv-loop μ-loop loop-holds dot-re-at-requires add-i loop-less loop-again returns)
+    (tie.spec Inv-loop μ-loop loop-holds (λ c κs. search needs) (λ c. search needs) (λ c. search needs) loop-again returns)

@@ -4,15 +4,11 @@ use borrow.Author.Needs.{needs}
 use Rattle.linear_hermitian.proofs.dot_re_at.Statement.{statement}
 use Rattle.linear_hermitian.proofs.dot_re_at.Tie as tie
 
-load-requires : tie.Need-load-requires
-load-requires c κs = search needs
-
-load-requires-2 : tie.Need-load-requires-2
-load-requires-2 c κs = search needs
-
 returns : tie.Need-returns
 unfolding reTerm
 returns c = cc
 
 pub dot-re-at-spec : {M : Type 1} → statement M
-dot-re-at-spec = tie.close (tie.spec load-requires load-requires-2 returns)
+dot-re-at-spec =
+    tie.close
+    (tie.spec (λ c κs. search needs) (λ c κs. search needs) returns)

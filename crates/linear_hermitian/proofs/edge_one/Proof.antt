@@ -4,22 +4,11 @@ use borrow.Author.Needs.{needs}
 use Rattle.linear_hermitian.proofs.edge_one.Statement.{statement}
 use Rattle.linear_hermitian.proofs.edge_one.Tie as tie
 
-edge-ends-requires : tie.Need-edge-ends-requires
-edge-ends-requires c κs = search needs
-
-store-requires : tie.Need-store-requires
-store-requires c κs = search needs
-
-store-requires-2 : tie.Need-store-requires-2
-store-requires-2 c κs = search needs
-
-same-length : tie.Need-same-length
-same-length c = search needs
-
 returns : tie.Need-returns
 unfolding edgeC
 returns c = cc
 
 pub edge-one-spec : {M : Type 1} → statement M
 edge-one-spec =
-    tie.close (tie.spec edge-ends-requires store-requires store-requires-2 same-length returns)
+    tie.close
+    (tie.spec (λ c κs. search needs) (λ c κs. search needs) (λ c κs. search needs) (λ c. search needs) returns)

@@ -24,17 +24,8 @@ edge-at-requires c κs = let at = c .before .before in
     let e = at .loop .e in
     omega (arith, pre .a-below e (omega arith), pre .b-below e (omega arith))
 
-add-e : tie.Need-add-e Inv-loop μ-loop
-add-e c = search needs
-
-loop-less : tie.Need-loop-less Inv-loop μ-loop
-loop-less c = search needs
-
 loop-again : tie.Need-loop-again Inv-loop μ-loop
 loop-again c = search (edges-again, needs)
-
-same-length : tie.Need-same-length Inv-loop μ-loop
-same-length c = search needs
 
 returns : tie.Need-returns Inv-loop μ-loop
 returns c = search edges-done
@@ -42,13 +33,4 @@ returns c = search edges-done
 pub edges-spec : {M : Type 1} → statement M
 edges-spec =
     tie.close
-    (tie.spec
-    Inv-loop
-    μ-loop
-    loop-holds
-    edge-at-requires
-    add-e
-    loop-less
-    loop-again
-    same-length
-    returns)
+    (tie.spec Inv-loop μ-loop loop-holds edge-at-requires (λ c. search needs) (λ c. search needs) loop-again (λ c. search needs) returns)

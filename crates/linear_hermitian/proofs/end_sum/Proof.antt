@@ -3,20 +3,10 @@ use borrow.Author.Needs.{needs}
 use Rattle.linear_hermitian.proofs.end_sum.Statement.{statement}
 use Rattle.linear_hermitian.proofs.end_sum.Tie as tie
 
-load-requires : tie.Need-load-requires
-load-requires c κs = search needs
-
-load-requires-2 : tie.Need-load-requires-2
-load-requires-2 c κs = search needs
-
-mul-requires : tie.Need-mul-requires
-mul-requires c κs = search needs
-
-add-requires : tie.Need-add-requires
-add-requires c κs = search needs
-
 returns : tie.Need-returns
 returns c = cc
 
 pub end-sum-spec : {M : Type 1} → statement M
-end-sum-spec = tie.close (tie.spec load-requires load-requires-2 mul-requires add-requires returns)
+end-sum-spec =
+    tie.close
+    (tie.spec (λ c κs. search needs) (λ c κs. search needs) (λ c κs. search needs) (λ c κs. search needs) returns)

@@ -4,17 +4,10 @@ use borrow.Author.Needs.{needs}
 use Rattle.linear_hermitian.proofs.shifted.Statement.{statement}
 use Rattle.linear_hermitian.proofs.shifted.Tie as tie
 
-shift-diagonal-requires : tie.Need-shift-diagonal-requires
-shift-diagonal-requires c κs = search needs
-
-shift-off-requires : tie.Need-shift-off-requires
-shift-off-requires c κs = search needs
-
-same-length : tie.Need-same-length
-same-length c = search needs
-
 returns : tie.Need-returns
 returns c = search shifted-all
 
 pub shifted-spec : {M : Type 1} → statement M
-shifted-spec = tie.close (tie.spec shift-diagonal-requires shift-off-requires same-length returns)
+shifted-spec =
+    tie.close
+    (tie.spec (λ c κs. search needs) (λ c κs. search needs) (λ c. search needs) returns)

@@ -3,11 +3,10 @@ use borrow.Author.Needs.{needs}
 use Rattle.linear_hermitian.proofs.trace_at.Statement.{statement}
 use Rattle.linear_hermitian.proofs.trace_at.Tie as tie
 
-load-real-requires : tie.Need-load-real-requires
-load-real-requires c κs = search needs
-
 returns : tie.Need-returns
 returns c = cc
 
 pub trace-at-spec : {M : Type 1} → statement M
-trace-at-spec = tie.close (tie.spec load-real-requires returns)
+trace-at-spec =
+    tie.close
+    (tie.spec (λ c κs. search needs) returns)

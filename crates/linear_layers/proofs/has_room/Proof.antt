@@ -10,22 +10,10 @@ returns c = roomy-rows _ _ _ (c .if1 .taken)
 returns-2 : tie.Need-returns-2
 returns-2 c = roomy-edges _ _ _ (c .if2 .taken)
 
-mul-result : tie.Need-mul-result
-mul-result c = search needs
-
-add-result : tie.Need-add-result
-add-result c = search needs
-
-mul-result-2 : tie.Need-mul-result-2
-mul-result-2 c = search needs
-
-add-result-2 : tie.Need-add-result-2
-add-result-2 c = search needs
-
 returns-3 : tie.Need-returns-3
 returns-3 c = roomy-words _ _ _ (c .before .if1 .left) (c .if2 .left)
 
 pub has-room-spec : {M : Type 1} → statement M
 has-room-spec =
     tie.close
-    (tie.spec returns returns-2 mul-result add-result mul-result-2 add-result-2 returns-3)
+    (tie.spec returns returns-2 (λ c. search needs) (λ c. search needs) (λ c. search needs) (λ c. search needs) returns-3)

@@ -11,20 +11,8 @@ returns c = good-short _ _ _ _ (omega (arith, c .if1 .taken))
 returns-2 : tie.Need-returns-2
 returns-2 c = good-short _ _ _ _ (omega (arith, c .if2 .taken))
 
-mul-if3 : tie.Need-mul-if3
-mul-if3 c = search needs
-
-mul-if3-2 : tie.Need-mul-if3-2
-mul-if3-2 c = search needs
-
-add-if3 : tie.Need-add-if3
-add-if3 c = search needs
-
 returns-3 : tie.Need-returns-3
 returns-3 c = good-short _ _ _ _ (c .if3 .taken)
-
-are-edges-requires : tie.Need-are-edges-requires
-are-edges-requires c κs = search needs
 
 returns-4 : tie.Need-returns-4
 returns-4 c = good-edges _ _ _ _ (c .before .if3 .left) (c .are-edges .ensures)
@@ -32,12 +20,4 @@ returns-4 c = good-edges _ _ _ _ (c .before .if3 .left) (c .are-edges .ensures)
 pub is-good-spec : {M : Type 1} → statement M
 is-good-spec =
     tie.close
-    (tie.spec
-    returns
-    returns-2
-    mul-if3
-    mul-if3-2
-    add-if3
-    returns-3
-    are-edges-requires
-    returns-4)
+    (tie.spec returns returns-2 (λ c. search needs) (λ c. search needs) (λ c. search needs) returns-3 (λ c κs. search needs) returns-4)

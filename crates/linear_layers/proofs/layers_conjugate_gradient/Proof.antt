@@ -8,26 +8,8 @@ use borrow.Author.Needs.{needs}
 use Rattle.linear_layers.proofs.layers_conjugate_gradient.Statement.{statement}
 use Rattle.linear_layers.proofs.layers_conjugate_gradient.Tie as tie
 
-solve-requires : tie.Need-solve-requires
-solve-requires c κs = search needs
-
-enum-told : tie.Need-enum-told
-enum-told c = search needs
-
-same-length : tie.Need-same-length
-same-length c = search needs
-
-same-length-2 : tie.Need-same-length-2
-same-length-2 c = search needs
-
 returns : tie.Need-returns
 returns c = told-solved _ _ _ _ _ _ _ (c .before .before .before .before .before .before .solve .ensures) (c .enum-told .given .1)
-
-same-length-3 : tie.Need-same-length-3
-same-length-3 c = search needs
-
-same-length-4 : tie.Need-same-length-4
-same-length-4 c = search needs
 
 returns-2 : tie.Need-returns-2
 returns-2 c =
@@ -37,12 +19,5 @@ returns-2 c =
 pub layers-conjugate-gradient-spec : {M : Type 1} → statement M
 layers-conjugate-gradient-spec =
     tie.close
-    (tie.spec
-    solve-requires
-    enum-told
-    same-length
-    same-length-2
-    returns
-    same-length-3
-    same-length-4
+    (tie.spec (λ c κs. search needs) (λ c. search needs) (λ c. search needs) (λ c. search needs) returns (λ c. search needs) (λ c. search needs)
     returns-2)

@@ -9,4 +9,6 @@ unfolding matrixFor
 returns c = refl
 
 pub matrix-for-spec : {M : Type 1} → statement M
-matrix-for-spec = tie.close (tie.spec returns)
+matrix-for-spec =
+    tie.close
+    (tie.spec returns)

@@ -7,26 +7,14 @@ use borrow.Author.Needs.{needs}
 use Rattle.linear_layers.proofs.normalize.Statement.{statement}
 use Rattle.linear_layers.proofs.normalize.Tie as tie
 
-is-good-requires : tie.Need-is-good-requires
-is-good-requires c κs = search needs
-
-same-length : tie.Need-same-length
-same-length c = search needs
-
 returns : tie.Need-returns
 returns c = normalize-refused _ _ _ _ nan 0 (c .before .is-good .ensures) (not-true _ (c .if1 .taken))
-
-matrix-for-requires : tie.Need-matrix-for-requires
-matrix-for-requires c κs = search needs
 
 vectors-for-requires : tie.Need-vectors-for-requires
 vectors-for-requires c κs = omega (arith, small _ _ _ _ (c .before .before .is-good .ensures) (not-false _ (c .before .if1 .left)))
 
 normalize-in-mass-requires : tie.Need-normalize-in-mass-requires
 normalize-in-mass-requires c κs = normalize-needs _ _ _ _ (c .before .before .before .before .is-good .ensures) (not-false _ (c .before .before .before .if1 .left)) (c .before .before .matrix-for .ensures) (c .before .vectors-for .ensures)
-
-same-length-2 : tie.Need-same-length-2
-same-length-2 c = search needs
 
 returns-2 : tie.Need-returns-2
 returns-2 c =
@@ -36,12 +24,5 @@ returns-2 c =
 pub normalize-spec : {M : Type 1} → statement M
 normalize-spec =
     tie.close
-    (tie.spec
-    is-good-requires
-    same-length
-    returns
-    matrix-for-requires
-    vectors-for-requires
-    normalize-in-mass-requires
-    same-length-2
-    returns-2)
+    (tie.spec (λ c κs. search needs) (λ c. search needs) returns (λ c κs. search needs) vectors-for-requires normalize-in-mass-requires
+    (λ c. search needs) returns-2)

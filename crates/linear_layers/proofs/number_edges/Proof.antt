@@ -23,32 +23,22 @@ put-ends-requires-2 c κs =
 
 pack-requires : tie.Need-pack-requires
 pack-requires c κs =
-    let start = c .before .before .before .before .before .before .before .before .before .before .before .before .before .before in
-    let back10 = c .before .before .before .before .before .before .before .before .before .before in
-    let back9 = c .before .before .before .before .before .before .before .before .before in
     let back7 = c .before .before .before .before .before .before .before in
+    let back9 = back7 .before .before in
+    let back10 = back9 .before in
+    let start = back10 .before .before .before .before in
     pack-needs _ _ _ _ (start .pre .0) (start .pre .1) (back10 .packing-for .ensures) (back9 .source-for .ensures) (back7 .put-ends .ensures) (c .before .before .before .put-ends2 .ensures)
-
-same-length : tie.Need-same-length
-same-length c = search needs
 
 returns : tie.Need-returns
 returns c =
-    let start = c .before .before .before .before .before .before .before .before .before .before .before .before .before .before .before .before .before in
-    let back13 = c .before .before .before .before .before .before .before .before .before .before .before .before .before in
-    let back12 = c .before .before .before .before .before .before .before .before .before .before .before .before in
     let back10 = c .before .before .before .before .before .before .before .before .before .before in
+    let back12 = back10 .before .before in
+    let back13 = back12 .before in
+    let start = back13 .before .before .before .before in
     edges-numbered _ _ _ _ (start .pre .0) (start .pre .1) (back13 .packing-for .ensures) (back12 .source-for .ensures) (back10 .put-ends .ensures)
     (c .before .before .before .before .before .before .put-ends2 .ensures) (c .before .before .pack .ensures)
 
 pub number-edges-spec : {M : Type 1} → statement M
 number-edges-spec =
     tie.close
-    (tie.spec
-    packing-for-requires
-    source-for-requires
-    put-ends-requires
-    put-ends-requires-2
-    pack-requires
-    same-length
-    returns)
+    (tie.spec packing-for-requires source-for-requires put-ends-requires put-ends-requires-2 pack-requires (λ c. search needs) returns)

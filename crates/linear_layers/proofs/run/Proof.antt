@@ -10,9 +10,6 @@ number-edges-requires c κs =
     let start = c .before .before .before .before .before in
     (start .pre .1, graph _ _ _ _ (start .pre .0))
 
-matrix-for-requires : tie.Need-matrix-for-requires
-matrix-for-requires c κs = search needs
-
 vectors-for-requires : tie.Need-vectors-for-requires
 vectors-for-requires c κs =
     let start = c .before .before .before .before .before .before .before .before .before in
@@ -30,51 +27,36 @@ source-for-requires c κs =
 
 entries-requires : tie.Need-entries-requires
 entries-requires c κs =
-    let start = c .before .before .before .before .before .before .before .before .before .before .before .before .before .before in
     let back8 = c .before .before .before .before .before .before .before .before in
+    let start = back8 .before .before .before .before .before .before in
     entries-needs (start .args .work .now) _ _ _ _ (start .args .tolerance) (start .args .most) (start .pre .0) (start .pre .1) (back8 .number-edges .ensures)
     (c .before .before .before .before .before .matrix-for .ensures) (c .before .before .before .packing-for .ensures) (c .before .before .source-for .ensures)
 
 conjugate-gradient-requires : tie.Need-conjugate-gradient-requires
 conjugate-gradient-requires c κs =
-    let start = c .before .before .before .before .before .before .before .before .before .before .before .before .before .before .before .before .before .before .before in
-    let back13 = c .before .before .before .before .before .before .before .before .before .before .before .before .before in
-    let back10 = c .before .before .before .before .before .before .before .before .before .before in
-    let back9 = c .before .before .before .before .before .before .before .before .before in
-    let back8 = c .before .before .before .before .before .before .before .before in
     let back7 = c .before .before .before .before .before .before .before in
+    let back8 = back7 .before in
+    let back9 = back8 .before in
+    let back10 = back9 .before in
+    let back13 = back10 .before .before .before in
+    let start = back13 .before .before .before .before .before .before in
     run-gradient _ _ _ _ _ (start .args .tolerance) (start .args .most) (start .pre .0) (start .pre .1) (back13 .number-edges .ensures) (back10 .matrix-for .ensures) (back9 .vectors-for .ensures)
     (back8 .packing-for .ensures) (back7 .source-for .ensures) (c .before .before .before .before .entries .ensures)
 
-same-length : tie.Need-same-length
-same-length c = search needs
-
-same-length-2 : tie.Need-same-length-2
-same-length-2 c = search needs
-
 returns : tie.Need-returns
 returns c =
-    let start = c .before .before .before .before .before .before .before .before .before .before .before .before .before .before .before .before .before .before .before .before .before .before in
-    let back16 = c .before .before .before .before .before .before .before .before .before .before .before .before .before .before .before .before in
-    let back13 = c .before .before .before .before .before .before .before .before .before .before .before .before .before in
-    let back12 = c .before .before .before .before .before .before .before .before .before .before .before .before in
-    let back11 = c .before .before .before .before .before .before .before .before .before .before .before in
-    let back10 = c .before .before .before .before .before .before .before .before .before .before in
     let back7 = c .before .before .before .before .before .before .before in
+    let back10 = back7 .before .before .before in
+    let back11 = back10 .before in
+    let back12 = back11 .before in
+    let back13 = back12 .before in
+    let back16 = back13 .before .before .before in
+    let start = back16 .before .before .before .before .before .before in
     run-made _ _ _ _ _ _ _ (start .pre .0) (start .pre .1) (back16 .number-edges .ensures) (back13 .matrix-for .ensures) (back12 .vectors-for .ensures) (back11 .packing-for .ensures)
     (back10 .source-for .ensures) (back7 .entries .ensures) (c .before .before .conjugate-gradient .ensures)
 
 pub run-spec : {M : Type 1} → statement M
 run-spec =
     tie.close
-    (tie.spec
-    number-edges-requires
-    matrix-for-requires
-    vectors-for-requires
-    packing-for-requires
-    source-for-requires
-    entries-requires
-    conjugate-gradient-requires
-    same-length
-    same-length-2
-    returns)
+    (tie.spec number-edges-requires (λ c κs. search needs) vectors-for-requires packing-for-requires source-for-requires entries-requires
+    conjugate-gradient-requires (λ c. search needs) (λ c. search needs) returns)

@@ -5,23 +5,8 @@ use borrow.Author.Needs.{needs}
 use Rattle.linear_layers.proofs.solve.Statement.{statement}
 use Rattle.linear_layers.proofs.solve.Tie as tie
 
-is-good-requires : tie.Need-is-good-requires
-is-good-requires c κs = search needs
-
-same-length : tie.Need-same-length
-same-length c = search needs
-
 returns : tie.Need-returns
 returns c = solve-refused _ _ _ _ _ _ _ (c .before .is-good .ensures) (not-true _ (c .if1 .taken))
-
-has-room-requires : tie.Need-has-room-requires
-has-room-requires c κs = search needs
-
-same-length-2 : tie.Need-same-length-2
-same-length-2 c = search needs
-
-same-length-3 : tie.Need-same-length-3
-same-length-3 c = search needs
 
 returns-2 : tie.Need-returns-2
 returns-2 c = solve-roomless _ _ _ _ _ _ _ (c .before .before .before .before .is-good .ensures) (not-false _ (c .before .before .before .if1 .left)) (c .before .has-room .ensures) (not-true _ (c .if2 .taken))
@@ -32,32 +17,16 @@ run-requires c κs =
     run-needs (start .args .work .now) _ _ _ (start .args .numbers .now) (start .args .tolerance) (start .args .most) (c .before .before .before .before .before .before .is-good .ensures)
     (not-false _ (c .before .before .before .before .before .if1 .left)) (c .before .before .before .has-room .ensures) (not-false _ (c .before .before .if2 .left))
 
-same-length-4 : tie.Need-same-length-4
-same-length-4 c = search needs
-
-same-length-5 : tie.Need-same-length-5
-same-length-5 c = search needs
-
 returns-3 : tie.Need-returns-3
 returns-3 c =
-    let back11 = c .before .before .before .before .before .before .before .before .before .before .before in
-    let back10 = c .before .before .before .before .before .before .before .before .before .before in
-    let back8 = c .before .before .before .before .before .before .before .before in
     let back7 = c .before .before .before .before .before .before .before in
+    let back8 = back7 .before in
+    let back10 = back8 .before .before in
+    let back11 = back10 .before in
     solve-solved _ _ _ _ _ _ _ (back11 .is-good .ensures) (not-false _ (back10 .if1 .left)) (back8 .has-room .ensures) (not-false _ (back7 .if2 .left)) (c .before .before .before .before .run .ensures)
 
 pub solve-spec : {M : Type 1} → statement M
 solve-spec =
     tie.close
-    (tie.spec
-    is-good-requires
-    same-length
-    returns
-    has-room-requires
-    same-length-2
-    same-length-3
-    returns-2
-    run-requires
-    same-length-4
-    same-length-5
-    returns-3)
+    (tie.spec (λ c κs. search needs) (λ c. search needs) returns (λ c κs. search needs) (λ c. search needs) (λ c. search needs) returns-2 run-requires
+    (λ c. search needs) (λ c. search needs) returns-3)

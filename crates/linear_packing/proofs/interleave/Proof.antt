@@ -23,21 +23,12 @@ loop-holds c = (omega arith, omega arith, omega arith, interleave-none _ _ _)
 interleave-at-requires : tie.Need-interleave-at-requires Inv-loop μ-loop
 interleave-at-requires c κs = (interleave-still _ _ _ (c .before .before .before .before .before .pre) (c .before .before .loop .g) (omega arith) (c .before .before .loop .inv .3) .laid, omega arith)
 
-add-g : tie.Need-add-g Inv-loop μ-loop
-add-g c = search needs
-
-loop-less : tie.Need-loop-less Inv-loop μ-loop
-loop-less c = search needs
-
 loop-again : tie.Need-loop-again Inv-loop μ-loop
 loop-again c =
-    let start = c .before .before .before .before .before .before .before .before in
     let back5 = c .before .before .before .before .before in
+    let start = back5 .before .before .before in
     let q = interleave-again _ _ _ (start .pre) (back5 .loop .g) (omega arith) (back5 .loop .inv .3) (c .before .before .interleave-at .ensures) in
     (back5 .loop .inv .0, omega arith, ap length q ∙ length-interleavedTo _ _ _ _, q)
-
-same-length : tie.Need-same-length Inv-loop μ-loop
-same-length c = search needs
 
 returns : tie.Need-returns Inv-loop μ-loop
 returns c = interleave-done _ _ _ (c .before .before .before .before .pre) (c .before .loop .inv .0) (omega arith) (omega arith) (c .before .loop .inv .3)
@@ -45,14 +36,5 @@ returns c = interleave-done _ _ _ (c .before .before .before .before .pre) (c .b
 pub interleave-spec : {M : Type 1} → statement M
 interleave-spec =
     tie.close
-    (tie.spec
-    Inv-loop
-    μ-loop
-    add-g-end
-    loop-holds
-    interleave-at-requires
-    add-g
-    loop-less
-    loop-again
-    same-length
+    (tie.spec Inv-loop μ-loop add-g-end loop-holds interleave-at-requires (λ c. search needs) (λ c. search needs) loop-again (λ c. search needs)
     returns)

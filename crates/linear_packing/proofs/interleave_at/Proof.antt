@@ -54,27 +54,14 @@ interleave-pair-requires c κs =
     let start = c .before .before .before .before .before .before .before .before in
     (start .pre .0, pair-now _ _ _ _ (c .before .before .before .before .before .start-of .ensures) (c .before .before .before .start-of2 .ensures) (c .before .start-of3 .ensures) (started _ _ _ (start .pre .0)) (start .pre .1))
 
-same-length : tie.Need-same-length
-same-length c = search needs
-
 returns : tie.Need-returns
 returns c =
-    let start = c .before .before .before .before .before .before .before .before .before .before .before in
     let back8 = c .before .before .before .before .before .before .before .before in
+    let start = back8 .before .before .before in
     interleaved-at (start .args .u .now) (start .args .source) _ (back8 .start-of .ensures) (c .before .before .interleave-pair .ensures)
 
 pub interleave-at-spec : {M : Type 1} → statement M
 interleave-at-spec =
     tie.close
-    (tie.spec
-    mul-v
-    start-of-requires
-    add-start-of
-    start-of-requires-2
-    add-start-of-2
-    start-of-requires-3
-    sub-interleave-pair
-    sub-interleave-pair-2
-    interleave-pair-requires
-    same-length
-    returns)
+    (tie.spec mul-v start-of-requires add-start-of start-of-requires-2 add-start-of-2 start-of-requires-3 sub-interleave-pair sub-interleave-pair-2
+    interleave-pair-requires (λ c. search needs) returns)

@@ -28,21 +28,12 @@ slot-at-requires c κs =
       (slot-now _ _ _ _ _ _ _ (start .pre .0) (start .pre .1) (back2 .loop .j) (omega arith) (back2 .loop .inv .3), omega (arith, start .pre .1 .most)),
     )
 
-add-j : tie.Need-add-j Inv-loop μ-loop
-add-j c = search needs
-
-loop-less : tie.Need-loop-less Inv-loop μ-loop
-loop-less c = search needs
-
 loop-again : tie.Need-loop-again Inv-loop μ-loop
 loop-again c =
-    let start = c .before .before .before .before .before .before .before in
     let back5 = c .before .before .before .before .before in
+    let start = back5 .before .before in
     let q = pair-again _ _ _ _ _ _ _ (start .pre .0) (start .pre .1) (back5 .loop .j) (omega arith) (back5 .loop .inv .3) (c .before .before .slot-at .ensures) in
     (back5 .loop .inv .0, omega arith, ap length q ∙ length-pairTo _ _ _ _ _ _ _ _, q)
-
-same-length : tie.Need-same-length Inv-loop μ-loop
-same-length c = search needs
 
 returns : tie.Need-returns Inv-loop μ-loop
 returns c = pair-done _ _ _ _ _ _ _ (c .before .before .before .pre .0) (c .before .before .before .pre .1) (c .before .loop .inv .0) (omega arith) (omega arith) (c .before .loop .inv .3)
@@ -50,14 +41,4 @@ returns c = pair-done _ _ _ _ _ _ _ (c .before .before .before .pre .0) (c .befo
 pub interleave-pair-spec : {M : Type 1} → statement M
 interleave-pair-spec =
     tie.close
-    (tie.spec
-    Inv-loop
-    μ-loop
-    add-j-end
-    loop-holds
-    slot-at-requires
-    add-j
-    loop-less
-    loop-again
-    same-length
-    returns)
+    (tie.spec Inv-loop μ-loop add-j-end loop-holds slot-at-requires (λ c. search needs) (λ c. search needs) loop-again (λ c. search needs) returns)

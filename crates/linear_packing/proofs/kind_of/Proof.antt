@@ -28,4 +28,6 @@ returns-4 c =
     rw (le-ltb (start .args .q) (start .args .p) (omega (arith, c .before .before .if1 .left)), le-ltb (start .args .p) (start .args .q) (omega (arith, c .before .if2 .left)), c .if3 .left)
 
 pub kind-of-spec : {M : Type 1} → statement M
-kind-of-spec = tie.close (tie.spec returns returns-2 returns-3 returns-4)
+kind-of-spec =
+    tie.close
+    (tie.spec returns returns-2 returns-3 returns-4)

@@ -21,4 +21,6 @@ returns-2 : tie.Need-returns-2
 returns-2 c = even-mark _ _ _ _ (c .before .if1 .left) (c .mark-of .ensures)
 
 pub mark-or-end-spec : {M : Type 1} → statement M
-mark-or-end-spec = tie.close (tie.spec add-start-of start-of-requires returns mark-of-requires returns-2)
+mark-or-end-spec =
+    tie.close
+    (tie.spec add-start-of start-of-requires returns mark-of-requires returns-2)

@@ -28,9 +28,6 @@ store-number-requires c κs =
       neighbour-narrow _ _ _ (start .pre .0) _ (start .pre .1) (c .before .before .before .load-number .ensures) (c .before .neighbour-of .ensures),
     )
 
-same-length : tie.Need-same-length
-same-length c = search needs
-
 returns : tie.Need-returns
 returns c =
     let start = c .before .before .before .before .before .before .before .before .before in
@@ -39,4 +36,5 @@ returns c =
 
 pub neighbour-at-spec : {M : Type 1} → statement M
 neighbour-at-spec =
-    tie.close (tie.spec load-number-requires neighbour-of-requires store-number-requires same-length returns)
+    tie.close
+    (tie.spec load-number-requires neighbour-of-requires store-number-requires (λ c. search needs) returns)

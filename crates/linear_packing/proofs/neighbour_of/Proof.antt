@@ -17,4 +17,6 @@ returns-2 : tie.Need-returns-2
 returns-2 c = neighbour-odd (c .before .before .before .args .source) _ _ (c .before .before .before .pre .0) (c .before .if1 .left) (c .load-number2 .ensures)
 
 pub neighbour-of-spec : {M : Type 1} → statement M
-neighbour-of-spec = tie.close (tie.spec load-number-requires returns load-number-requires-2 returns-2)
+neighbour-of-spec =
+    tie.close
+    (tie.spec load-number-requires returns load-number-requires-2 returns-2)

@@ -20,21 +20,12 @@ loop-holds c = (omega arith, omega arith, omega arith, neighbours-none _ _ _)
 neighbour-at-requires : tie.Need-neighbour-at-requires Inv-loop μ-loop
 neighbour-at-requires c κs = (neighbours-interleaved _ _ _ (c .before .before .before .before .pre) (c .before .before .loop .k) (c .before .before .loop .inv .3), omega arith)
 
-add-k : tie.Need-add-k Inv-loop μ-loop
-add-k c = search needs
-
-loop-less : tie.Need-loop-less Inv-loop μ-loop
-loop-less c = search needs
-
 loop-again : tie.Need-loop-again Inv-loop μ-loop
 loop-again c =
-    let start = c .before .before .before .before .before .before .before in
     let back5 = c .before .before .before .before .before in
+    let start = back5 .before .before in
     let q = neighbours-again _ _ _ (start .pre) (back5 .loop .k) (omega arith) (back5 .loop .inv .3) (c .before .before .neighbour-at .ensures) in
     (back5 .loop .inv .0, omega arith, ap length q ∙ length-neighboursTo _ _ _ _, q)
-
-same-length : tie.Need-same-length Inv-loop μ-loop
-same-length c = search needs
 
 returns : tie.Need-returns Inv-loop μ-loop
 returns c = neighbours-done _ _ _ (c .before .before .before .pre) (c .before .loop .inv .0) (omega arith) (omega arith) (c .before .loop .inv .3)
@@ -42,13 +33,4 @@ returns c = neighbours-done _ _ _ (c .before .before .before .pre) (c .before .l
 pub neighbours-spec : {M : Type 1} → statement M
 neighbours-spec =
     tie.close
-    (tie.spec
-    Inv-loop
-    μ-loop
-    loop-holds
-    neighbour-at-requires
-    add-k
-    loop-less
-    loop-again
-    same-length
-    returns)
+    (tie.spec Inv-loop μ-loop loop-holds neighbour-at-requires (λ c. search needs) (λ c. search needs) loop-again (λ c. search needs) returns)

@@ -15,12 +15,6 @@ Inv-loop work u copy x k m end sums₀ j₀ sums j = (end ≡ k + 2 * m) × (k �
 abbrev μ-loop : tie.MeasureT-loop
 μ-loop work u copy x k m end sums₀ j₀ sums j = end - j
 
-mul-end : tie.Need-mul-end Inv-loop μ-loop
-mul-end c = search needs
-
-add-end : tie.Need-add-end Inv-loop μ-loop
-add-end c = search needs
-
 loop-holds : tie.Need-loop-holds Inv-loop μ-loop
 loop-holds c = (omega arith, omega arith, omega arith, omega arith, pair-terms-none _ _ _ _ _ _)
 
@@ -49,14 +43,4 @@ returns c = pair-terms-done _ _ _ _ _ _ _ (omega arith) (omega arith) (c .before
 pub adjacent-terms-spec : {M : Type 1} → statement M
 adjacent-terms-spec =
     tie.close
-    (tie.spec
-    Inv-loop
-    μ-loop
-    mul-end
-    add-end
-    loop-holds
-    adjacent-term-requires
-    add-j
-    loop-less
-    loop-again
-    returns)
+    (tie.spec Inv-loop μ-loop (λ c. search needs) (λ c. search needs) loop-holds adjacent-term-requires add-j loop-less loop-again returns)

@@ -7,9 +7,6 @@ use Rattle.linear_pairs.proofs.pair_term.Tie as tie
 term-requires : tie.Need-term-requires
 term-requires c κs = c .before .before .pre .0
 
-add-term : tie.Need-add-term
-add-term c = search needs
-
 term-requires-2 : tie.Need-term-requires-2
 term-requires-2 c κs = c .before .before .before .pre .1
 
@@ -18,4 +15,6 @@ unfolding pairTerm
 returns c = cc
 
 pub pair-term-spec : {M : Type 1} → statement M
-pair-term-spec = tie.close (tie.spec term-requires add-term term-requires-2 returns)
+pair-term-spec =
+    tie.close
+    (tie.spec term-requires (λ c. search needs) term-requires-2 returns)

@@ -17,19 +17,10 @@ abbrev μ-loop : tie.MeasureT-loop
 loop-holds : tie.Need-loop-holds Inv-loop μ-loop
 loop-holds c = (omega arith, terms-none _ _ _ _ _ _)
 
-add-term : tie.Need-add-term Inv-loop μ-loop
-add-term c = search needs
-
 term-requires : tie.Need-term-requires Inv-loop μ-loop
 term-requires c κs =
     let start = c .before .before .before .before in
     term-in (start .pre .0) (start .args .k + c .before .loop .c) (omega arith)
-
-add-c : tie.Need-add-c Inv-loop μ-loop
-add-c c = search needs
-
-loop-less : tie.Need-loop-less Inv-loop μ-loop
-loop-less c = search needs
 
 loop-again : tie.Need-loop-again Inv-loop μ-loop
 loop-again c = (omega arith, terms-again _ _ _ _ _ _ _ (c .before .before .loop .inv .1) (c .term .ensures))
@@ -40,4 +31,4 @@ returns c = terms-done _ _ _ _ _ _ (omega arith) (omega arith) (c .before .loop 
 pub terms-spec : {M : Type 1} → statement M
 terms-spec =
     tie.close
-    (tie.spec Inv-loop μ-loop loop-holds add-term term-requires add-c loop-less loop-again returns)
+    (tie.spec Inv-loop μ-loop loop-holds (λ c. search needs) term-requires (λ c. search needs) (λ c. search needs) loop-again returns)

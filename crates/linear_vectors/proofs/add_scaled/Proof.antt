@@ -4,15 +4,11 @@ use borrow.Author.Needs.{needs}
 use Rattle.linear_vectors.proofs.add_scaled.Statement.{statement}
 use Rattle.linear_vectors.proofs.add_scaled.Tie as tie
 
-scale-requires : tie.Need-scale-requires
-scale-requires c κs = search needs
-
-add-requires : tie.Need-add-requires
-add-requires c κs = search needs
-
 returns : tie.Need-returns
 unfolding addScaled
 returns c = cc
 
 pub add-scaled-spec : {M : Type 1} → statement M
-add-scaled-spec = tie.close (tie.spec scale-requires add-requires returns)
+add-scaled-spec =
+    tie.close
+    (tie.spec (λ c κs. search needs) (λ c κs. search needs) returns)

@@ -4,22 +4,11 @@ use borrow.Author.Needs.{needs}
 use Rattle.linear_vectors.proofs.direct_at.Statement.{statement}
 use Rattle.linear_vectors.proofs.direct_at.Tie as tie
 
-next-at-requires : tie.Need-next-at-requires
-next-at-requires c κs = search needs
-
-store-requires : tie.Need-store-requires
-store-requires c κs = search needs
-
-store-requires-2 : tie.Need-store-requires-2
-store-requires-2 c κs = search needs
-
-same-length : tie.Need-same-length
-same-length c = search needs
-
 returns : tie.Need-returns
 unfolding directC
 returns c = cc
 
 pub direct-at-spec : {M : Type 1} → statement M
 direct-at-spec =
-    tie.close (tie.spec next-at-requires store-requires store-requires-2 same-length returns)
+    tie.close
+    (tie.spec (λ c κs. search needs) (λ c κs. search needs) (λ c κs. search needs) (λ c. search needs) returns)

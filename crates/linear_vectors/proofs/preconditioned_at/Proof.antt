@@ -3,18 +3,10 @@ use borrow.Author.Needs.{needs}
 use Rattle.linear_vectors.proofs.preconditioned_at.Statement.{statement}
 use Rattle.linear_vectors.proofs.preconditioned_at.Tie as tie
 
-load-requires : tie.Need-load-requires
-load-requires c κs = search needs
-
-load-real-requires : tie.Need-load-real-requires
-load-real-requires c κs = search needs
-
-scale-requires : tie.Need-scale-requires
-scale-requires c κs = search needs
-
 returns : tie.Need-returns
 returns c = cc
 
 pub preconditioned-at-spec : {M : Type 1} → statement M
 preconditioned-at-spec =
-    tie.close (tie.spec load-requires load-real-requires scale-requires returns)
+    tie.close
+    (tie.spec (λ c κs. search needs) (λ c κs. search needs) (λ c κs. search needs) returns)

@@ -3,21 +3,10 @@ use borrow.Author.Needs.{needs}
 use Rattle.linear_vectors.proofs.scale_at.Statement.{statement}
 use Rattle.linear_vectors.proofs.scale_at.Tie as tie
 
-load-requires : tie.Need-load-requires
-load-requires c κs = search needs
-
-scale-requires : tie.Need-scale-requires
-scale-requires c κs = search needs
-
-store-requires : tie.Need-store-requires
-store-requires c κs = search needs
-
-same-length : tie.Need-same-length
-same-length c = search needs
-
 returns : tie.Need-returns
 returns c = cc
 
 pub scale-at-spec : {M : Type 1} → statement M
 scale-at-spec =
-    tie.close (tie.spec load-requires scale-requires store-requires same-length returns)
+    tie.close
+    (tie.spec (λ c κs. search needs) (λ c κs. search needs) (λ c κs. search needs) (λ c. search needs) returns)

@@ -10,4 +10,6 @@ unfolding mul halfway
 returns c = search needs
 
 pub half-sum-spec : {M : Type 1} → statement M
-half-sum-spec = tie.close (tie.spec returns)
+half-sum-spec =
+    tie.close
+    (tie.spec returns)

@@ -3,17 +3,8 @@ use borrow.Author.Needs.{needs}
 use Rattle.pass.proofs.shift_energy.Statement.{statement}
 use Rattle.pass.proofs.shift_energy.Tie as tie
 
-mass-at-requires : tie.Need-mass-at-requires
-mass-at-requires c κs = search needs
-
-energy-at-requires : tie.Need-energy-at-requires
-energy-at-requires c κs = search needs
-
 shift-energy-requires : tie.Need-shift-energy-requires
 shift-energy-requires c κs = rw (c .before .energy-at .ensures, c .before .before .mass-at .ensures) (c .before .before .before .before .pre)
-
-same-length : tie.Need-same-length
-same-length c = search needs
 
 returns : tie.Need-returns
 returns c = rw (c .before .before .before .before .energy-at .ensures, c .before .before .before .before .before .mass-at .ensures) at (c .before .before .shift-energy .ensures)
@@ -21,4 +12,4 @@ returns c = rw (c .before .before .before .before .energy-at .ensures, c .before
 pub shift-energy-spec : {M : Type 1} → statement M
 shift-energy-spec =
     tie.close
-    (tie.spec mass-at-requires energy-at-requires shift-energy-requires same-length returns)
+    (tie.spec (λ c κs. search needs) (λ c κs. search needs) shift-energy-requires (λ c. search needs) returns)

@@ -5,20 +5,12 @@ use borrow.Author.Needs.{needs}
 use Rattle.pass_assembly.proofs.add_cell.Statement.{statement}
 use Rattle.pass_assembly.proofs.add_cell.Tie as tie
 
-load-requires : tie.Need-load-requires
-load-requires c κs = search needs
-
-add-requires : tie.Need-add-requires
-add-requires c κs = search needs
-
-store-requires : tie.Need-store-requires
-store-requires c κs = search needs
-
-same-length : tie.Need-same-length
-same-length c = search needs
-
 returns : tie.Need-returns
-returns c = cell-added _ _ _ _ _ (c .before .before .before .before .before .before .before .before .pre .0) (c .before .before .store .ensures ∙ rw (c .before .before .before .before .add .ensures, c .before .before .before .before .before .load .ensures))
+returns c =
+    let start = c .before .before .before .before .before .before .before .before in
+    cell-added _ _ _ _ _ (start .pre .0) (c .before .before .store .ensures ∙ rw (c .before .before .before .before .add .ensures, c .before .before .before .before .before .load .ensures))
 
 pub add-cell-spec : {M : Type 1} → statement M
-add-cell-spec = tie.close (tie.spec load-requires add-requires store-requires same-length returns)
+add-cell-spec =
+    tie.close
+    (tie.spec (λ c κs. search needs) (λ c κs. search needs) (λ c κs. search needs) (λ c. search needs) returns)

@@ -7,14 +7,10 @@ use Rattle.pass_assembly.proofs.add_correction.Tie as tie
 returns : tie.Need-returns
 returns c = correction-none _ _ _ _ _ _ (c .if1 .taken)
 
-add-corners-requires : tie.Need-add-corners-requires
-add-corners-requires c κs = search needs
-
-same-length : tie.Need-same-length
-same-length c = search needs
-
 returns-2 : tie.Need-returns-2
 returns-2 c = correction-some _ _ _ _ _ _ (c .before .before .before .before .if1 .left) (c .before .before .add-corners .ensures)
 
 pub add-correction-spec : {M : Type 1} → statement M
-add-correction-spec = tie.close (tie.spec returns add-corners-requires same-length returns-2)
+add-correction-spec =
+    tie.close
+    (tie.spec returns (λ c κs. search needs) (λ c. search needs) returns-2)

@@ -4,22 +4,13 @@ use borrow.Author.Needs.{needs}
 use Rattle.pass_assembly.proofs.add_sides.Statement.{statement}
 use Rattle.pass_assembly.proofs.add_sides.Tie as tie
 
-add-cell-requires : tie.Need-add-cell-requires
-add-cell-requires c κs = search needs
-
-add-cell-requires-2 : tie.Need-add-cell-requires-2
-add-cell-requires-2 c κs = search needs
-
-add-cell-requires-3 : tie.Need-add-cell-requires-3
-add-cell-requires-3 c κs = search needs
-
-same-length : tie.Need-same-length
-same-length c = search needs
-
 returns : tie.Need-returns
-returns c = sides-all _ _ _ (c .before .before .before .before .before .before .before .before .before .before .before .before .before .pre .1) _ _ (c .before .before .before .before .before .before .before .before .before .before .add-cell .ensures) (c .before .before .before .before .before .before .add-cell2 .ensures) (c .before .before .add-cell3 .ensures)
+returns c =
+    let back10 = c .before .before .before .before .before .before .before .before .before .before in
+    let start = back10 .before .before .before in
+    sides-all _ _ _ (start .pre .1) _ _ (back10 .add-cell .ensures) (c .before .before .before .before .before .before .add-cell2 .ensures) (c .before .before .add-cell3 .ensures)
 
 pub add-sides-spec : {M : Type 1} → statement M
 add-sides-spec =
     tie.close
-    (tie.spec add-cell-requires add-cell-requires-2 add-cell-requires-3 same-length returns)
+    (tie.spec (λ c κs. search needs) (λ c κs. search needs) (λ c κs. search needs) (λ c. search needs) returns)

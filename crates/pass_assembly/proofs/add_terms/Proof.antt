@@ -4,22 +4,13 @@ use borrow.Author.Needs.{needs}
 use Rattle.pass_assembly.proofs.add_terms.Statement.{statement}
 use Rattle.pass_assembly.proofs.add_terms.Tie as tie
 
-add-part-requires : tie.Need-add-part-requires
-add-part-requires c κs = search needs
-
-add-part-requires-2 : tie.Need-add-part-requires-2
-add-part-requires-2 c κs = search needs
-
-add-correction-requires : tie.Need-add-correction-requires
-add-correction-requires c κs = search needs
-
-same-length : tie.Need-same-length
-same-length c = search needs
-
 returns : tie.Need-returns
-returns c = terms-all _ _ _ (c .before .before .before .before .before .before .before .before .before .before .before .before .before .pre .0) _ _ _ _ (c .before .before .before .before .before .before .before .before .before .before .add-part .ensures) (c .before .before .before .before .before .before .add-part2 .ensures) (c .before .before .add-correction .ensures)
+returns c =
+    let back10 = c .before .before .before .before .before .before .before .before .before .before in
+    let start = back10 .before .before .before in
+    terms-all _ _ _ (start .pre .0) _ _ _ _ (back10 .add-part .ensures) (c .before .before .before .before .before .before .add-part2 .ensures) (c .before .before .add-correction .ensures)
 
 pub add-terms-spec : {M : Type 1} → statement M
 add-terms-spec =
     tie.close
-    (tie.spec add-part-requires add-part-requires-2 add-correction-requires same-length returns)
+    (tie.spec (λ c κs. search needs) (λ c κs. search needs) (λ c κs. search needs) (λ c. search needs) returns)

@@ -5,31 +5,22 @@ use borrow.Author.Needs.{needs}
 use Rattle.pass_assembly.proofs.add_triangle.Statement.{statement}
 use Rattle.pass_assembly.proofs.add_triangle.Tie as tie
 
-triple-at-requires : tie.Need-triple-at-requires
-triple-at-requires c κs = search needs
-
-triple-at-requires-2 : tie.Need-triple-at-requires-2
-triple-at-requires-2 c κs = search needs
-
 terms-at-requires : tie.Need-terms-at-requires
-terms-at-requires c κs = (terms-in _ _ _ (c .before .before .before .before .before .pre .0 .0) _ (c .before .before .before .before .before .pre .0 .1), both-within _ _ (c .before .before .before .before .before .pre .1) (c .before .before .before .before .before .pre .0 .1) (c .before .before .triple-at .ensures) (c .before .triple-at2 .ensures))
+terms-at-requires c κs =
+    let start = c .before .before .before .before .before in
+    (terms-in _ _ _ (start .pre .0 .0) _ (start .pre .0 .1), both-within _ _ (start .pre .1) (start .pre .0 .1) (c .before .before .triple-at .ensures) (c .before .triple-at2 .ensures))
 
 add-terms-requires : tie.Need-add-terms-requires
-add-terms-requires c κs = (c .before .before .before .before .before .before .before .pre .0 .0 .matrices, both-within _ _ (c .before .before .before .before .before .before .before .pre .1) (c .before .before .before .before .before .before .before .pre .0 .1) (c .before .before .before .before .triple-at .ensures) (c .before .before .before .triple-at2 .ensures))
-
-same-length : tie.Need-same-length
-same-length c = search needs
+add-terms-requires c κs =
+    let start = c .before .before .before .before .before .before .before in
+    (start .pre .0 .0 .matrices, both-within _ _ (start .pre .1) (start .pre .0 .1) (c .before .before .before .before .triple-at .ensures) (c .before .before .before .triple-at2 .ensures))
 
 returns : tie.Need-returns
-returns c = triangle-all _ _ _ _ _ _ _ (c .before .before .before .before .before .before .before .triple-at .ensures) (c .before .before .before .before .before .before .triple-at2 .ensures) (c .before .before .before .before .terms-at .ensures) (c .before .before .add-terms .ensures)
+returns c =
+    let back7 = c .before .before .before .before .before .before .before in
+    triangle-all _ _ _ _ _ _ _ (back7 .triple-at .ensures) (c .before .before .before .before .before .before .triple-at2 .ensures) (c .before .before .before .before .terms-at .ensures) (c .before .before .add-terms .ensures)
 
 pub add-triangle-spec : {M : Type 1} → statement M
 add-triangle-spec =
     tie.close
-    (tie.spec
-    triple-at-requires
-    triple-at-requires-2
-    terms-at-requires
-    add-terms-requires
-    same-length
-    returns)
+    (tie.spec (λ c κs. search needs) (λ c κs. search needs) terms-at-requires add-terms-requires (λ c. search needs) returns)

@@ -19,19 +19,12 @@ loop-holds : tie.Need-loop-holds Inv-loop μ-loop
 loop-holds c = search needs
 
 add-triangle-requires : tie.Need-add-triangle-requires Inv-loop μ-loop
-add-triangle-requires c κs = ((rw (c .before .before .loop .inv .2) (c .before .before .before .before .before .pre .0), omega arith), c .before .before .before .before .before .pre .1 .0)
-
-add-t : tie.Need-add-t Inv-loop μ-loop
-add-t c = search needs
-
-loop-less : tie.Need-loop-less Inv-loop μ-loop
-loop-less c = search needs
+add-triangle-requires c κs =
+    let start = c .before .before .before .before .before in
+    ((rw (c .before .before .loop .inv .2) (start .pre .0), omega arith), start .pre .1 .0)
 
 loop-again : tie.Need-loop-again Inv-loop μ-loop
 loop-again c = search (to-again, needs)
-
-same-length : tie.Need-same-length Inv-loop μ-loop
-same-length c = search needs
 
 returns : tie.Need-returns Inv-loop μ-loop
 returns c = search to-done
@@ -39,13 +32,4 @@ returns c = search to-done
 pub add-triangles-spec : {M : Type 1} → statement M
 add-triangles-spec =
     tie.close
-    (tie.spec
-    Inv-loop
-    μ-loop
-    loop-holds
-    add-triangle-requires
-    add-t
-    loop-less
-    loop-again
-    same-length
-    returns)
+    (tie.spec Inv-loop μ-loop loop-holds add-triangle-requires (λ c. search needs) (λ c. search needs) loop-again (λ c. search needs) returns)

@@ -4,21 +4,19 @@ use borrow.Author.Needs.{needs}
 use Rattle.pass_assembly.proofs.assemble.Statement.{statement}
 use Rattle.pass_assembly.proofs.assemble.Tie as tie
 
-clear-requires : tie.Need-clear-requires
-clear-requires c κs = search needs
-
-clear-requires-2 : tie.Need-clear-requires-2
-clear-requires-2 c κs = search needs
-
 add-triangles-requires : tie.Need-add-triangles-requires
-add-triangles-requires c κs = (cleared-room _ _ _ _ (c .before .before .before .before .before .before .before .before .before .before .before .pre .0) (c .before .before .before .before .before .before .before .clear .ensures) (c .before .before .before .clear2 .ensures), (c .before .before .before .before .before .before .before .before .before .before .before .pre .1, cleared-none _ _ _ _ _ _ (c .before .before .before .before .before .before .before .before .before .before .before .pre .0) (c .before .before .before .before .before .before .before .clear .ensures) (c .before .before .before .clear2 .ensures)))
-
-same-length : tie.Need-same-length
-same-length c = search needs
+add-triangles-requires c κs =
+    let back7 = c .before .before .before .before .before .before .before in
+    let start = back7 .before .before .before .before in
+    (cleared-room _ _ _ _ (start .pre .0) (back7 .clear .ensures) (c .before .before .before .clear2 .ensures), (start .pre .1, cleared-none _ _ _ _ _ _ (start .pre .0) (back7 .clear .ensures) (c .before .before .before .clear2 .ensures)))
 
 returns : tie.Need-returns
-returns c = assemble-all _ _ _ _ _ _ (c .before .before .before .before .before .before .before .before .before .before .before .before .before .before .pre .0) (c .before .before .before .before .before .before .before .before .before .before .clear .ensures) (c .before .before .before .before .before .before .clear2 .ensures) (c .before .before .before .before .before .before .before .before .before .before .before .before .before .before .pre .1) (c .before .before .add-triangles .ensures)
+returns c =
+    let back10 = c .before .before .before .before .before .before .before .before .before .before in
+    let start = back10 .before .before .before .before in
+    assemble-all _ _ _ _ _ _ (start .pre .0) (back10 .clear .ensures) (c .before .before .before .before .before .before .clear2 .ensures) (start .pre .1) (c .before .before .add-triangles .ensures)
 
 pub assemble-spec : {M : Type 1} → statement M
 assemble-spec =
-    tie.close (tie.spec clear-requires clear-requires-2 add-triangles-requires same-length returns)
+    tie.close
+    (tie.spec (λ c κs. search needs) (λ c κs. search needs) add-triangles-requires (λ c. search needs) returns)

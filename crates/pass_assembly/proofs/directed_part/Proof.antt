@@ -3,11 +3,10 @@ use borrow.Author.Needs.{needs}
 use Rattle.pass_assembly.proofs.directed_part.Statement.{statement}
 use Rattle.pass_assembly.proofs.directed_part.Tie as tie
 
-directed-sides-requires : tie.Need-directed-sides-requires
-directed-sides-requires c κs = search needs
-
 returns : tie.Need-returns
 returns c = simp (c .directed-sides .ensures)
 
 pub directed-part-spec : {M : Type 1} → statement M
-directed-part-spec = tie.close (tie.spec directed-sides-requires returns)
+directed-part-spec =
+    tie.close
+    (tie.spec (λ c κs. search needs) returns)

@@ -4,19 +4,11 @@ use borrow.Author.Needs.{needs}
 use Rattle.pass_assembly.proofs.directed_sides.Statement.{statement}
 use Rattle.pass_assembly.proofs.directed_sides.Tie as tie
 
-directed-to-requires : tie.Need-directed-to-requires
-directed-to-requires c κs = search needs
-
-directed-to-requires-2 : tie.Need-directed-to-requires-2
-directed-to-requires-2 c κs = search needs
-
-directed-to-requires-3 : tie.Need-directed-to-requires-3
-directed-to-requires-3 c κs = search needs
-
 returns : tie.Need-returns
 unfolding directedSides
 returns c = simp (c .directed-to3 .ensures, c .before .directed-to2 .ensures, c .before .before .directed-to .ensures)
 
 pub directed-sides-spec : {M : Type 1} → statement M
 directed-sides-spec =
-    tie.close (tie.spec directed-to-requires directed-to-requires-2 directed-to-requires-3 returns)
+    tie.close
+    (tie.spec (λ c κs. search needs) (λ c κs. search needs) (λ c κs. search needs) returns)

@@ -4,15 +4,11 @@ use borrow.Author.Needs.{needs}
 use Rattle.pass_assembly.proofs.directed_terms.Statement.{statement}
 use Rattle.pass_assembly.proofs.directed_terms.Tie as tie
 
-directed-part-requires : tie.Need-directed-part-requires
-directed-part-requires c κs = search needs
-
-directed-part-requires-2 : tie.Need-directed-part-requires-2
-directed-part-requires-2 c κs = search needs
-
 returns : tie.Need-returns
 unfolding directedTerms
 returns c = simp (c .directed-part2 .ensures, c .before .directed-part .ensures)
 
 pub directed-terms-spec : {M : Type 1} → statement M
-directed-terms-spec = tie.close (tie.spec directed-part-requires directed-part-requires-2 returns)
+directed-terms-spec =
+    tie.close
+    (tie.spec (λ c κs. search needs) (λ c κs. search needs) returns)

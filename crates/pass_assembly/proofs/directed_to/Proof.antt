@@ -10,12 +10,11 @@ returns : tie.Need-returns
 unfolding towardUpper
 returns c = rw (lt-ltb _ _ (c .if1 .taken))
 
-conj-requires : tie.Need-conj-requires
-conj-requires c κs = search needs
-
 returns-2 : tie.Need-returns-2
 unfolding towardUpper
 returns-2 c = c .conj .ensures ∙ rw (le-ltb _ _ (c .before .if1 .left))
 
 pub directed-to-spec : {M : Type 1} → statement M
-directed-to-spec = tie.close (tie.spec returns conj-requires returns-2)
+directed-to-spec =
+    tie.close
+    (tie.spec returns (λ c κs. search needs) returns-2)

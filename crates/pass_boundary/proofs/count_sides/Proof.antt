@@ -5,22 +5,23 @@ use Rattle.pass_boundary.proofs.Whole.{counted-all}
 use Rattle.pass_boundary.proofs.count_sides.Statement.{statement}
 use Rattle.pass_boundary.proofs.count_sides.Tie as tie
 
-mul-count-numbers : tie.Need-mul-count-numbers
-mul-count-numbers c = search needs
-
 count-numbers-requires : tie.Need-count-numbers-requires
-count-numbers-requires c κs = (((omega (arith, c .before .before .before .pre .0 .numbers-in, c .before .before .before .pre .0 .table-in), omega (arith, c .before .before .before .pre .0 .counts-in, c .before .before .before .pre .0 .flags-in)), c .before .before .before .pre .0 .narrow), c .before .before .before .pre .1 .numbers-below)
+count-numbers-requires c κs = (
+  ((omega (arith, c .before .before .before .pre .0 .numbers-in, c .before .before .before .pre .0 .table-in), omega (arith, c .before .before .before .pre .0 .counts-in, c .before .before .before .pre .0 .flags-in)), c .before .before .before .pre .0 .narrow),
+  c .before .before .before .pre .1 .numbers-below,
+)
 
-zeros-requires : tie.Need-zeros-requires
-zeros-requires c κs = omega (arith, c .before .before .before .before .before .before .before .pre .0 .flags-in, c .before .before .before .count-numbers .ensures .same-length)
-
-same-length : tie.Need-same-length
-same-length c = search needs
+zeros-u32-requires : tie.Need-zeros-u32-requires
+zeros-u32-requires c κs =
+    let start = c .before .before .before .before .before .before .before in
+    omega (arith, start .pre .0 .flags-in, c .before .before .before .count-numbers .ensures .same-length)
 
 returns : tie.Need-returns
-returns c = counted-all (c .before .before .before .before .before .before .before .before .before .before .pre .0) (c .before .before .before .before .before .before .before .before .before .before .pre .1) (c .before .before .before .before .before .before .count-numbers .ensures) (c .before .before .zeros .ensures)
+returns c =
+    let start = c .before .before .before .before .before .before .before .before .before .before in
+    counted-all (start .pre .0) (start .pre .1) (c .before .before .before .before .before .before .count-numbers .ensures) (c .before .before .zeros-u32 .ensures)
 
 pub count-sides-spec : {M : Type 1} → statement M
 count-sides-spec =
     tie.close
-    (tie.spec mul-count-numbers count-numbers-requires zeros-requires same-length returns)
+    (tie.spec (λ c. search needs) count-numbers-requires zeros-u32-requires (λ c. search needs) returns)

@@ -5,25 +5,15 @@ use Rattle.pass_boundary.proofs.Steps.{found-first, found-once}
 use Rattle.pass_boundary.proofs.is_boundary.Statement.{statement}
 use Rattle.pass_boundary.proofs.is_boundary.Tie as tie
 
-find-side-requires : tie.Need-find-side-requires
-find-side-requires c κs = search needs
-
-add-result : tie.Need-add-result
-add-result c = search needs
-
 sub-result : tie.Need-sub-result
 sub-result c = omega (arith, found-first (c .before .before .before .args .l) _ _ _ (c .before .before .before .pre .0 .0) (c .before .before .before .pre .0 .1 .1) (c .before .find-side .ensures .0))
 
-mul-result : tie.Need-mul-result
-mul-result c = search needs
-
-shared-slice-read-result : tie.Need-shared-slice-read-result
-shared-slice-read-result c = search needs
-
 returns : tie.Need-returns
-returns c = found-once (c .before .before .before .before .args .l) _ _ _ (c .before .before .before .before .pre .0 .0) (c .before .before .before .before .pre .0 .1 .1) (c .before .before .find-side .ensures .0) (c .before .before .before .before .pre .0 .1 .0) (c .before .before .find-side .ensures .1)
+returns c =
+    let start = c .before .before .before .before in
+    found-once (start .args .l) _ _ _ (start .pre .0 .0) (start .pre .0 .1 .1) (c .before .before .find-side .ensures .0) (start .pre .0 .1 .0) (c .before .before .find-side .ensures .1)
 
 pub is-boundary-spec : {M : Type 1} → statement M
 is-boundary-spec =
     tie.close
-    (tie.spec find-side-requires add-result sub-result mul-result shared-slice-read-result returns)
+    (tie.spec (λ c κs. search needs) (λ c. search needs) sub-result (λ c. search needs) (λ c. search needs) returns)

@@ -20,19 +20,23 @@ loop-holds : tie.Need-loop-holds Inv-loop μ-loop
 loop-holds c = (omega arith, (omega arith, marked-none _ _ _ _))
 
 mark-triangle-requires : tie.Need-mark-triangle-requires Inv-loop μ-loop
-mark-triangle-requires c κs = let f = (still-facts (c .before .before .before .before .before .before .before .pre .0, c .before .before .before .before .before .before .before .pre .1) (c .before .before .before .before .loop .inv .1 .1 .added)) in (f .0, (f .1 .0, (f .1 .1, c .before .before .if1 .taken)))
+mark-triangle-requires c κs =
+    let start = c .before .before .before .before .before .before .before in
+    let f = (still-facts (start .pre .0, start .pre .1) (c .before .before .before .before .loop .inv .1 .1 .added)) in (f .0, (f .1 .0, (f .1 .1, c .before .before .if1 .taken)))
 
 add-count : tie.Need-add-count Inv-loop μ-loop
-add-count c = omega (arith, marked-few (c .before .before .before .before .mark-triangle .ensures), c .before .before .before .before .before .before .before .before .before .loop .inv .1 .0, c .before .before .before .before .before .before .before .before .before .before .before .before .pre .0 .0 .narrow)
-
-add-i : tie.Need-add-i Inv-loop μ-loop
-add-i c = search needs
-
-loop-less : tie.Need-loop-less Inv-loop μ-loop
-loop-less c = search needs
+add-count c =
+    let back9 = c .before .before .before .before .before .before .before .before .before in
+    let start = back9 .before .before .before in
+    omega (arith, marked-few (c .before .before .before .before .mark-triangle .ensures), back9 .loop .inv .1 .0, start .pre .0 .0 .narrow)
 
 loop-again : tie.Need-loop-again Inv-loop μ-loop
-loop-again c = (omega arith, (omega (arith, marked-few (c .before .before .before .before .mark-triangle .ensures), c .before .before .before .before .before .before .before .before .before .loop .inv .1 .0), marked-more (c .before .before .before .before .before .before .before .before .before .before .before .before .pre .0 .0) (c .before .before .before .before .before .before .before .before .before .before .before .before .pre .0 .1) (c .before .before .before .before .before .before .before .if1 .taken) (c .before .before .before .before .before .before .before .before .before .loop .inv .1 .1) (c .before .before .before .before .mark-triangle .ensures)))
+loop-again c =
+    let back4 = c .before .before .before .before in
+    let back7 = back4 .before .before .before in
+    let back9 = back7 .before .before in
+    let start = back9 .before .before .before in
+    (omega arith, (omega (arith, marked-few (back4 .mark-triangle .ensures), back9 .loop .inv .1 .0), marked-more (start .pre .0 .0) (start .pre .0 .1) (back7 .if1 .taken) (back9 .loop .inv .1 .1) (back4 .mark-triangle .ensures)))
 
 same-length : tie.Need-same-length Inv-loop μ-loop
 same-length c = c .before .before .loop .inv .1 .1 .added .w-length
@@ -46,15 +50,5 @@ returns c = let e : c .before .before .loop .i ≡ c .before .before .before .be
 pub mark-all-spec : {M : Type 1} → statement M
 mark-all-spec =
     tie.close
-    (tie.spec
-    Inv-loop
-    μ-loop
-    loop-holds
-    mark-triangle-requires
-    add-count
-    add-i
-    loop-less
-    loop-again
-    same-length
-    same-length-2
+    (tie.spec Inv-loop μ-loop loop-holds mark-triangle-requires add-count (λ c. search needs) (λ c. search needs) loop-again same-length same-length-2
     returns)

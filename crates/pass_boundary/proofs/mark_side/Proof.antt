@@ -6,35 +6,20 @@ use Rattle.pass_boundary.proofs.Steps.{marked-no, marked-yes}
 use Rattle.pass_boundary.proofs.mark_side.Statement.{statement}
 use Rattle.pass_boundary.proofs.mark_side.Tie as tie
 
-is-boundary-requires : tie.Need-is-boundary-requires
-is-boundary-requires c κs = search needs
-
-index-requires : tie.Need-index-requires
-index-requires c κs = search needs
-
-index-requires-2 : tie.Need-index-requires-2
-index-requires-2 c κs = search needs
-
-direction-requires : tie.Need-direction-requires
-direction-requires c κs = search needs
-
 add-mark-requires : tie.Need-add-mark-requires
-add-mark-requires c κs = (c .before .before .before .before .before .before .before .before .before .before .before .pre .0 .1, (omega (arith, c .before .before .before .before .before .index .ensures, c .before .before .before .before .before .before .before .before .before .before .before .pre .1 .1 .0), c .before .before .before .before .before .before .before .before .before .before .before .pre .0 .0 .flags-in))
-
-add-mark-requires-2 : tie.Need-add-mark-requires-2
-add-mark-requires-2 c κs = search needs
-
-same-length : tie.Need-same-length
-same-length c = search needs
-
-same-length-2 : tie.Need-same-length-2
-same-length-2 c = search needs
+add-mark-requires c κs =
+    let start = c .before .before .before .before .before .before .before .before .before .before .before in
+    (start .pre .0 .1, (omega (arith, c .before .before .before .before .before .index .ensures, start .pre .1 .1 .0), start .pre .0 .0 .flags-in))
 
 returns : tie.Need-returns
-returns c = marked-yes (sym (c .before .before .before .before .before .before .before .before .before .before .before .before .before .before .before .before .before .before .before .is-boundary .ensures) ∙ c .before .before .before .before .before .before .before .before .before .before .before .before .before .before .before .before .before .before .if1 .taken) (c .before .before .before .before .before .before .before .before .before .before .before .before .before .before .before .before .before .index .ensures) (c .before .before .before .before .before .before .before .before .before .before .before .before .before .before .before .before .index2 .ensures) (c .before .before .before .before .before .before .before .before .before .before .before .before .before .before .direction .ensures) (c .before .before .before .before .before .before .before .before .before .before .before .add-mark .ensures) (c .before .before .before .before .add-mark2 .ensures)
-
-same-length-3 : tie.Need-same-length-3
-same-length-3 c = search needs
+returns c =
+    let back11 = c .before .before .before .before .before .before .before .before .before .before .before in
+    let back14 = back11 .before .before .before in
+    let back16 = back14 .before .before in
+    let back17 = back16 .before in
+    let back18 = back17 .before in
+    let back19 = back18 .before in
+    marked-yes (sym (back19 .is-boundary .ensures) ∙ back18 .if1 .taken) (back17 .index .ensures) (back16 .index2 .ensures) (back14 .direction .ensures) (back11 .add-mark .ensures) (c .before .before .before .before .add-mark2 .ensures)
 
 returns-2 : tie.Need-returns-2
 returns-2 c = marked-no (sym (c .before .is-boundary .ensures) ∙ c .if1 .left)
@@ -42,15 +27,5 @@ returns-2 c = marked-no (sym (c .before .is-boundary .ensures) ∙ c .if1 .left)
 pub mark-side-spec : {M : Type 1} → statement M
 mark-side-spec =
     tie.close
-    (tie.spec
-    is-boundary-requires
-    index-requires
-    index-requires-2
-    direction-requires
-    add-mark-requires
-    add-mark-requires-2
-    same-length
-    same-length-2
-    returns
-    same-length-3
-    returns-2)
+    (tie.spec (λ c κs. search needs) (λ c κs. search needs) (λ c κs. search needs) (λ c κs. search needs) add-mark-requires (λ c κs. search needs)
+    (λ c. search needs) (λ c. search needs) returns (λ c. search needs) returns-2)

@@ -5,18 +5,6 @@ use Rattle.pass_boundary.specs.Boundary.{normalised}
 use Rattle.pass_boundary.proofs.normal.Statement.{statement}
 use Rattle.pass_boundary.proofs.normal.Tie as tie
 
-norm-requires : tie.Need-norm-requires
-norm-requires c κs = search needs
-
-is-finite-requires : tie.Need-is-finite-requires
-is-finite-requires c κs = search needs
-
-recip-requires : tie.Need-recip-requires
-recip-requires c κs = search needs
-
-scale-requires : tie.Need-scale-requires
-scale-requires c κs = search needs
-
 returns : tie.Need-returns
 unfolding normalised
 returns c = c .scale .ensures ∙ rw (c .before .recip .ensures, ← c .before .before .before .before .before .norm .ensures, ← c .before .before .before .before .is-finite .ensures, c .before .before .before .if1 .taken, c .before .before .if2 .taken)
@@ -32,11 +20,4 @@ returns-3 c = rw (← c .before .before .norm .ensures, ← c .before .is-finite
 pub normal-spec : {M : Type 1} → statement M
 normal-spec =
     tie.close
-    (tie.spec
-    norm-requires
-    is-finite-requires
-    recip-requires
-    scale-requires
-    returns
-    returns-2
-    returns-3)
+    (tie.spec (λ c κs. search needs) (λ c κs. search needs) (λ c κs. search needs) (λ c κs. search needs) returns returns-2 returns-3)

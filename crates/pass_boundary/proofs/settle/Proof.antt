@@ -21,19 +21,15 @@ loop-holds : tie.Need-loop-holds Inv-loop μ-loop
 loop-holds c = search (settle-none, needs)
 
 settle-at-requires : tie.Need-settle-at-requires Inv-loop μ-loop
-settle-at-requires c κs = (subst (PlaneRoom (c .before .before .before .before .before .args .p)) (sym (c .before .before .loop .inv .1 .1 .0)) (c .before .before .before .before .before .pre .0), (omega arith, omega (arith, c .before .before .before .before .before .pre .1)))
-
-add-v : tie.Need-add-v Inv-loop μ-loop
-add-v c = search needs
-
-loop-less : tie.Need-loop-less Inv-loop μ-loop
-loop-less c = search needs
+settle-at-requires c κs =
+    let start = c .before .before .before .before .before in
+    (subst (PlaneRoom (start .args .p)) (sym (c .before .before .loop .inv .1 .1 .0)) (start .pre .0), (omega arith, omega (arith, start .pre .1)))
 
 loop-again : tie.Need-loop-again Inv-loop μ-loop
-loop-again c = (c .before .before .before .before .before .loop .inv .0, (omega arith, (search needs, settle-again _ _ _ (c .before .before .before .before .before .before .before .before .args .p) (c .before .before .before .before .before .before .before .before .pre .0) _ (omega arith) (c .before .before .before .before .before .loop .inv .1 .1 .1) (c .before .before .settle-at .ensures))))
-
-same-length : tie.Need-same-length Inv-loop μ-loop
-same-length c = search needs
+loop-again c =
+    let back5 = c .before .before .before .before .before in
+    let start = back5 .before .before .before in
+    (back5 .loop .inv .0, (omega arith, (search needs, settle-again _ _ _ (start .args .p) (start .pre .0) _ (omega arith) (back5 .loop .inv .1 .1 .1) (c .before .before .settle-at .ensures))))
 
 returns : tie.Need-returns Inv-loop μ-loop
 returns c = search settle-done
@@ -41,13 +37,4 @@ returns c = search settle-done
 pub settle-spec : {M : Type 1} → statement M
 settle-spec =
     tie.close
-    (tie.spec
-    Inv-loop
-    μ-loop
-    loop-holds
-    settle-at-requires
-    add-v
-    loop-less
-    loop-again
-    same-length
-    returns)
+    (tie.spec Inv-loop μ-loop loop-holds settle-at-requires (λ c. search needs) (λ c. search needs) loop-again (λ c. search needs) returns)

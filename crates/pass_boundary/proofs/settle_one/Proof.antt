@@ -6,9 +6,6 @@ use Rattle.pass_boundary.specs.Work.{settledAt}
 use Rattle.pass_boundary.proofs.settle_one.Statement.{statement}
 use Rattle.pass_boundary.proofs.settle_one.Tie as tie
 
-normal-requires : tie.Need-normal-requires
-normal-requires c κs = search needs
-
 returns : tie.Need-returns
 unfolding settledAt
 returns c = c .normal .ensures ∙ rw (eq-eqb _ _ (c .before .if1 .taken))
@@ -18,4 +15,6 @@ unfolding settledAt
 returns-2 c = rw (ne-eqb _ _ (c .if1 .left))
 
 pub settle-one-spec : {M : Type 1} → statement M
-settle-one-spec = tie.close (tie.spec normal-requires returns returns-2)
+settle-one-spec =
+    tie.close
+    (tie.spec (λ c κs. search needs) returns returns-2)

@@ -5,15 +5,6 @@ use borrow.Author.Needs.{needs}
 use Rattle.pass_branches.proofs.acts_on.Statement.{statement}
 use Rattle.pass_branches.proofs.acts_on.Tie as tie
 
-enum-told : tie.Need-enum-told
-enum-told c = search needs
-
-enum-told-2 : tie.Need-enum-told-2
-enum-told-2 c = search needs
-
-enum-known-mode : tie.Need-enum-known-mode
-enum-known-mode c = search needs
-
 returns : tie.Need-returns
 returns c = search needs
 
@@ -25,4 +16,5 @@ returns-3 c = sym (ap acts (c .before .mode .given .1))
 
 pub acts-on-spec : {M : Type 1} → statement M
 acts-on-spec =
-    tie.close (tie.spec enum-told enum-told-2 enum-known-mode returns returns-2 returns-3)
+    tie.close
+    (tie.spec (λ c. search needs) (λ c. search needs) (λ c. search needs) returns returns-2 returns-3)

@@ -5,19 +5,10 @@ use borrow.Author.Needs.{needs}
 use Rattle.pass_branches.proofs.find_field.Statement.{statement}
 use Rattle.pass_branches.proofs.find_field.Tie as tie
 
-acts-on-requires : tie.Need-acts-on-requires
-acts-on-requires c κs = search needs
-
 held-field-requires : tie.Need-held-field-requires
 held-field-requires c κs =
     let start = c .before .before .before .before .before .before in
     (start .pre .0, (start .pre .1, sym (c .before .before .before .acts-on .ensures) ∙ c .before .before .if1 .taken))
-
-same-length : tie.Need-same-length
-same-length c = search needs
-
-same-length-2 : tie.Need-same-length-2
-same-length-2 c = search needs
 
 returns : tie.Need-returns
 returns c = search needs
@@ -27,29 +18,15 @@ packed-field-requires c κs =
     let start = c .before .before .before .before .before .before in
     (start .pre .0, (start .pre .1, λ t. absurd (idle-bounds (start .args .o) (c .before .before .before .acts-on .ensures) (c .before .before .if1 .left) t)))
 
-same-length-3 : tie.Need-same-length-3
-same-length-3 c = search needs
-
-same-length-4 : tie.Need-same-length-4
-same-length-4 c = search needs
-
 returns-2 : tie.Need-returns-2
 returns-2 c =
-    let start = c .before .before .before .before .before .before .before .before .before .before .before in
-    let back8 = c .before .before .before .before .before .before .before .before in
     let back7 = c .before .before .before .before .before .before .before in
+    let back8 = back7 .before in
+    let start = back8 .before .before .before in
     idle-finds (start .args .l) _ (start .args .o) (start .args .s) _ _ (start .pre .0) (back8 .acts-on .ensures) (back7 .if1 .left) (c .before .before .before .before .packed-field .ensures)
 
 pub find-field-spec : {M : Type 1} → statement M
 find-field-spec =
     tie.close
-    (tie.spec
-    acts-on-requires
-    held-field-requires
-    same-length
-    same-length-2
-    returns
-    packed-field-requires
-    same-length-3
-    same-length-4
-    returns-2)
+    (tie.spec (λ c κs. search needs) held-field-requires (λ c. search needs) (λ c. search needs) returns packed-field-requires (λ c. search needs)
+    (λ c. search needs) returns-2)

@@ -9,15 +9,6 @@ boundary-targets-requires c κs =
     let start = c .before .before .before .before in
     (boundary-room (start .args .l) _ (start .pre .0) (start .pre .1 .0 .few), (start .pre .1 .0 .sided, start .pre .1 .0 .numbers))
 
-refused-requires : tie.Need-refused-requires
-refused-requires c κs = search needs
-
-same-length : tie.Need-same-length
-same-length c = search needs
-
-same-length-2 : tie.Need-same-length-2
-same-length-2 c = search needs
-
 returns : tie.Need-returns
 returns c =
     let start = c .before .before .before .before .before .before .before .before .before .before .before in
@@ -36,30 +27,16 @@ packed-field-requires c κs =
       ),
     )
 
-same-length-3 : tie.Need-same-length-3
-same-length-3 c = search needs
-
-same-length-4 : tie.Need-same-length-4
-same-length-4 c = search needs
-
 returns-2 : tie.Need-returns-2
 returns-2 c =
-    let start = c .before .before .before .before .before .before .before .before .before .before .before .before .before .before .before .before .before in
-    let back12 = c .before .before .before .before .before .before .before .before .before .before .before .before in
     let back7 = c .before .before .before .before .before .before .before in
+    let back12 = back7 .before .before .before .before .before in
+    let start = back12 .before .before .before .before .before in
     held-finds (start .args .l) _ _ _ (start .pre .0) (start .pre .1 .0) (back12 .boundary-targets .ensures) (start .args .o) (start .args .s) (start .pre .1 .1) (back7 .if1 .left)
     (c .before .before .before .before .packed-field .ensures)
 
 pub held-field-spec : {M : Type 1} → statement M
 held-field-spec =
     tie.close
-    (tie.spec
-    boundary-targets-requires
-    refused-requires
-    same-length
-    same-length-2
-    returns
-    packed-field-requires
-    same-length-3
-    same-length-4
-    returns-2)
+    (tie.spec boundary-targets-requires (λ c κs. search needs) (λ c. search needs) (λ c. search needs) returns packed-field-requires
+    (λ c. search needs) (λ c. search needs) returns-2)

@@ -13,4 +13,6 @@ returns-3 : tie.Need-returns-3
 returns-3 c = neither-acts (c .before .before .before .args .t) (c .before .if1 .left) (c .if2 .left)
 
 pub none-acts-spec : {M : Type 1} → statement M
-none-acts-spec = tie.close (tie.spec returns returns-2 returns-3)
+none-acts-spec =
+    tie.close
+    (tie.spec returns returns-2 returns-3)

@@ -15,9 +15,6 @@ pack-requires c κs =
     let start = c .before .before .before .before in
     pack-at (start .args .l) _ _ (c .before .packing-at .ensures) (c .source-at .ensures) (start .pre .0 .1) (start .pre .1)
 
-same-length : tie.Need-same-length
-same-length c = search needs
-
 returns : tie.Need-returns
 returns c =
     let start = c .before .before .before .before .before .before .before in
@@ -25,4 +22,5 @@ returns c =
 
 pub pack-edges-spec : {M : Type 1} → statement M
 pack-edges-spec =
-    tie.close (tie.spec packing-at-requires source-at-requires pack-requires same-length returns)
+    tie.close
+    (tie.spec packing-at-requires source-at-requires pack-requires (λ c. search needs) returns)

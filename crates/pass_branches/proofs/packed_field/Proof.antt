@@ -19,18 +19,13 @@ field-at-requires c κs =
       ),
     )
 
-same-length : tie.Need-same-length
-same-length c = search needs
-
-same-length-2 : tie.Need-same-length-2
-same-length-2 c = search needs
-
 returns : tie.Need-returns
 returns c =
-    let start = c .before .before .before .before .before .before .before .before .before .before .before in
     let back7 = c .before .before .before .before .before .before .before in
+    let start = back7 .before .before .before .before in
     leaves-packed (start .args .l) _ _ (start .pre .0) (start .pre .1 .0) (back7 .pack-edges .ensures) _ (start .args .o) (start .args .s) (c .before .before .field-at .ensures)
 
 pub packed-field-spec : {M : Type 1} → statement M
 packed-field-spec =
-    tie.close (tie.spec pack-edges-requires field-at-requires same-length same-length-2 returns)
+    tie.close
+    (tie.spec pack-edges-requires field-at-requires (λ c. search needs) (λ c. search needs) returns)

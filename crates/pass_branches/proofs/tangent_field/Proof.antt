@@ -1,5 +1,5 @@
 -- `pass_branches::tangent_field` meets its contract: the system, and its solution; the law is in proofs/Modes.
-use Rattle.pass_branches.proofs.Modes.{solve-room, leaves-system}
+use Rattle.pass_branches.proofs.Modes.{same-branch, leaves-system}
 use borrow.Author.Needs.{needs}
 use Rattle.pass_branches.proofs.tangent_field.Statement.{statement}
 use Rattle.pass_branches.proofs.tangent_field.Tie as tie
@@ -12,16 +12,14 @@ tangent-system-requires c κs =
 solve-system-requires : tie.Need-solve-system-requires
 solve-system-requires c κs =
     let start = c .before .before .before .before .before .before .before .before .before .before in
-    (solve-room _ _ _ _ (start .args .t) (start .args .o) (start .pre .0 .0) (search needs), (start .pre .1 .0 .0 .energy-graph, start .pre .1 .1 .1))
-
-same-length : tie.Need-same-length
-same-length c = search needs
+    (same-branch _ (start .pre .0 .0) (search needs), (start .pre .1 .0 .0 .energy-graph, start .pre .1 .1 .1))
 
 returns : tie.Need-returns
 returns c =
     let start = c .before .before .before .before .before .before .before .before .before .before .before .before .before in
-    leaves-system _ _ _ _ (start .args .t) (start .args .o) (start .pre .0 .0) (c .before .before .before .before .before .before .tangent-system .ensures) (c .before .before .solve-system .ensures)
+    leaves-system _ (start .pre .0 .0) (c .before .before .before .before .before .before .tangent-system .ensures) (c .before .before .solve-system .ensures)
 
 pub tangent-field-spec : {M : Type 1} → statement M
 tangent-field-spec =
-    tie.close (tie.spec tangent-system-requires solve-system-requires same-length returns)
+    tie.close
+    (tie.spec tangent-system-requires solve-system-requires (λ c. search needs) returns)

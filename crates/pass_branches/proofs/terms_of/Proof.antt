@@ -3,11 +3,10 @@ use borrow.Author.Needs.{needs}
 use Rattle.pass_branches.proofs.terms_of.Statement.{statement}
 use Rattle.pass_branches.proofs.terms_of.Tie as tie
 
-anisotropy-alignment-weight-requires : tie.Need-anisotropy-alignment-weight-requires
-anisotropy-alignment-weight-requires c κs = search needs
-
 returns : tie.Need-returns
 returns c = cc
 
 pub terms-of-spec : {M : Type 1} → statement M
-terms-of-spec = tie.close (tie.spec anisotropy-alignment-weight-requires returns)
+terms-of-spec =
+    tie.close
+    (tie.spec (λ c κs. search needs) returns)

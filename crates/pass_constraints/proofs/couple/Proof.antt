@@ -19,19 +19,14 @@ loop-holds : tie.Need-loop-holds Inv-loop μ-loop
 loop-holds c = search (couple-none, needs)
 
 couple-at-requires : tie.Need-couple-at-requires Inv-loop μ-loop
-couple-at-requires c κs = (search needs, (c .before .before .before .before .before .pre .0, subst (λ k. TangentRoom k (c .before .before .before .before .before .args .n) (c .before .before .before .before .before .args .l)) (sym (c .before .before .loop .inv .1 .0)) (c .before .before .before .before .before .pre .1)))
-
-add-i : tie.Need-add-i Inv-loop μ-loop
-add-i c = search needs
-
-loop-less : tie.Need-loop-less Inv-loop μ-loop
-loop-less c = search needs
+couple-at-requires c κs =
+    let start = c .before .before .before .before .before in
+    (search needs, (start .pre .0, subst (λ k. TangentRoom k (start .args .n) (start .args .l)) (sym (c .before .before .loop .inv .1 .0)) (start .pre .1)))
 
 loop-again : tie.Need-loop-again Inv-loop μ-loop
-loop-again c = (search needs, (search needs, couple-again _ (c .before .before .before .before .before .before .before .before .args .l) _ _ (c .before .before .before .before .before .before .before .before .pre .1) _ (c .before .before .before .before .loop-test .taken) (c .before .before .before .before .before .loop .inv .1 .1) (c .before .before .couple-at .ensures)))
-
-same-length : tie.Need-same-length Inv-loop μ-loop
-same-length c = search needs
+loop-again c =
+    let start = c .before .before .before .before .before .before .before .before in
+    (search needs, (search needs, couple-again _ (start .args .l) _ _ (start .pre .1) _ (c .before .before .before .before .loop-test .taken) (c .before .before .before .before .before .loop .inv .1 .1) (c .before .before .couple-at .ensures)))
 
 returns : tie.Need-returns Inv-loop μ-loop
 returns c = search couple-done
@@ -39,13 +34,4 @@ returns c = search couple-done
 pub couple-spec : {M : Type 1} → statement M
 couple-spec =
     tie.close
-    (tie.spec
-    Inv-loop
-    μ-loop
-    loop-holds
-    couple-at-requires
-    add-i
-    loop-less
-    loop-again
-    same-length
-    returns)
+    (tie.spec Inv-loop μ-loop loop-holds couple-at-requires (λ c. search needs) (λ c. search needs) loop-again (λ c. search needs) returns)

@@ -8,31 +8,23 @@ use Rattle.pass_constraints.proofs.drop_at.Statement.{statement}
 use Rattle.pass_constraints.proofs.drop_at.Tie as tie
 
 touches-requires : tie.Need-touches-requires
-touches-requires c κs = ((omega (arith, c .before .before .before .before .pre .1 .0 .all-a), omega (arith, c .before .before .before .before .pre .1 .0 .all-b)), (omega (arith, c .before .before .before .before .pre .1 .1, c .before .before .before .before .pre .1 .0 .a-below (c .before .before .before .before .args .e) (omega (arith, c .before .before .before .before .pre .1 .0 .all-a))), omega (arith, c .before .before .before .before .pre .1 .1, c .before .before .before .before .pre .1 .0 .b-below (c .before .before .before .before .args .e) (omega (arith, c .before .before .before .before .pre .1 .0 .all-b)))))
-
-load-requires : tie.Need-load-requires
-load-requires c κs = search needs
-
-pick-requires : tie.Need-pick-requires
-pick-requires c κs = search needs
-
-store-requires : tie.Need-store-requires
-store-requires c κs = search needs
-
-same-length : tie.Need-same-length
-same-length c = search needs
+touches-requires c κs =
+    let start = c .before .before .before .before in (
+      (omega (arith, start .pre .1 .0 .all-a), omega (arith, start .pre .1 .0 .all-b)),
+      (
+        omega (arith, start .pre .1 .1, start .pre .1 .0 .a-below (start .args .e) (omega (arith, start .pre .1 .0 .all-a))),
+        omega
+            (arith, start .pre .1 .1, start .pre .1 .0 .b-below (start .args .e) (omega (arith, start .pre .1 .0 .all-b))),
+      ),
+    )
 
 returns : tie.Need-returns
 unfolding dropC droppedAt
-returns c = c .before .before .store .ensures ∙ rw (c .before .before .before .pick .ensures, c .before .before .before .before .before .load .ensures, c .before .before .before .before .before .before .before .touches .ensures)
+returns c =
+    let back7 = c .before .before .before .before .before .before .before in
+    c .before .before .store .ensures ∙ rw (c .before .before .before .pick .ensures, c .before .before .before .before .before .load .ensures, back7 .touches .ensures)
 
 pub drop-at-spec : {M : Type 1} → statement M
 drop-at-spec =
     tie.close
-    (tie.spec
-    touches-requires
-    load-requires
-    pick-requires
-    store-requires
-    same-length
-    returns)
+    (tie.spec touches-requires (λ c κs. search needs) (λ c κs. search needs) (λ c κs. search needs) (λ c. search needs) returns)

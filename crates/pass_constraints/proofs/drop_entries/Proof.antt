@@ -18,20 +18,11 @@ abbrev μ-loop : tie.MeasureT-loop
 loop-holds : tie.Need-loop-holds Inv-loop μ-loop
 loop-holds c = search (drop-none, needs)
 
-drop-at-requires : tie.Need-drop-at-requires Inv-loop μ-loop
-drop-at-requires c κs = search needs
-
-add-e : tie.Need-add-e Inv-loop μ-loop
-add-e c = search needs
-
-loop-less : tie.Need-loop-less Inv-loop μ-loop
-loop-less c = search needs
-
 loop-again : tie.Need-loop-again Inv-loop μ-loop
-loop-again c = (c .before .before .before .before .before .loop .inv .0, (omega arith, (search needs, drop-again _ (c .before .before .before .before .before .before .before .before .before .before .args .h) _ _ _ (c .before .before .before .before .before .before .before .before .before .before .pre .0) _ (omega arith) (c .before .before .before .before .before .loop .inv .1 .1 .1) (c .before .before .drop-at .ensures))))
-
-same-length : tie.Need-same-length Inv-loop μ-loop
-same-length c = search needs
+loop-again c =
+    let back5 = c .before .before .before .before .before in
+    let start = back5 .before .before .before .before .before in
+    (back5 .loop .inv .0, (omega arith, (search needs, drop-again _ (start .args .h) _ _ _ (start .pre .0) _ (omega arith) (back5 .loop .inv .1 .1 .1) (c .before .before .drop-at .ensures))))
 
 returns : tie.Need-returns Inv-loop μ-loop
 returns c = search drop-done
@@ -39,13 +30,4 @@ returns c = search drop-done
 pub drop-entries-spec : {M : Type 1} → statement M
 drop-entries-spec =
     tie.close
-    (tie.spec
-    Inv-loop
-    μ-loop
-    loop-holds
-    drop-at-requires
-    add-e
-    loop-less
-    loop-again
-    same-length
-    returns)
+    (tie.spec Inv-loop μ-loop loop-holds (λ c κs. search needs) (λ c. search needs) (λ c. search needs) loop-again (λ c. search needs) returns)

@@ -17,20 +17,10 @@ abbrev μ-loop : tie.MeasureT-loop
 loop-holds : tie.Need-loop-holds Inv-loop μ-loop
 loop-holds c = search (fix-none, needs)
 
-fix-at-requires : tie.Need-fix-at-requires Inv-loop μ-loop
-fix-at-requires c κs = search needs
-
-add-i : tie.Need-add-i Inv-loop μ-loop
-add-i c = search needs
-
-loop-less : tie.Need-loop-less Inv-loop μ-loop
-loop-less c = search needs
-
 loop-again : tie.Need-loop-again Inv-loop μ-loop
-loop-again c = (search needs, (search needs, fix-again _ _ _ _ (c .before .before .before .before .before .before .before .before .pre .1) _ (c .before .before .before .before .loop-test .taken) (c .before .before .before .before .before .loop .inv .1 .1) (c .before .before .fix-at .ensures)))
-
-same-length : tie.Need-same-length Inv-loop μ-loop
-same-length c = search needs
+loop-again c =
+    let start = c .before .before .before .before .before .before .before .before in
+    (search needs, (search needs, fix-again _ _ _ _ (start .pre .1) _ (c .before .before .before .before .loop-test .taken) (c .before .before .before .before .before .loop .inv .1 .1) (c .before .before .fix-at .ensures)))
 
 returns : tie.Need-returns Inv-loop μ-loop
 returns c = search fix-done
@@ -38,13 +28,4 @@ returns c = search fix-done
 pub fix-diagonal-spec : {M : Type 1} → statement M
 fix-diagonal-spec =
     tie.close
-    (tie.spec
-    Inv-loop
-    μ-loop
-    loop-holds
-    fix-at-requires
-    add-i
-    loop-less
-    loop-again
-    same-length
-    returns)
+    (tie.spec Inv-loop μ-loop loop-holds (λ c κs. search needs) (λ c. search needs) (λ c. search needs) loop-again (λ c. search needs) returns)

@@ -20,17 +20,10 @@ loop-holds c = search (penalise-none, needs)
 penalise-at-requires : tie.Need-penalise-at-requires Inv-loop μ-loop
 penalise-at-requires c κs = (search needs, (search needs, search needs))
 
-add-i : tie.Need-add-i Inv-loop μ-loop
-add-i c = search needs
-
-loop-less : tie.Need-loop-less Inv-loop μ-loop
-loop-less c = search needs
-
 loop-again : tie.Need-loop-again Inv-loop μ-loop
-loop-again c = (search needs, (search needs, penalise-again _ (c .before .before .before .before .before .before .before .before .args .l) _ _ (c .before .before .before .before .before .before .before .before .pre .1) _ (c .before .before .before .before .loop-test .taken) (c .before .before .before .before .before .loop .inv .1 .1) (c .before .before .penalise-at .ensures)))
-
-same-length : tie.Need-same-length Inv-loop μ-loop
-same-length c = search needs
+loop-again c =
+    let start = c .before .before .before .before .before .before .before .before in
+    (search needs, (search needs, penalise-again _ (start .args .l) _ _ (start .pre .1) _ (c .before .before .before .before .loop-test .taken) (c .before .before .before .before .before .loop .inv .1 .1) (c .before .before .penalise-at .ensures)))
 
 returns : tie.Need-returns Inv-loop μ-loop
 returns c = search penalise-done
@@ -38,13 +31,4 @@ returns c = search penalise-done
 pub penalise-diagonal-spec : {M : Type 1} → statement M
 penalise-diagonal-spec =
     tie.close
-    (tie.spec
-    Inv-loop
-    μ-loop
-    loop-holds
-    penalise-at-requires
-    add-i
-    loop-less
-    loop-again
-    same-length
-    returns)
+    (tie.spec Inv-loop μ-loop loop-holds penalise-at-requires (λ c. search needs) (λ c. search needs) loop-again (λ c. search needs) returns)

@@ -19,19 +19,14 @@ loop-holds : tie.Need-loop-holds Inv-loop μ-loop
 loop-holds c = search (penalty-none, needs)
 
 penalty-at-requires : tie.Need-penalty-at-requires Inv-loop μ-loop
-penalty-at-requires c κs = (search needs, (c .before .before .before .before .before .pre .0, subst (λ k. PenaltyRoom k (c .before .before .before .before .before .args .n) (c .before .before .before .before .before .args .l)) (sym (c .before .before .loop .inv .1 .0)) (c .before .before .before .before .before .pre .1)))
-
-add-i : tie.Need-add-i Inv-loop μ-loop
-add-i c = search needs
-
-loop-less : tie.Need-loop-less Inv-loop μ-loop
-loop-less c = search needs
+penalty-at-requires c κs =
+    let start = c .before .before .before .before .before in
+    (search needs, (start .pre .0, subst (λ k. PenaltyRoom k (start .args .n) (start .args .l)) (sym (c .before .before .loop .inv .1 .0)) (start .pre .1)))
 
 loop-again : tie.Need-loop-again Inv-loop μ-loop
-loop-again c = (search needs, (search needs, penalty-again _ (c .before .before .before .before .before .before .before .before .args .l) _ _ (c .before .before .before .before .before .before .before .before .pre .1) _ (c .before .before .before .before .loop-test .taken) (c .before .before .before .before .before .loop .inv .1 .1) (c .before .before .penalty-at .ensures)))
-
-same-length : tie.Need-same-length Inv-loop μ-loop
-same-length c = search needs
+loop-again c =
+    let start = c .before .before .before .before .before .before .before .before in
+    (search needs, (search needs, penalty-again _ (start .args .l) _ _ (start .pre .1) _ (c .before .before .before .before .loop-test .taken) (c .before .before .before .before .before .loop .inv .1 .1) (c .before .before .penalty-at .ensures)))
 
 returns : tie.Need-returns Inv-loop μ-loop
 returns c = search penalty-done
@@ -39,13 +34,4 @@ returns c = search penalty-done
 pub penalise-rhs-spec : {M : Type 1} → statement M
 penalise-rhs-spec =
     tie.close
-    (tie.spec
-    Inv-loop
-    μ-loop
-    loop-holds
-    penalty-at-requires
-    add-i
-    loop-less
-    loop-again
-    same-length
-    returns)
+    (tie.spec Inv-loop μ-loop loop-holds penalty-at-requires (λ c. search needs) (λ c. search needs) loop-again (λ c. search needs) returns)

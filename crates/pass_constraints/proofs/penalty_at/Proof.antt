@@ -6,40 +6,15 @@ use Rattle.pass_constraints.specs.Work.{penaltyC}
 use Rattle.pass_constraints.proofs.penalty_at.Statement.{statement}
 use Rattle.pass_constraints.proofs.penalty_at.Tie as tie
 
-is-on-requires : tie.Need-is-on-requires
-is-on-requires c κs = search needs
-
-load-real-requires : tie.Need-load-real-requires
-load-real-requires c κs = search needs
-
-load-requires : tie.Need-load-requires
-load-requires c κs = search needs
-
-scale-requires : tie.Need-scale-requires
-scale-requires c κs = search needs
-
-pick-requires : tie.Need-pick-requires
-pick-requires c κs = search needs
-
-store-requires : tie.Need-store-requires
-store-requires c κs = search needs
-
-same-length : tie.Need-same-length
-same-length c = search needs
-
 returns : tie.Need-returns
 unfolding penaltyC penaltyAt
-returns c = c .before .before .store .ensures ∙ rw (c .before .before .before .pick .ensures, c .before .before .before .before .before .scale .ensures, c .before .before .before .before .before .before .load .ensures, c .before .before .before .before .before .before .before .before .before .load-real .ensures, c .before .before .before .before .before .before .before .before .before .before .before .is-on .ensures)
+returns c =
+    let back9 = c .before .before .before .before .before .before .before .before .before in
+    let back11 = back9 .before .before in
+    c .before .before .store .ensures ∙ rw (c .before .before .before .pick .ensures, c .before .before .before .before .before .scale .ensures, c .before .before .before .before .before .before .load .ensures, back9 .load-real .ensures, back11 .is-on .ensures)
 
 pub penalty-at-spec : {M : Type 1} → statement M
 penalty-at-spec =
     tie.close
-    (tie.spec
-    is-on-requires
-    load-real-requires
-    load-requires
-    scale-requires
-    pick-requires
-    store-requires
-    same-length
-    returns)
+    (tie.spec (λ c κs. search needs) (λ c κs. search needs) (λ c κs. search needs) (λ c κs. search needs) (λ c κs. search needs)
+    (λ c κs. search needs) (λ c. search needs) returns)

@@ -4,12 +4,6 @@ use borrow.Author.Needs.{needs}
 use Rattle.pass_field.proofs.is_finite.Statement.{statement}
 use Rattle.pass_field.proofs.is_finite.Tie as tie
 
-is-finite-requires : tie.Need-is-finite-requires
-is-finite-requires c κs = search needs
-
-is-finite-requires-2 : tie.Need-is-finite-requires-2
-is-finite-requires-2 c κs = search needs
-
 returns : tie.Need-returns
 unfolding finite
 returns c = simp (← c .before .before .is-finite .ensures, c .before .if1 .taken, c .is-finite2 .ensures)
@@ -19,4 +13,6 @@ unfolding finite
 returns-2 c = simp (← c .before .is-finite .ensures, c .if1 .left)
 
 pub is-finite-spec : {M : Type 1} → statement M
-is-finite-spec = tie.close (tie.spec is-finite-requires is-finite-requires-2 returns returns-2)
+is-finite-spec =
+    tie.close
+    (tie.spec (λ c κs. search needs) (λ c κs. search needs) returns returns-2)

@@ -6,10 +6,9 @@ use Rattle.pass_floor.proofs.lay_guidance.Statement.{statement}
 use Rattle.pass_floor.proofs.lay_guidance.Tie as tie
 
 put-values-requires : tie.Need-put-values-requires
-put-values-requires c κs = record { table-in = c .before .before .before .before .before .pre .table-in; values-in = c .before .before .before .before .before .pre .guidance-in (c .before .if1 .taken) }
-
-same-length : tie.Need-same-length
-same-length c = search needs
+put-values-requires c κs =
+    let start = c .before .before .before .before .before in
+    record { table-in = start .pre .table-in; values-in = start .pre .guidance-in (c .before .if1 .taken) }
 
 returns : tie.Need-returns
 unfolding guidanceLaid
@@ -20,4 +19,6 @@ unfolding guidanceLaid
 returns-2 c = rw (c .if1 .left)
 
 pub lay-guidance-spec : {M : Type 1} → statement M
-lay-guidance-spec = tie.close (tie.spec put-values-requires same-length returns returns-2)
+lay-guidance-spec =
+    tie.close
+    (tie.spec put-values-requires (λ c. search needs) returns returns-2)

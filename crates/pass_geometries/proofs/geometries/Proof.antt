@@ -16,25 +16,38 @@ loop-holds : tie.Need-loop-holds Inv-loop μ-loop
 loop-holds c = (omega arith, to-none _ _ _)
 
 look-requires : tie.Need-look-requires Inv-loop μ-loop
-look-requires c κs = ((room-now (c .before .before .before .before .before .before .before .pre .0) (c .before .before .before .before .before .before .before .pre .1) (c .before .before .if1 .taken) (c .before .before .before .before .loop .inv .1), c .before .before .if1 .taken), below-now (c .before .before .before .before .before .before .before .pre .0) (c .before .before .before .before .before .before .before .pre .1) (c .before .before .if1 .taken) (c .before .before .before .before .loop .inv .1))
-
-add-i : tie.Need-add-i Inv-loop μ-loop
-add-i c = search needs
-
-loop-less : tie.Need-loop-less Inv-loop μ-loop
-loop-less c = search needs
+look-requires c κs =
+    let back4 = c .before .before .before .before in
+    let start = back4 .before .before .before in
+    ((room-now (start .pre .0) (start .pre .1) (c .before .before .if1 .taken) (back4 .loop .inv .1), c .before .before .if1 .taken), below-now (start .pre .0) (start .pre .1) (c .before .before .if1 .taken) (back4 .loop .inv .1))
 
 loop-again : tie.Need-loop-again Inv-loop μ-loop
-loop-again c = (omega arith, to-more (c .before .before .before .before .before .before .before .before .before .before .before .before .before .pre .0) (c .before .before .before .before .before .before .before .before .before .before .before .before .before .pre .1) (c .before .before .before .before .before .before .before .before .if1 .taken) (c .before .before .before .before .before .before .before .before .before .before .loop .inv .1) (rw (c .if2 .taken) at (c .before .before .before .before .before .look .ensures)))
+loop-again c =
+    let back8 = c .before .before .before .before .before .before .before .before in
+    let back10 = back8 .before .before in
+    let start = back10 .before .before .before in
+    (omega arith, to-more (start .pre .0) (start .pre .1) (back8 .if1 .taken) (back10 .loop .inv .1) (rw (c .if2 .taken) at (c .before .before .before .before .before .look .ensures)))
 
 same-length : tie.Need-same-length Inv-loop μ-loop
-same-length c = kept-lengths (to-found (c .before .before .before .before .before .before .before .before .before .before .before .before .before .pre .0) (c .before .before .before .before .before .before .before .before .before .before .before .before .before .pre .1) (c .before .before .before .before .before .before .before .before .if1 .taken) (c .before .before .before .before .before .before .before .before .before .before .loop .inv .1) (rw (c .if2 .left) at (c .before .before .before .before .before .look .ensures))) .0
+same-length c =
+    let back8 = c .before .before .before .before .before .before .before .before in
+    let back10 = back8 .before .before in
+    let start = back10 .before .before .before in
+    kept-lengths (to-found (start .pre .0) (start .pre .1) (back8 .if1 .taken) (back10 .loop .inv .1) (rw (c .if2 .left) at (c .before .before .before .before .before .look .ensures))) .0
 
 same-length-2 : tie.Need-same-length-2 Inv-loop μ-loop
-same-length-2 c = kept-lengths (to-found (c .before .before .before .before .before .before .before .before .before .before .before .before .before .pre .0) (c .before .before .before .before .before .before .before .before .before .before .before .before .before .pre .1) (c .before .before .before .before .before .before .before .before .if1 .taken) (c .before .before .before .before .before .before .before .before .before .before .loop .inv .1) (rw (c .if2 .left) at (c .before .before .before .before .before .look .ensures))) .1
+same-length-2 c =
+    let back8 = c .before .before .before .before .before .before .before .before in
+    let back10 = back8 .before .before in
+    let start = back10 .before .before .before in
+    kept-lengths (to-found (start .pre .0) (start .pre .1) (back8 .if1 .taken) (back10 .loop .inv .1) (rw (c .if2 .left) at (c .before .before .before .before .before .look .ensures))) .1
 
 returns : tie.Need-returns Inv-loop μ-loop
-returns c = to-found (c .before .before .before .before .before .before .before .before .before .before .before .before .before .pre .0) (c .before .before .before .before .before .before .before .before .before .before .before .before .before .pre .1) (c .before .before .before .before .before .before .before .before .if1 .taken) (c .before .before .before .before .before .before .before .before .before .before .loop .inv .1) (rw (c .if2 .left) at (c .before .before .before .before .before .look .ensures))
+returns c =
+    let back8 = c .before .before .before .before .before .before .before .before in
+    let back10 = back8 .before .before in
+    let start = back10 .before .before .before in
+    to-found (start .pre .0) (start .pre .1) (back8 .if1 .taken) (back10 .loop .inv .1) (rw (c .if2 .left) at (c .before .before .before .before .before .look .ensures))
 
 same-length-3 : tie.Need-same-length-3 Inv-loop μ-loop
 same-length-3 c = to-lengths (c .before .before .loop .inv .1) .0
@@ -48,17 +61,5 @@ returns-2 c = kept-done (omega arith) (c .before .before .loop .inv .1)
 pub geometries-spec : {M : Type 1} → statement M
 geometries-spec =
     tie.close
-    (tie.spec
-    Inv-loop
-    μ-loop
-    loop-holds
-    look-requires
-    add-i
-    loop-less
-    loop-again
-    same-length
-    same-length-2
-    returns
-    same-length-3
-    same-length-4
-    returns-2)
+    (tie.spec Inv-loop μ-loop loop-holds look-requires (λ c. search needs) (λ c. search needs) loop-again same-length same-length-2 returns
+    same-length-3 same-length-4 returns-2)

@@ -6,26 +6,15 @@ use Rattle.pass_geometries.proofs.Steps.{corners-below}
 use Rattle.pass_geometries.proofs.geometry_at.Statement.{statement}
 use Rattle.pass_geometries.proofs.geometry_at.Tie as tie
 
-mul-corners : tie.Need-mul-corners
-mul-corners c = search needs
-
-add-corners : tie.Need-add-corners
-add-corners c = search needs
-
-corners-requires : tie.Need-corners-requires
-corners-requires c κs = search needs
-
-index-requires : tie.Need-index-requires
-index-requires c κs = search needs
-
-index-requires-2 : tie.Need-index-requires-2
-index-requires-2 c κs = search needs
-
-index-requires-3 : tie.Need-index-requires-3
-index-requires-3 c κs = search needs
-
 geometry-of-requires : tie.Need-geometry-of-requires
-geometry-of-requires c κs = let a = c .before .before .before .before .before .before .before .args in let h = c .before .before .before .before .before .before .before .pre in ((omega (arith, h .0 .0), omega (arith, h .0 .0)), rw (c .before .before .index .ensures, c .before .index2 .ensures, c .index3 .ensures, c .before .before .before .corners .ensures) (corners-below (a .p .points) (a .p .given) (a .words .now) (a .t) (λ j l. h .1 j (omega arith))))
+geometry-of-requires c κs =
+    let start = c .before .before .before .before .before .before .before in
+    let a = start .args in let h = start .pre in (
+      (omega (arith, h .0 .0), omega (arith, h .0 .0)),
+      rw
+          (c .before .before .index .ensures, c .before .index2 .ensures, c .index3 .ensures, c .before .before .before .corners .ensures)
+          (corners-below (a .p .points) (a .p .given) (a .words .now) (a .t) (λ j l. h .1 j (omega arith))),
+    )
 
 returns : tie.Need-returns
 returns c = c .geometry-of .ensures ∙ rw (c .before .before .before .index .ensures, c .before .before .index2 .ensures, c .before .index3 .ensures, c .before .before .before .before .corners .ensures)
@@ -33,12 +22,5 @@ returns c = c .geometry-of .ensures ∙ rw (c .before .before .before .index .en
 pub geometry-at-spec : {M : Type 1} → statement M
 geometry-at-spec =
     tie.close
-    (tie.spec
-    mul-corners
-    add-corners
-    corners-requires
-    index-requires
-    index-requires-2
-    index-requires-3
-    geometry-of-requires
-    returns)
+    (tie.spec (λ c. search needs) (λ c. search needs) (λ c κs. search needs) (λ c κs. search needs) (λ c κs. search needs) (λ c κs. search needs)
+    geometry-of-requires returns)

@@ -4,22 +4,12 @@ use mathlib.Core.Path.{_∙_}
 use Rattle.pass_gradients.proofs.add_triangle.Statement.{statement}
 use Rattle.pass_gradients.proofs.add_triangle.Tie as tie
 
-add-three-requires : tie.Need-add-three-requires
-add-three-requires c κs = search needs
-
-add-three-requires-2 : tie.Need-add-three-requires-2
-add-three-requires-2 c κs = search needs
-
-add-three-requires-3 : tie.Need-add-three-requires-3
-add-three-requires-3 c κs = search needs
-
-same-length : tie.Need-same-length
-same-length c = search needs
-
 returns : tie.Need-returns
-returns c = c .before .before .add-three3 .ensures ∙ rw (c .before .before .before .before .before .before .add-three2 .ensures, c .before .before .before .before .before .before .before .before .before .before .add-three .ensures)
+returns c =
+    let back10 = c .before .before .before .before .before .before .before .before .before .before in
+    c .before .before .add-three3 .ensures ∙ rw (c .before .before .before .before .before .before .add-three2 .ensures, back10 .add-three .ensures)
 
 pub add-triangle-spec : {M : Type 1} → statement M
 add-triangle-spec =
     tie.close
-    (tie.spec add-three-requires add-three-requires-2 add-three-requires-3 same-length returns)
+    (tie.spec (λ c κs. search needs) (λ c κs. search needs) (λ c κs. search needs) (λ c. search needs) returns)

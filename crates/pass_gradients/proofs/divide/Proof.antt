@@ -18,23 +18,22 @@ loop-holds c = (omega arith, to-none _ _ _)
 divide-point-requires : tie.Need-divide-point-requires Inv-loop μ-loop
 divide-point-requires c κs = (c .before .loop-test .taken, omega (arith, c .before .before .loop .inv .1 .means .same-length))
 
-refused-requires : tie.Need-refused-requires Inv-loop μ-loop
-refused-requires c κs = search needs
-
 same-length : tie.Need-same-length Inv-loop μ-loop
-same-length c = to-found (c .before .before .before .before .before .before .loop-test .taken) (c .before .before .before .before .before .before .before .before .before .pre) (c .before .before .before .before .before .before .before .loop .inv .1) (c .before .if1 .taken) (c .before .before .before .before .divide-point .ensures) (c .refused .ensures) .means .same-length
+same-length c =
+    let back7 = c .before .before .before .before .before .before .before in
+    let start = back7 .before .before in
+    to-found (c .before .before .before .before .before .before .loop-test .taken) (start .pre) (back7 .loop .inv .1) (c .before .if1 .taken) (c .before .before .before .before .divide-point .ensures) (c .refused .ensures) .means .same-length
 
 returns : tie.Need-returns Inv-loop μ-loop
-returns c = to-found (c .before .before .before .before .before .before .loop-test .taken) (c .before .before .before .before .before .before .before .before .before .pre) (c .before .before .before .before .before .before .before .loop .inv .1) (c .before .if1 .taken) (c .before .before .before .before .divide-point .ensures) (c .refused .ensures)
-
-add-i : tie.Need-add-i Inv-loop μ-loop
-add-i c = search needs
-
-loop-less : tie.Need-loop-less Inv-loop μ-loop
-loop-less c = search needs
+returns c =
+    let back7 = c .before .before .before .before .before .before .before in
+    let start = back7 .before .before in
+    to-found (c .before .before .before .before .before .before .loop-test .taken) (start .pre) (back7 .loop .inv .1) (c .before .if1 .taken) (c .before .before .before .before .divide-point .ensures) (c .refused .ensures)
 
 loop-again : tie.Need-loop-again Inv-loop μ-loop
-loop-again c = (omega arith, to-more (c .before .before .before .before .before .loop-test .taken) (c .before .before .before .before .before .before .before .before .pre) (c .before .before .before .before .before .before .loop .inv .1) (c .if1 .left) (c .before .before .before .divide-point .ensures))
+loop-again c =
+    let start = c .before .before .before .before .before .before .before .before in
+    (omega arith, to-more (c .before .before .before .before .before .loop-test .taken) (start .pre) (c .before .before .before .before .before .before .loop .inv .1) (c .if1 .left) (c .before .before .before .divide-point .ensures))
 
 same-length-2 : tie.Need-same-length-2 Inv-loop μ-loop
 same-length-2 c = c .before .loop .inv .1 .means .same-length
@@ -45,16 +44,5 @@ returns-2 c = to-done (omega arith) (c .before .loop .inv .1)
 pub divide-spec : {M : Type 1} → statement M
 divide-spec =
     tie.close
-    (tie.spec
-    Inv-loop
-    μ-loop
-    loop-holds
-    divide-point-requires
-    refused-requires
-    same-length
-    returns
-    add-i
-    loop-less
-    loop-again
-    same-length-2
-    returns-2)
+    (tie.spec Inv-loop μ-loop loop-holds divide-point-requires (λ c κs. search needs) same-length returns (λ c. search needs) (λ c. search needs)
+    loop-again same-length-2 returns-2)

@@ -1,7 +1,7 @@
 -- `pass_gradients::gather_all` meets its contract: the loop keeps what `Inv-loop` says, and what is left to do falls at each iteration; the laws are in proofs/Steps.
 use borrow.Author.Needs.{needs}
 use Rattle.pass_gradients.proofs.Steps.{gathered-more}
-use Rattle.pass_gradients.specs.Gradients.{GatheredTo}
+use Rattle.pass_gradients.specs.Work.{GatheredTo}
 use Prim.Native.Nat.{_-_, _≤_}
 use native.Mathlib.Omega.{arith}
 use mathlib.Core.Path.{_≡_}
@@ -18,16 +18,14 @@ loop-holds : tie.Need-loop-holds Inv-loop μ-loop
 loop-holds c = (omega arith, c .before .before .pre .1 .1)
 
 gather-triangle-requires : tie.Need-gather-triangle-requires Inv-loop μ-loop
-gather-triangle-requires c κs = ((rw (c .before .before .before .loop .inv .1 .same-length) (c .before .before .before .before .before .before .pre .0), c .before .if1 .taken), c .before .before .before .before .before .before .pre .1 .0)
-
-add-i : tie.Need-add-i Inv-loop μ-loop
-add-i c = search needs
-
-loop-less : tie.Need-loop-less Inv-loop μ-loop
-loop-less c = search needs
+gather-triangle-requires c κs =
+    let start = c .before .before .before .before .before .before in
+    ((rw (c .before .before .before .loop .inv .1 .same-length) (start .pre .0), c .before .if1 .taken), start .pre .1 .0)
 
 loop-again : tie.Need-loop-again Inv-loop μ-loop
-loop-again c = (omega arith, gathered-more (c .before .before .before .before .before .before .before .before .before .pre .0) (c .before .before .before .before .before .before .before .before .before .pre .1 .0) (c .before .before .before .before .if1 .taken) (c .before .before .before .before .before .before .loop .inv .1) (c .before .before .gather-triangle .ensures))
+loop-again c =
+    let start = c .before .before .before .before .before .before .before .before .before in
+    (omega arith, gathered-more (start .pre .0) (start .pre .1 .0) (c .before .before .before .before .if1 .taken) (c .before .before .before .before .before .before .loop .inv .1) (c .before .before .gather-triangle .ensures))
 
 same-length : tie.Need-same-length Inv-loop μ-loop
 same-length c = c .before .before .loop .inv .1 .same-length
@@ -38,13 +36,4 @@ returns c = let e : c .before .before .loop .i ≡ c .before .before .before .be
 pub gather-all-spec : {M : Type 1} → statement M
 gather-all-spec =
     tie.close
-    (tie.spec
-    Inv-loop
-    μ-loop
-    loop-holds
-    gather-triangle-requires
-    add-i
-    loop-less
-    loop-again
-    same-length
-    returns)
+    (tie.spec Inv-loop μ-loop loop-holds gather-triangle-requires (λ c. search needs) (λ c. search needs) loop-again same-length returns)

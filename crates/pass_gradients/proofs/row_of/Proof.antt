@@ -4,15 +4,9 @@ use Rattle.pass_gradients.specs.Gradients.{rowOf}
 use Rattle.pass_gradients.proofs.row_of.Statement.{statement}
 use Rattle.pass_gradients.proofs.row_of.Tie as tie
 
-not-positive-requires : tie.Need-not-positive-requires
-not-positive-requires c κs = search needs
-
 returns : tie.Need-returns
 unfolding rowOf
 returns c = rw (← c .before .not-positive .ensures, c .if1 .taken)
-
-not-finite-requires : tie.Need-not-finite-requires
-not-finite-requires c κs = search needs
 
 returns-2 : tie.Need-returns-2
 unfolding rowOf
@@ -24,4 +18,5 @@ returns-3 c = rw (← c .before .before .before .not-positive .ensures, c .befor
 
 pub row-of-spec : {M : Type 1} → statement M
 row-of-spec =
-    tie.close (tie.spec not-positive-requires returns not-finite-requires returns-2 returns-3)
+    tie.close
+    (tie.spec (λ c κs. search needs) returns (λ c κs. search needs) returns-2 returns-3)

@@ -4,12 +4,11 @@ use borrow.Author.Needs.{needs}
 use Rattle.pass_inverse_iteration.proofs.average.Statement.{statement}
 use Rattle.pass_inverse_iteration.proofs.average.Tie as tie
 
-from-whole-requires : tie.Need-from-whole-requires
-from-whole-requires c κs = search needs
-
 returns : tie.Need-returns
 unfolding averageOf
 returns c = cc
 
 pub average-spec : {M : Type 1} → statement M
-average-spec = tie.close (tie.spec from-whole-requires returns)
+average-spec =
+    tie.close
+    (tie.spec (λ c κs. search needs) returns)

@@ -11,13 +11,16 @@ start-requires : tie.Need-start-requires
 start-requires c κs = omega (arith, apart)
 
 normalize-requires : tie.Need-normalize-requires
-normalize-requires c κs = (same-room (search needs) _ _ (c .before .before .before .before .before .before .before .before .pre .0 .0), c .before .before .before .before .before .before .before .before .pre .1)
-
-same-length : tie.Need-same-length
-same-length c = search needs
+normalize-requires c κs =
+    let start = c .before .before .before .before .before .before .before .before in
+    (same-room (search needs) _ _ (start .pre .0 .0), start .pre .1)
 
 returns : tie.Need-returns
-returns c = start-normalized _ _ _ _ _ (c .before .before .before .before .before .before .before .before .before .before .before .args .o) (c .before .before .before .before .before .before .before .before .before .before .before .pre .0 .0) (c .before .before .before .before .before .before .start .ensures) (c .before .before .normalize .ensures)
+returns c =
+    let start = c .before .before .before .before .before .before .before .before .before .before .before in
+    start-normalized (start .args .p) _ _ _ (start .args .o) (start .pre .0 .0) (c .before .before .before .before .before .before .start .ensures) (c .before .before .normalize .ensures)
 
 pub begin-spec : {M : Type 1} → statement M
-begin-spec = tie.close (tie.spec start-requires normalize-requires same-length returns)
+begin-spec =
+    tie.close
+    (tie.spec start-requires normalize-requires (λ c. search needs) returns)

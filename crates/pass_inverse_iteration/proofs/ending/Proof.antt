@@ -4,15 +4,6 @@ use borrow.Author.Needs.{needs}
 use Rattle.pass_inverse_iteration.proofs.ending.Statement.{statement}
 use Rattle.pass_inverse_iteration.proofs.ending.Tie as tie
 
-enum-known-p : tie.Need-enum-known-p
-enum-known-p c = search needs
-
-enum-told : tie.Need-enum-told
-enum-told c = search needs
-
-gave-up-requires : tie.Need-gave-up-requires
-gave-up-requires c κs = search needs
-
 returns : tie.Need-returns
 unfolding endingOf
 returns c = cc
@@ -22,4 +13,6 @@ unfolding endingOf
 returns-2 c = cc
 
 pub ending-spec : {M : Type 1} → statement M
-ending-spec = tie.close (tie.spec enum-known-p enum-told gave-up-requires returns returns-2)
+ending-spec =
+    tie.close
+    (tie.spec (λ c. search needs) (λ c. search needs) (λ c κs. search needs) returns returns-2)

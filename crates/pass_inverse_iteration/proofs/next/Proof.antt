@@ -14,48 +14,28 @@ apply-requires c κs = (omega (arith, apart), c .before .before .before .before 
 solve-requires : tie.Need-solve-requires
 solve-requires c κs =
     let start = c .before .before .before .before .before .before .before .before .before in
-    (same-room (search needs) _ _ (start .pre .0 .energy-room), (start .pre .1 .0 .energy-graph, next-engine _ _ _ _ _ _ (start .args .o) (start .pre .0) (c .before .before .before .apply .ensures) _ _ (start .pre .1 .1)))
-
-enum-told : tie.Need-enum-told
-enum-told c = search needs
-
-enum-told-2 : tie.Need-enum-told-2
-enum-told-2 c = search needs
-
-same-length : tie.Need-same-length
-same-length c = search needs
+    (same-room (search needs) _ _ (start .pre .0 .energy-room), (start .pre .1 .0 .energy-graph, next-engine _ _ _ _ (start .args .o) (start .pre .0) (c .before .before .before .apply .ensures) _ _ (start .pre .1 .1)))
 
 returns : tie.Need-returns
 returns c =
-    let start = c .before .before .before .before .before .before .before .before .before .before .before .before .before .before in
     let back8 = c .before .before .before .before .before .before .before .before in
-    next-refused _ _ _ _ _ _ _ (start .pre .0) (back8 .apply .ensures) (c .before .before .before .before .solve .ensures) (not-done (c .enum-told2 .given .1))
+    let start = back8 .before .before .before .before .before .before in
+    next-refused _ _ _ _ _ (start .pre .0) (back8 .apply .ensures) (c .before .before .before .before .solve .ensures) (not-done (c .enum-told2 .given .1))
 
 normalize-requires : tie.Need-normalize-requires
 normalize-requires c κs =
     let start = c .before .before .before .before .before .before .before .before .before .before .before .before .before .before .before in
     (same-room (search needs) _ _ (start .pre .0 .mass-room), start .pre .1 .0 .mass-graph)
 
-same-length-2 : tie.Need-same-length-2
-same-length-2 c = search needs
-
 returns-2 : tie.Need-returns-2
 returns-2 c =
-    let start = c .before .before .before .before .before .before .before .before .before .before .before .before .before .before .before .before .before .before in
-    let back12 = c .before .before .before .before .before .before .before .before .before .before .before .before in
     let back8 = c .before .before .before .before .before .before .before .before in
-    next-normalized _ _ _ _ _ _ _ (start .pre .0) (back12 .apply .ensures) (back8 .solve .ensures) (c .before .before .before .before .enum-told .given .1) (c .before .before .normalize .ensures)
+    let back12 = back8 .before .before .before .before in
+    let start = back12 .before .before .before .before .before .before in
+    next-normalized _ _ _ _ _ (start .pre .0) (back12 .apply .ensures) (back8 .solve .ensures) (c .before .before .before .before .enum-told .given .1) (c .before .before .normalize .ensures)
 
 pub next-spec : {M : Type 1} → statement M
 next-spec =
     tie.close
-    (tie.spec
-    apply-requires
-    solve-requires
-    enum-told
-    enum-told-2
-    same-length
-    returns
-    normalize-requires
-    same-length-2
+    (tie.spec apply-requires solve-requires (λ c. search needs) (λ c. search needs) (λ c. search needs) returns normalize-requires (λ c. search needs)
     returns-2)

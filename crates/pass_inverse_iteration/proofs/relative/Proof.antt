@@ -9,17 +9,12 @@ use Rattle.pass_inverse_iteration.proofs.relative.Tie as tie
 reduce-requires : tie.Need-reduce-requires
 reduce-requires c κs = omega (arith, apart)
 
-max-requires : tie.Need-max-requires
-max-requires c κs = search needs
-
-sqrt-requires : tie.Need-sqrt-requires
-sqrt-requires c κs = search needs
-
-same-length : tie.Need-same-length
-same-length c = search needs
-
 returns : tie.Need-returns
-returns c = relative-all _ _ _ (c .before .before .before .before .before .before .before .pre) _ _ (c .before .before .before .before .reduce .ensures) (c .before .max .ensures) (c .sqrt .ensures .0)
+returns c =
+    let start = c .before .before .before .before .before .before .before in
+    relative-all _ _ _ (start .pre) _ _ (c .before .before .before .before .reduce .ensures) (c .before .max .ensures) (c .sqrt .ensures .0)
 
 pub relative-spec : {M : Type 1} → statement M
-relative-spec = tie.close (tie.spec reduce-requires max-requires sqrt-requires same-length returns)
+relative-spec =
+    tie.close
+    (tie.spec reduce-requires (λ c κs. search needs) (λ c κs. search needs) (λ c. search needs) returns)

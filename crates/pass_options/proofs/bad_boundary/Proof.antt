@@ -5,18 +5,6 @@ use Rattle.pass_options.specs.Options.{badBoundary}
 use Rattle.pass_options.proofs.bad_boundary.Statement.{statement}
 use Rattle.pass_options.proofs.bad_boundary.Tie as tie
 
-enum-told : tie.Need-enum-told
-enum-told c = search needs
-
-enum-told-2 : tie.Need-enum-told-2
-enum-told-2 c = search needs
-
-enum-known-boundary : tie.Need-enum-known-boundary
-enum-known-boundary c = search needs
-
-not-finite-or-below-zero-requires : tie.Need-not-finite-or-below-zero-requires
-not-finite-or-below-zero-requires c κs = search needs
-
 returns : tie.Need-returns
 returns c = sym (ap badBoundary (c .enum-told .given .1))
 
@@ -29,11 +17,4 @@ returns-3 c = c .not-finite-or-below-zero .ensures ∙ sym (ap badBoundary (c .b
 pub bad-boundary-spec : {M : Type 1} → statement M
 bad-boundary-spec =
     tie.close
-    (tie.spec
-    enum-told
-    enum-told-2
-    enum-known-boundary
-    not-finite-or-below-zero-requires
-    returns
-    returns-2
-    returns-3)
+    (tie.spec (λ c. search needs) (λ c. search needs) (λ c. search needs) (λ c κs. search needs) returns returns-2 returns-3)

@@ -4,9 +4,6 @@ use Rattle.pass_options.specs.Options.{badHolomorphic}
 use Rattle.pass_options.proofs.bad_holomorphic.Statement.{statement}
 use Rattle.pass_options.proofs.bad_holomorphic.Tie as tie
 
-is-finite-requires : tie.Need-is-finite-requires
-is-finite-requires c κs = search needs
-
 returns : tie.Need-returns
 unfolding badHolomorphic
 returns c = rw (← c .before .before .is-finite .ensures, c .before .if1 .taken, c .if2 .taken)
@@ -20,4 +17,6 @@ unfolding badHolomorphic
 returns-3 c = rw (← c .before .is-finite .ensures, c .if1 .left)
 
 pub bad-holomorphic-spec : {M : Type 1} → statement M
-bad-holomorphic-spec = tie.close (tie.spec is-finite-requires returns returns-2 returns-3)
+bad-holomorphic-spec =
+    tie.close
+    (tie.spec (λ c κs. search needs) returns returns-2 returns-3)

@@ -9,44 +9,43 @@ returns : tie.Need-returns
 unfolding lowest
 returns c = simp (not-true (c .before .before .args .guided) (c .if1 .taken))
 
-not-finite-or-below-zero-requires : tie.Need-not-finite-or-below-zero-requires
-not-finite-or-below-zero-requires c κs = search needs
-
-refused-requires : tie.Need-refused-requires
-refused-requires c κs = search needs
-
 returns-2 : tie.Need-returns-2
 returns-2 c = simp (not-false (c .before .before .before .before .before .args .guided) (c .before .before .before .if1 .left), ← c .before .before .not-finite-or-below-zero .ensures, c .before .if2 .taken) (c .refused .ensures)
-
-refused-requires-2 : tie.Need-refused-requires-2
-refused-requires-2 c κs = search needs
 
 returns-3 : tie.Need-returns-3
 returns-3 c = simp (not-false (c .before .before .before .before .before .before .args .guided) (c .before .before .before .before .if1 .left), ← c .before .before .before .not-finite-or-below-zero .ensures, c .before .before .if2 .left, ne-eqb _ _ (c .before .if3 .taken)) (c .refused2 .ensures)
 
-first-not-finite-requires : tie.Need-first-not-finite-requires
-first-not-finite-requires c κs = search needs
-
-refused-requires-3 : tie.Need-refused-requires-3
-refused-requires-3 c κs = search needs
-
 returns-4 : tie.Need-returns-4
-returns-4 c = simp (not-false (c .before .before .before .before .before .before .before .before .args .guided) (c .before .before .before .before .before .before .if1 .left), ← c .before .before .before .before .before .not-finite-or-below-zero .ensures, c .before .before .before .before .if2 .left, eq-eqb _ _ (c .before .before .before .if3 .left), ← c .before .before .first-not-finite .ensures, lt-ltb _ _ (c .before .if4 .taken)) (c .refused3 .ensures)
+returns-4 c =
+    let start = c .before .before .before .before .before .before .before .before in
+    simp (
+      not-false (start .args .guided) (c .before .before .before .before .before .before .if1 .left),
+      ←
+          c .before .before .before .before .before .not-finite-or-below-zero .ensures,
+      c .before .before .before .before .if2 .left,
+      eq-eqb _ _
+          (c .before .before .before .if3 .left),
+      ← c .before .before .first-not-finite .ensures,
+      lt-ltb _ _ (c .before .if4 .taken),
+    )
+    (c .refused3 .ensures)
 
 returns-5 : tie.Need-returns-5
-returns-5 c = simp (not-false (c .before .before .before .before .before .before .before .args .guided) (c .before .before .before .before .before .if1 .left), ← c .before .before .before .before .not-finite-or-below-zero .ensures, c .before .before .before .if2 .left, eq-eqb _ _ (c .before .before .if3 .left), ← c .before .first-not-finite .ensures, le-ltb _ _ (c .if4 .left))
+returns-5 c =
+    let start = c .before .before .before .before .before .before .before in
+    simp (
+      not-false (start .args .guided) (c .before .before .before .before .before .if1 .left),
+      ←
+          c .before .before .before .before .not-finite-or-below-zero .ensures,
+      c .before .before .before .if2 .left,
+      eq-eqb _ _
+          (c .before .before .if3 .left),
+      ← c .before .first-not-finite .ensures,
+      le-ltb _ _ (c .if4 .left),
+    )
 
 pub check-guidance-spec : {M : Type 1} → statement M
 check-guidance-spec =
     tie.close
-    (tie.spec
-    returns
-    not-finite-or-below-zero-requires
-    refused-requires
-    returns-2
-    refused-requires-2
-    returns-3
-    first-not-finite-requires
-    refused-requires-3
-    returns-4
-    returns-5)
+    (tie.spec returns (λ c κs. search needs) (λ c κs. search needs) returns-2 (λ c κs. search needs) returns-3 (λ c κs. search needs)
+    (λ c κs. search needs) returns-4 returns-5)

@@ -6,12 +6,6 @@ use Rattle.pass_options.specs.Options.{anyLarge, largePlace}
 use Rattle.pass_options.proofs.check_large.Statement.{statement}
 use Rattle.pass_options.proofs.check_large.Tie as tie
 
-too-large-requires : tie.Need-too-large-requires
-too-large-requires c κs = search needs
-
-refused-requires : tie.Need-refused-requires
-refused-requires c κs = search needs
-
 returns : tie.Need-returns
 unfolding anyLarge largePlace
 returns c = simp (← c .before .before .too-large .ensures, c .before .if1 .taken) (c .refused .ensures)
@@ -20,15 +14,11 @@ returns-2 : tie.Need-returns-2
 unfolding anyLarge largePlace lowest
 returns-2 c = simp (← c .before .before .too-large .ensures, c .before .if1 .left, not-true (c .before .before .before .before .args .guided) (c .if2 .taken))
 
-first-too-large-requires : tie.Need-first-too-large-requires
-first-too-large-requires c κs = search needs
-
-refused-requires-2 : tie.Need-refused-requires-2
-refused-requires-2 c κs = search needs
-
 returns-3 : tie.Need-returns-3
 unfolding anyLarge largePlace
-returns-3 c = simp (← c .before .before .before .before .before .too-large .ensures, c .before .before .before .before .if1 .left, not-false (c .before .before .before .before .before .before .before .args .guided) (c .before .before .before .if2 .left), ← c .before .before .first-too-large .ensures, lt-ltb _ _ (c .before .if3 .taken)) (c .refused2 .ensures)
+returns-3 c =
+    let start = c .before .before .before .before .before .before .before in
+    simp (← c .before .before .before .before .before .too-large .ensures, c .before .before .before .before .if1 .left, not-false (start .args .guided) (c .before .before .before .if2 .left), ← c .before .before .first-too-large .ensures, lt-ltb _ _ (c .before .if3 .taken)) (c .refused2 .ensures)
 
 returns-4 : tie.Need-returns-4
 unfolding anyLarge largePlace
@@ -37,12 +27,4 @@ returns-4 c = simp (← c .before .before .before .before .too-large .ensures, c
 pub check-large-spec : {M : Type 1} → statement M
 check-large-spec =
     tie.close
-    (tie.spec
-    too-large-requires
-    refused-requires
-    returns
-    returns-2
-    first-too-large-requires
-    refused-requires-2
-    returns-3
-    returns-4)
+    (tie.spec (λ c κs. search needs) (λ c κs. search needs) returns returns-2 (λ c κs. search needs) (λ c κs. search needs) returns-3 returns-4)

@@ -4,15 +4,11 @@ use Rattle.pass_options.specs.Options.{notFiniteAt}
 use Rattle.pass_options.proofs.not_finite_at.Statement.{statement}
 use Rattle.pass_options.proofs.not_finite_at.Tie as tie
 
-read-requires : tie.Need-read-requires
-read-requires c κs = search needs
-
-is-finite-requires : tie.Need-is-finite-requires
-is-finite-requires c κs = search needs
-
 returns : tie.Need-returns
 unfolding notFiniteAt
 returns c = rw (← c .before .read .ensures, ← c .is-finite .ensures)
 
 pub not-finite-at-spec : {M : Type 1} → statement M
-not-finite-at-spec = tie.close (tie.spec read-requires is-finite-requires returns)
+not-finite-at-spec =
+    tie.close
+    (tie.spec (λ c κs. search needs) (λ c κs. search needs) returns)

@@ -4,12 +4,11 @@ use Rattle.pass_options.specs.Options.{tooLarge}
 use Rattle.pass_options.proofs.too_large.Statement.{statement}
 use Rattle.pass_options.proofs.too_large.Tie as tie
 
-abs-requires : tie.Need-abs-requires
-abs-requires c κs = search needs
-
 returns : tie.Need-returns
 unfolding tooLarge
 returns c = rw (← c .abs .ensures)
 
 pub too-large-spec : {M : Type 1} → statement M
-too-large-spec = tie.close (tie.spec abs-requires returns)
+too-large-spec =
+    tie.close
+    (tie.spec (λ c κs. search needs) returns)

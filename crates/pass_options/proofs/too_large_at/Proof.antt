@@ -4,15 +4,11 @@ use Rattle.pass_options.specs.Options.{tooLargeAt}
 use Rattle.pass_options.proofs.too_large_at.Statement.{statement}
 use Rattle.pass_options.proofs.too_large_at.Tie as tie
 
-read-requires : tie.Need-read-requires
-read-requires c κs = search needs
-
-too-large-requires : tie.Need-too-large-requires
-too-large-requires c κs = search needs
-
 returns : tie.Need-returns
 unfolding tooLargeAt
 returns c = rw (← c .before .read .ensures) (c .too-large .ensures)
 
 pub too-large-at-spec : {M : Type 1} → statement M
-too-large-at-spec = tie.close (tie.spec read-requires too-large-requires returns)
+too-large-at-spec =
+    tie.close
+    (tie.spec (λ c κs. search needs) (λ c κs. search needs) returns)

@@ -16,15 +16,18 @@ advance-requires : tie.Need-advance-requires
 advance-requires c κs = omega (arith, apart)
 
 shifted-requires : tie.Need-shifted-requires
-shifted-requires c κs = same-shift (search needs) _ _ (c .before .before .before .before .before .before .before .before .before .before .before .before .before .pre .0 .shift-room)
-
-same-length : tie.Need-same-length
-same-length c = search needs
+shifted-requires c κs =
+    let start = c .before .before .before .before .before .before .before .before .before .before .before .before .before in
+    same-shift (search needs) _ _ (start .pre .0 .shift-room)
 
 returns-2 : tie.Need-returns-2
-returns-2 c = term-added _ _ _ _ _ _ _ (c .before .before .before .before .before .before .before .before .before .before .before .before .before .before .before .before .pre .0) (c .before .before .before .before .before .before .before .before .before .before .before .before .if1 .left) (c .before .before .before .before .before .before .before .before .before .before .apply .ensures) (c .before .before .before .before .before .before .advance .ensures) (c .before .before .shifted .ensures)
+returns-2 c =
+    let back10 = c .before .before .before .before .before .before .before .before .before .before in
+    let back12 = back10 .before .before in
+    let start = back12 .before .before .before .before in
+    term-added _ _ _ _ _ _ _ (start .pre .0) (back12 .if1 .left) (back10 .apply .ensures) (c .before .before .before .before .before .before .advance .ensures) (c .before .before .shifted .ensures)
 
 pub add-term-spec : {M : Type 1} → statement M
 add-term-spec =
     tie.close
-    (tie.spec returns apply-requires advance-requires shifted-requires same-length returns-2)
+    (tie.spec returns apply-requires advance-requires shifted-requires (λ c. search needs) returns-2)

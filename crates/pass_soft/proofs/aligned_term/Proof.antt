@@ -4,17 +4,17 @@ use borrow.Author.Needs.{needs}
 use Rattle.pass_soft.proofs.aligned_term.Statement.{statement}
 use Rattle.pass_soft.proofs.aligned_term.Tie as tie
 
-align-requires : tie.Need-align-requires
-align-requires c κs = search needs
-
 add-term-requires : tie.Need-add-term-requires
-add-term-requires c κs = (same-soft (search needs) _ _ _ (c .before .before .before .before .before .before .before .before .pre .0), c .before .before .before .before .before .before .before .before .pre .1)
-
-same-length : tie.Need-same-length
-same-length c = search needs
+add-term-requires c κs =
+    let start = c .before .before .before .before .before .before .before .before in
+    (same-soft (search needs) _ _ _ (start .pre .0), start .pre .1)
 
 returns : tie.Need-returns
-returns c = aligned-added _ _ _ _ _ _ (c .before .before .before .before .before .before .before .before .before .before .before .args .t) (c .before .before .before .before .before .before .before .before .before .before .before .pre .0) (c .before .before .before .before .before .before .align .ensures) (c .before .before .add-term .ensures)
+returns c =
+    let start = c .before .before .before .before .before .before .before .before .before .before .before in
+    aligned-added _ _ _ _ _ _ (start .args .t) (start .pre .0) (c .before .before .before .before .before .before .align .ensures) (c .before .before .add-term .ensures)
 
 pub aligned-term-spec : {M : Type 1} → statement M
-aligned-term-spec = tie.close (tie.spec align-requires add-term-requires same-length returns)
+aligned-term-spec =
+    tie.close
+    (tie.spec (λ c κs. search needs) add-term-requires (λ c. search needs) returns)

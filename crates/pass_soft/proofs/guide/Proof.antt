@@ -9,28 +9,16 @@ use Rattle.pass_soft.proofs.guide.Statement.{statement}
 use Rattle.pass_soft.proofs.guide.Tie as tie
 
 abbrev Inv-loop : tie.InvT-loop
-Inv-loop work₀ theta target n i₀ work i = (i ≤ n) × (length work ≡ length work₀) × (work ≡ putC work₀ target (guideTo work₀ theta target n i))
+Inv-loop work₀ guidance target n i₀ work i = (i ≤ n) × (length work ≡ length work₀) × (work ≡ putC work₀ target (guideTo work₀ guidance target n i))
 
 abbrev μ-loop : tie.MeasureT-loop
-μ-loop work₀ theta target n i₀ work i = n - i
+μ-loop work₀ guidance target n i₀ work i = n - i
 
 loop-holds : tie.Need-loop-holds Inv-loop μ-loop
 loop-holds c = search (guide-none, needs)
 
-guide-at-requires : tie.Need-guide-at-requires Inv-loop μ-loop
-guide-at-requires c κs = search needs
-
-add-i : tie.Need-add-i Inv-loop μ-loop
-add-i c = search needs
-
-loop-less : tie.Need-loop-less Inv-loop μ-loop
-loop-less c = search needs
-
 loop-again : tie.Need-loop-again Inv-loop μ-loop
 loop-again c = search (guide-again, needs)
-
-same-length : tie.Need-same-length Inv-loop μ-loop
-same-length c = search needs
 
 returns : tie.Need-returns Inv-loop μ-loop
 returns c = search guide-done
@@ -38,13 +26,4 @@ returns c = search guide-done
 pub guide-spec : {M : Type 1} → statement M
 guide-spec =
     tie.close
-    (tie.spec
-    Inv-loop
-    μ-loop
-    loop-holds
-    guide-at-requires
-    add-i
-    loop-less
-    loop-again
-    same-length
-    returns)
+    (tie.spec Inv-loop μ-loop loop-holds (λ c κs. search needs) (λ c. search needs) (λ c. search needs) loop-again (λ c. search needs) returns)

@@ -4,17 +4,17 @@ use borrow.Author.Needs.{needs}
 use Rattle.pass_soft.proofs.soften.Statement.{statement}
 use Rattle.pass_soft.proofs.soften.Tie as tie
 
-guided-term-requires : tie.Need-guided-term-requires
-guided-term-requires c κs = search needs
-
 aligned-term-requires : tie.Need-aligned-term-requires
-aligned-term-requires c κs = (same-soft (search needs) _ _ _ (c .before .before .before .before .before .before .before .before .pre .0 .0), c .before .before .before .before .before .before .before .before .pre .1)
-
-same-length : tie.Need-same-length
-same-length c = search needs
+aligned-term-requires c κs =
+    let start = c .before .before .before .before .before .before .before .before in
+    (same-soft (search needs) _ _ _ (start .pre .0 .0), start .pre .1)
 
 returns : tie.Need-returns
-returns c = softens-then _ _ _ _ _ _ (c .before .before .before .before .before .before .before .before .before .before .before .pre .0 .0) (c .before .before .before .before .before .before .guided-term .ensures) (c .before .before .aligned-term .ensures)
+returns c =
+    let start = c .before .before .before .before .before .before .before .before .before .before .before in
+    softens-then _ _ _ _ _ _ (start .pre .0 .0) (c .before .before .before .before .before .before .guided-term .ensures) (c .before .before .aligned-term .ensures)
 
 pub soften-spec : {M : Type 1} → statement M
-soften-spec = tie.close (tie.spec guided-term-requires aligned-term-requires same-length returns)
+soften-spec =
+    tie.close
+    (tie.spec (λ c κs. search needs) aligned-term-requires (λ c. search needs) returns)

@@ -4,12 +4,11 @@ use borrow.Author.Needs.{needs}
 use Rattle.pass_soft.proofs.target_at.Statement.{statement}
 use Rattle.pass_soft.proofs.target_at.Tie as tie
 
-from-angle-requires : tie.Need-from-angle-requires
-from-angle-requires c κs = search needs
-
 returns : tie.Need-returns
 unfolding fourfold
 returns c = cc
 
 pub target-at-spec : {M : Type 1} → statement M
-target-at-spec = tie.close (tie.spec from-angle-requires returns)
+target-at-spec =
+    tie.close
+    (tie.spec (λ c κs. search needs) returns)

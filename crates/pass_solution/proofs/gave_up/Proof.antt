@@ -2,8 +2,8 @@
 use mathlib.Core.Path.{_∙_, sym, ap}
 use Rattle.linear_conjugate_gradient.specs.Answer.{reason, place}
 use Rattle.linear_conjugate_gradient.specs.declared.Reason.{Reason}
-use Rattle.pass_refusal.specs.declared.Stage.{Stage}
-use Rattle.pass_refusal.specs.declared.Stage.the-variants.{Refused}
+use Rattle.refusals.specs.declared.Stage.{Stage}
+use Rattle.refusals.specs.declared.Stage.the-variants.{Refused}
 use Rattle.pass_solution.specs.Work.{refusalOf}
 use borrow.Author.Needs.{needs}
 use Rattle.pass_solution.proofs.gave_up.Statement.{statement}
@@ -11,48 +11,6 @@ use Rattle.pass_solution.proofs.gave_up.Tie as tie
 
 abbrev told : Reason → Stage
 told r = Refused (refusalOf r)
-
-enum-told : tie.Need-enum-told
-enum-told c = search needs
-
-gave-up-requires : tie.Need-gave-up-requires
-gave-up-requires c κs = search needs
-
-enum-known-r : tie.Need-enum-known-r
-enum-known-r c = search needs
-
-gave-up-requires-2 : tie.Need-gave-up-requires-2
-gave-up-requires-2 c κs = search needs
-
-enum-told-2 : tie.Need-enum-told-2
-enum-told-2 c = search needs
-
-gave-up-requires-3 : tie.Need-gave-up-requires-3
-gave-up-requires-3 c κs = search needs
-
-enum-told-3 : tie.Need-enum-told-3
-enum-told-3 c = search needs
-
-gave-up-requires-4 : tie.Need-gave-up-requires-4
-gave-up-requires-4 c κs = search needs
-
-enum-told-4 : tie.Need-enum-told-4
-enum-told-4 c = search needs
-
-gave-up-requires-5 : tie.Need-gave-up-requires-5
-gave-up-requires-5 c κs = search needs
-
-enum-told-5 : tie.Need-enum-told-5
-enum-told-5 c = search needs
-
-gave-up-requires-6 : tie.Need-gave-up-requires-6
-gave-up-requires-6 c κs = search needs
-
-enum-told-6 : tie.Need-enum-told-6
-enum-told-6 c = search needs
-
-gave-up-requires-7 : tie.Need-gave-up-requires-7
-gave-up-requires-7 c κs = search needs
 
 returns : tie.Need-returns
 unfolding reason place
@@ -85,25 +43,6 @@ returns-7 c = c .gave-up7 .ensures ∙ sym (ap told (c .before .enum-told6 .give
 pub gave-up-spec : {M : Type 1} → statement M
 gave-up-spec =
     tie.close
-    (tie.spec
-    enum-told
-    gave-up-requires
-    enum-known-r
-    gave-up-requires-2
-    enum-told-2
-    gave-up-requires-3
-    enum-told-3
-    gave-up-requires-4
-    enum-told-4
-    gave-up-requires-5
-    enum-told-5
-    gave-up-requires-6
-    enum-told-6
-    gave-up-requires-7
-    returns
-    returns-2
-    returns-3
-    returns-4
-    returns-5
-    returns-6
-    returns-7)
+    (tie.spec (λ c. search needs) (λ c κs. search needs) (λ c. search needs) (λ c κs. search needs) (λ c. search needs) (λ c κs. search needs)
+    (λ c. search needs) (λ c κs. search needs) (λ c. search needs) (λ c κs. search needs) (λ c. search needs) (λ c κs. search needs)
+    (λ c. search needs) (λ c κs. search needs) returns returns-2 returns-3 returns-4 returns-5 returns-6 returns-7)

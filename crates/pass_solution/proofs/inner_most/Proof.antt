@@ -5,12 +5,6 @@ use borrow.Author.Needs.{needs}
 use Rattle.pass_solution.proofs.inner_most.Statement.{statement}
 use Rattle.pass_solution.proofs.inner_most.Tie as tie
 
-mul-result : tie.Need-mul-result
-mul-result c = search needs
-
-add-result : tie.Need-add-result
-add-result c = search needs
-
 returns : tie.Need-returns
 unfolding innerMost
 returns c = omega arith
@@ -20,4 +14,6 @@ unfolding innerMost
 returns-2 c = omega arith
 
 pub inner-most-spec : {M : Type 1} → statement M
-inner-most-spec = tie.close (tie.spec mul-result add-result returns returns-2)
+inner-most-spec =
+    tie.close
+    (tie.spec (λ c. search needs) (λ c. search needs) returns returns-2)

@@ -5,9 +5,6 @@ use borrow.Author.Needs.{needs}
 use Rattle.pass_solution.proofs.linear_most.Statement.{statement}
 use Rattle.pass_solution.proofs.linear_most.Tie as tie
 
-inner-most-requires : tie.Need-inner-most-requires
-inner-most-requires c κs = search needs
-
 returns : tie.Need-returns
 unfolding innerMost linearMost
 returns c = omega arith
@@ -21,4 +18,6 @@ unfolding innerMost linearMost
 returns-3 c = omega arith
 
 pub linear-most-spec : {M : Type 1} → statement M
-linear-most-spec = tie.close (tie.spec inner-most-requires returns returns-2 returns-3)
+linear-most-spec =
+    tie.close
+    (tie.spec (λ c κs. search needs) returns returns-2 returns-3)

@@ -17,15 +17,6 @@ loop-holds : tie.Need-loop-holds Inv-loop μ-loop
 unfolding div neg ofBits
 loop-holds c = (search needs, bounds-none _ _ _)
 
-bounds-at-requires : tie.Need-bounds-at-requires Inv-loop μ-loop
-bounds-at-requires c κs = search needs
-
-add-i : tie.Need-add-i Inv-loop μ-loop
-add-i c = search needs
-
-loop-less : tie.Need-loop-less Inv-loop μ-loop
-loop-less c = search needs
-
 loop-again : tie.Need-loop-again Inv-loop μ-loop
 loop-again c = search (bounds-again, needs)
 
@@ -35,4 +26,4 @@ returns c = search bounds-done
 pub bounds-spec : {M : Type 1} → statement M
 bounds-spec =
     tie.close
-    (tie.spec Inv-loop μ-loop loop-holds bounds-at-requires add-i loop-less loop-again returns)
+    (tie.spec Inv-loop μ-loop loop-holds (λ c κs. search needs) (λ c. search needs) (λ c. search needs) loop-again returns)

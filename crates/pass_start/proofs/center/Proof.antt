@@ -9,4 +9,6 @@ unfolding centerOf
 returns c = refl
 
 pub center-spec : {M : Type 1} → statement M
-center-spec = tie.close (tie.spec returns)
+center-spec =
+    tie.close
+    (tie.spec returns)

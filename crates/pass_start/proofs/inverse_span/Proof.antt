@@ -4,9 +4,6 @@ use borrow.Author.Needs.{needs}
 use Rattle.pass_start.proofs.inverse_span.Statement.{statement}
 use Rattle.pass_start.proofs.inverse_span.Tie as tie
 
-recip-requires : tie.Need-recip-requires
-recip-requires c κs = search needs
-
 returns : tie.Need-returns
 unfolding inverseSpan
 returns c = simp (c .before .if1 .taken, c .recip .ensures)
@@ -16,4 +13,6 @@ unfolding inverseSpan
 returns-2 c = simp (c .if1 .left)
 
 pub inverse-span-spec : {M : Type 1} → statement M
-inverse-span-spec = tie.close (tie.spec recip-requires returns returns-2)
+inverse-span-spec =
+    tie.close
+    (tie.spec (λ c κs. search needs) returns returns-2)

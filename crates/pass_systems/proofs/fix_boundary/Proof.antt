@@ -10,14 +10,16 @@ couple-requires : tie.Need-couple-requires
 couple-requires c κs = (c .before .before .before .before .before .pre .1 .1, omega (arith, apart))
 
 dirichlet-rows-requires : tie.Need-dirichlet-rows-requires
-dirichlet-rows-requires c κs = (rows-room (search needs) _ _ _ (c .before .before .before .before .before .before .before .before .before .pre .0), c .before .before .before .before .before .before .before .before .before .pre .1)
-
-same-length : tie.Need-same-length
-same-length c = search needs
+dirichlet-rows-requires c κs =
+    let start = c .before .before .before .before .before .before .before .before .before in
+    (rows-room _ (search needs) (start .pre .0), start .pre .1)
 
 returns : tie.Need-returns
-returns c = fixed-all _ _ _ _ _ _ _ (c .before .before .before .before .before .before .before .before .before .before .before .before .pre .0) (c .before .before .before .before .before .before .couple .ensures) (c .before .before .dirichlet-rows .ensures)
+returns c =
+    let start = c .before .before .before .before .before .before .before .before .before .before .before .before in
+    fixed-all _ _ _ _ _ (start .pre .0) (c .before .before .before .before .before .before .couple .ensures) (c .before .before .dirichlet-rows .ensures)
 
 pub fix-boundary-spec : {M : Type 1} → statement M
 fix-boundary-spec =
-    tie.close (tie.spec couple-requires dirichlet-rows-requires same-length returns)
+    tie.close
+    (tie.spec couple-requires dirichlet-rows-requires (λ c. search needs) returns)

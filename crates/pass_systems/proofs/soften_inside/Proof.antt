@@ -4,18 +4,17 @@ use borrow.Author.Needs.{needs}
 use Rattle.pass_systems.proofs.soften_inside.Statement.{statement}
 use Rattle.pass_systems.proofs.soften_inside.Tie as tie
 
-guided-inside-requires : tie.Need-guided-inside-requires
-guided-inside-requires c κs = search needs
-
 aligned-inside-requires : tie.Need-aligned-inside-requires
-aligned-inside-requires c κs = (same-system (search needs) _ _ _ _ (c .before .before .before .before .before .before .before .before .before .pre .0), c .before .before .before .before .before .before .before .before .before .pre .1)
-
-same-length : tie.Need-same-length
-same-length c = search needs
+aligned-inside-requires c κs =
+    let start = c .before .before .before .before .before .before .before .before .before in
+    (same-system _ (search needs) (start .pre .0), start .pre .1)
 
 returns : tie.Need-returns
-returns c = inside-both _ _ _ _ _ _ _ (c .before .before .before .before .before .before .before .before .before .before .before .before .args .t) (c .before .before .before .before .before .before .before .before .before .before .before .before .pre .0) (c .before .before .before .before .before .before .guided-inside .ensures) (c .before .before .aligned-inside .ensures)
+returns c =
+    let start = c .before .before .before .before .before .before .before .before .before .before .before .before in
+    inside-both _ _ _ _ _ (start .pre .0) (c .before .before .before .before .before .before .guided-inside .ensures) (c .before .before .aligned-inside .ensures)
 
 pub soften-inside-spec : {M : Type 1} → statement M
 soften-inside-spec =
-    tie.close (tie.spec guided-inside-requires aligned-inside-requires same-length returns)
+    tie.close
+    (tie.spec (λ c κs. search needs) aligned-inside-requires (λ c. search needs) returns)

@@ -4,48 +4,25 @@ use borrow.Author.Needs.{needs}
 use Rattle.pass_terms.proofs.accurate_entry.Statement.{statement}
 use Rattle.pass_terms.proofs.accurate_entry.Tie as tie
 
-sub2-requires : tie.Need-sub2-requires
-sub2-requires c κs = search needs
-
-sub2-requires-2 : tie.Need-sub2-requires-2
-sub2-requires-2 c κs = search needs
-
-dot2-requires : tie.Need-dot2-requires
-dot2-requires c κs = search needs
-
-dot2-requires-2 : tie.Need-dot2-requires-2
-dot2-requires-2 c κs = search needs
-
-dot2-requires-3 : tie.Need-dot2-requires-3
-dot2-requires-3 c κs = search needs
-
-dirichlet-by-requires : tie.Need-dirichlet-by-requires
-dirichlet-by-requires c κs = search needs
-
-conj-requires : tie.Need-conj-requires
-conj-requires c κs = search needs
-
-mul-requires : tie.Need-mul-requires
-mul-requires c κs = search needs
-
-scale-requires : tie.Need-scale-requires
-scale-requires c κs = search needs
-
 returns : tie.Need-returns
 unfolding accurateEntry
-returns c = simp (c .scale .ensures, c .before .mul .ensures, c .before .before .conj .ensures, c .before .before .before .dirichlet-by .ensures, c .before .before .before .before .dot23 .ensures, c .before .before .before .before .before .dot22 .ensures, c .before .before .before .before .before .before .dot2 .ensures, c .before .before .before .before .before .before .before .sub22 .ensures, c .before .before .before .before .before .before .before .before .sub2 .ensures)
+returns c =
+    let back7 = c .before .before .before .before .before .before .before in
+    let back8 = back7 .before in
+    simp (
+      c .scale .ensures,
+      c .before .mul .ensures,
+      c .before .before .conj .ensures,
+      c .before .before .before .dirichlet-by .ensures,
+      c .before .before .before .before .dot23 .ensures,
+      c .before .before .before .before .before .dot22 .ensures,
+      c .before .before .before .before .before .before .dot2 .ensures,
+      back7 .sub22 .ensures,
+      back8 .sub2 .ensures,
+    )
 
 pub accurate-entry-spec : {M : Type 1} → statement M
 accurate-entry-spec =
     tie.close
-    (tie.spec
-    sub2-requires
-    sub2-requires-2
-    dot2-requires
-    dot2-requires-2
-    dot2-requires-3
-    dirichlet-by-requires
-    conj-requires
-    mul-requires
-    scale-requires
-    returns)
+    (tie.spec (λ c κs. search needs) (λ c κs. search needs) (λ c κs. search needs) (λ c κs. search needs) (λ c κs. search needs)
+    (λ c κs. search needs) (λ c κs. search needs) (λ c κs. search needs) (λ c κs. search needs) returns)

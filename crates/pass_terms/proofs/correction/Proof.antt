@@ -13,4 +13,6 @@ unfolding correctionIn correctionOf ofInt ofBits
 returns-2 c = simp (c .if1 .left)
 
 pub correction-spec : {M : Type 1} → statement M
-correction-spec = tie.close (tie.spec returns returns-2)
+correction-spec =
+    tie.close
+    (tie.spec returns returns-2)

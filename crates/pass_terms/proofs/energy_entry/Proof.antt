@@ -13,13 +13,11 @@ returns : tie.Need-returns
 unfolding energyEntry
 returns c = simp (c .accurate-entry .ensures, c .before .if1 .taken)
 
-flat-entry-requires : tie.Need-flat-entry-requires
-flat-entry-requires c κs = search needs
-
 returns-2 : tie.Need-returns-2
 unfolding energyEntry
 returns-2 c = simp (c .flat-entry .ensures, c .before .if1 .left)
 
 pub energy-entry-spec : {M : Type 1} → statement M
 energy-entry-spec =
-    tie.close (tie.spec accurate-entry-requires returns flat-entry-requires returns-2)
+    tie.close
+    (tie.spec accurate-entry-requires returns (λ c κs. search needs) returns-2)

@@ -4,9 +4,6 @@ use borrow.Author.Needs.{needs}
 use Rattle.pass_terms.proofs.factors_in.Statement.{statement}
 use Rattle.pass_terms.proofs.factors_in.Tie as tie
 
-factors-of-requires : tie.Need-factors-of-requires
-factors-of-requires c κs = search needs
-
 returns : tie.Need-returns
 unfolding factorsIn
 returns c = simp (c .factors-of .ensures, c .before .if1 .taken)
@@ -16,4 +13,6 @@ unfolding factorsIn
 returns-2 c = simp (c .if1 .left)
 
 pub factors-in-spec : {M : Type 1} → statement M
-factors-in-spec = tie.close (tie.spec factors-of-requires returns returns-2)
+factors-in-spec =
+    tie.close
+    (tie.spec (λ c κs. search needs) returns returns-2)

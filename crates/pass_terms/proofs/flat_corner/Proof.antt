@@ -5,18 +5,11 @@ use borrow.Author.Needs.{needs}
 use Rattle.pass_terms.proofs.flat_corner.Statement.{statement}
 use Rattle.pass_terms.proofs.flat_corner.Tie as tie
 
-sub2-requires : tie.Need-sub2-requires
-sub2-requires c κs = search needs
-
-dot2-requires : tie.Need-dot2-requires
-dot2-requires c κs = search needs
-
-recip-requires : tie.Need-recip-requires
-recip-requires c κs = search needs
-
 returns : tie.Need-returns
 unfolding flatCorner ofInt ofBits
 returns c = cc
 
 pub flat-corner-spec : {M : Type 1} → statement M
-flat-corner-spec = tie.close (tie.spec sub2-requires dot2-requires recip-requires returns)
+flat-corner-spec =
+    tie.close
+    (tie.spec (λ c κs. search needs) (λ c κs. search needs) (λ c κs. search needs) returns)

@@ -5,19 +5,11 @@ use Rattle.pass_terms.specs.Flat.{flatEntries}
 use Rattle.pass_terms.proofs.flat_entries.Statement.{statement}
 use Rattle.pass_terms.proofs.flat_entries.Tie as tie
 
-new-requires : tie.Need-new-requires
-new-requires c κs = search needs
-
-mass-entry-requires : tie.Need-mass-entry-requires
-mass-entry-requires c κs = search needs
-
-flat-entry-requires : tie.Need-flat-entry-requires
-flat-entry-requires c κs = search needs
-
 returns : tie.Need-returns
 unfolding flatEntries ofInt ofBits
 returns c = simp (c .flat-entry .ensures, c .before .mass-entry .ensures, c .before .before .new .ensures)
 
 pub flat-entries-spec : {M : Type 1} → statement M
 flat-entries-spec =
-    tie.close (tie.spec new-requires mass-entry-requires flat-entry-requires returns)
+    tie.close
+    (tie.spec (λ c κs. search needs) (λ c κs. search needs) (λ c κs. search needs) returns)

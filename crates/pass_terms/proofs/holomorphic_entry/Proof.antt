@@ -8,12 +8,11 @@ returns : tie.Need-returns
 unfolding holomorphicEntry
 returns c = simp (c .if1 .taken)
 
-corrected-entry-requires : tie.Need-corrected-entry-requires
-corrected-entry-requires c κs = search needs
-
 returns-2 : tie.Need-returns-2
 unfolding holomorphicEntry
 returns-2 c = simp (c .corrected-entry .ensures, c .before .if1 .left)
 
 pub holomorphic-entry-spec : {M : Type 1} → statement M
-holomorphic-entry-spec = tie.close (tie.spec returns corrected-entry-requires returns-2)
+holomorphic-entry-spec =
+    tie.close
+    (tie.spec returns (λ c κs. search needs) returns-2)

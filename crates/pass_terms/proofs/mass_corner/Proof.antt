@@ -10,4 +10,6 @@ unfolding massCorner ofInt ofBits
 returns c = refl
 
 pub mass-corner-spec : {M : Type 1} → statement M
-mass-corner-spec = tie.close (tie.spec returns)
+mass-corner-spec =
+    tie.close
+    (tie.spec returns)

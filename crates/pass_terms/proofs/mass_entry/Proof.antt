@@ -4,18 +4,11 @@ use Rattle.pass_terms.specs.Terms.{massEntry}
 use Rattle.pass_terms.proofs.mass_entry.Statement.{statement}
 use Rattle.pass_terms.proofs.mass_entry.Tie as tie
 
-conj-requires : tie.Need-conj-requires
-conj-requires c κs = search needs
-
-mul-requires : tie.Need-mul-requires
-mul-requires c κs = search needs
-
-scale-requires : tie.Need-scale-requires
-scale-requires c κs = search needs
-
 returns : tie.Need-returns
 unfolding massEntry
 returns c = cc
 
 pub mass-entry-spec : {M : Type 1} → statement M
-mass-entry-spec = tie.close (tie.spec conj-requires mul-requires scale-requires returns)
+mass-entry-spec =
+    tie.close
+    (tie.spec (λ c κs. search needs) (λ c κs. search needs) (λ c κs. search needs) returns)

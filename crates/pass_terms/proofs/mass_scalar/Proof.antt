@@ -14,12 +14,11 @@ returns : tie.Need-returns
 unfolding massScalar
 returns c = simp (c .mass-by .ensures, c .before .if1 .taken)
 
-new-requires : tie.Need-new-requires
-new-requires c κs = search needs
-
 returns-2 : tie.Need-returns-2
 unfolding massScalar ofInt ofBits
 returns-2 c = simp (c .new .ensures, c .before .if1 .left)
 
 pub mass-scalar-spec : {M : Type 1} → statement M
-mass-scalar-spec = tie.close (tie.spec mass-by-requires returns new-requires returns-2)
+mass-scalar-spec =
+    tie.close
+    (tie.spec mass-by-requires returns (λ c κs. search needs) returns-2)

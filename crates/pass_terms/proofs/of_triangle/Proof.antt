@@ -6,27 +6,12 @@ use Rattle.pass_terms.proofs.Flat.{terms-flat}
 use Rattle.pass_terms.proofs.of_triangle.Statement.{statement}
 use Rattle.pass_terms.proofs.of_triangle.Tie as tie
 
-holonomy-requires : tie.Need-holonomy-requires
-holonomy-requires c κs = search needs
-
-terms-by-requires : tie.Need-terms-by-requires
-terms-by-requires c κs = search needs
-
 returns : tie.Need-returns
 unfolding termsOf
 returns c = simp (c .terms-by .ensures, c .before .holonomy .ensures)
 
-flat-terms-requires : tie.Need-flat-terms-requires
-flat-terms-requires c κs = search needs
-
 returns-2 : tie.Need-returns-2
 returns-2 c = c .flat-terms .ensures ∙ terms-flat _ _ _ _ _ _ (c .before .before .before .if1 .left) (c .before .if2 .taken)
-
-holonomy-requires-2 : tie.Need-holonomy-requires-2
-holonomy-requires-2 c κs = search needs
-
-terms-by-requires-2 : tie.Need-terms-by-requires-2
-terms-by-requires-2 c κs = search needs
 
 returns-3 : tie.Need-returns-3
 unfolding termsOf
@@ -35,12 +20,5 @@ returns-3 c = simp (c .terms-by2 .ensures, c .before .holonomy2 .ensures)
 pub of-triangle-spec : {M : Type 1} → statement M
 of-triangle-spec =
     tie.close
-    (tie.spec
-    holonomy-requires
-    terms-by-requires
-    returns
-    flat-terms-requires
-    returns-2
-    holonomy-requires-2
-    terms-by-requires-2
+    (tie.spec (λ c κs. search needs) (λ c κs. search needs) returns (λ c κs. search needs) returns-2 (λ c κs. search needs) (λ c κs. search needs)
     returns-3)

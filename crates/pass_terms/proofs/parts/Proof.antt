@@ -4,15 +4,11 @@ use borrow.Author.Needs.{needs}
 use Rattle.pass_terms.proofs.parts.Statement.{statement}
 use Rattle.pass_terms.proofs.parts.Tie as tie
 
-three-sides-requires : tie.Need-three-sides-requires
-three-sides-requires c κs = search needs
-
-three-sides-requires-2 : tie.Need-three-sides-requires-2
-three-sides-requires-2 c κs = search needs
-
 returns : tie.Need-returns
 unfolding partsOf
 returns c = simp (c .three-sides2 .ensures, c .before .three-sides .ensures)
 
 pub parts-spec : {M : Type 1} → statement M
-parts-spec = tie.close (tie.spec three-sides-requires three-sides-requires-2 returns)
+parts-spec =
+    tie.close
+    (tie.spec (λ c κs. search needs) (λ c κs. search needs) returns)

@@ -5,19 +5,15 @@ use Rattle.pass_terms.specs.Terms.{scaleIn}
 use Rattle.pass_terms.proofs.scale_in.Statement.{statement}
 use Rattle.pass_terms.proofs.scale_in.Tie as tie
 
-recip-requires : tie.Need-recip-requires
-recip-requires c κs = search needs
-
 returns : tie.Need-returns
 unfolding scaleIn
 returns c = simp (c .recip .ensures, c .before .if1 .taken)
-
-recip-requires-2 : tie.Need-recip-requires-2
-recip-requires-2 c κs = search needs
 
 returns-2 : tie.Need-returns-2
 unfolding scaleIn ofInt ofBits
 returns-2 c = simp (c .recip2 .ensures, c .before .if1 .left)
 
 pub scale-in-spec : {M : Type 1} → statement M
-scale-in-spec = tie.close (tie.spec recip-requires returns recip-requires-2 returns-2)
+scale-in-spec =
+    tie.close
+    (tie.spec (λ c κs. search needs) returns (λ c κs. search needs) returns-2)

@@ -5,18 +5,6 @@ use borrow.Author.Needs.{needs}
 use Rattle.pass_transports.proofs.end_at.Statement.{statement}
 use Rattle.pass_transports.proofs.end_at.Tie as tie
 
-position-requires : tie.Need-position-requires
-position-requires c κs = search needs
-
-add-position : tie.Need-add-position
-add-position c = search needs
-
-position-requires-2 : tie.Need-position-requires-2
-position-requires-2 c κs = search needs
-
-load-real-requires : tie.Need-load-real-requires
-load-real-requires c κs = search needs
-
 returns : tie.Need-returns
 unfolding endOf pointsFrom
 returns c = simp (c .load-real .ensures, c .before .position2 .ensures, c .before .before .before .position .ensures)
@@ -24,4 +12,4 @@ returns c = simp (c .load-real .ensures, c .before .position2 .ensures, c .befor
 pub end-at-spec : {M : Type 1} → statement M
 end-at-spec =
     tie.close
-    (tie.spec position-requires add-position position-requires-2 load-real-requires returns)
+    (tie.spec (λ c κs. search needs) (λ c. search needs) (λ c κs. search needs) (λ c κs. search needs) returns)

@@ -18,25 +18,32 @@ loop-holds : tie.Need-loop-holds Inv-loop μ-loop
 loop-holds c = (omega arith, to-none _ _ _ _)
 
 look-requires : tie.Need-look-requires Inv-loop μ-loop
-look-requires c κs = ((rw (to-length (c .before .before .loop .inv .1)) (c .before .before .before .before .before .before .pre .0), c .before .loop-test .taken), c .before .before .before .before .before .before .pre .1)
-
-add-e : tie.Need-add-e Inv-loop μ-loop
-add-e c = search needs
-
-loop-less : tie.Need-loop-less Inv-loop μ-loop
-loop-less c = search needs
+look-requires c κs =
+    let start = c .before .before .before .before .before .before in
+    ((rw (to-length (c .before .before .loop .inv .1)) (start .pre .0), c .before .loop-test .taken), start .pre .1)
 
 loop-again : tie.Need-loop-again Inv-loop μ-loop
-loop-again c = (omega arith, to-more _ _ _ _ _ _ (c .before .before .before .before .before .before .before .before .before .before .pre .0) (c .before .before .before .before .before .before .before .before .before .before .pre .1) (c .before .before .before .before .before .loop-test .taken) (c .before .before .before .before .before .before .loop .inv .1) (c .if1 .taken) (c .before .before .before .look .ensures))
+loop-again c =
+    let start = c .before .before .before .before .before .before .before .before .before .before in
+    (omega arith, to-more _ _ _ _ _ _ (start .pre .0) (start .pre .1) (c .before .before .before .before .before .loop-test .taken) (c .before .before .before .before .before .before .loop .inv .1) (c .if1 .taken) (c .before .before .before .look .ensures))
 
 refused-at-requires : tie.Need-refused-at-requires Inv-loop μ-loop
-refused-at-requires c κs = (c .before .before .before .before .before .loop-test .taken, omega (arith, c .before .before .before .before .before .loop-test .taken, c .before .before .before .before .before .before .before .before .before .before .pre .1 .paired))
+refused-at-requires c κs =
+    let back5 = c .before .before .before .before .before in
+    let start = back5 .before .before .before .before .before in
+    (back5 .loop-test .taken, omega (arith, back5 .loop-test .taken, start .pre .1 .paired))
 
 same-length : tie.Need-same-length Inv-loop μ-loop
-same-length c = transported-length (to-found _ _ _ _ _ _ (c .before .before .before .before .before .before .before .before .before .before .before .pre .0) (c .before .before .before .before .before .before .before .before .before .before .before .pre .1) (c .before .before .before .before .before .before .loop-test .taken) (c .before .before .before .before .before .before .before .loop .inv .1) (c .before .if1 .left) (c .before .before .before .before .look .ensures) (c .refused-at .ensures))
+same-length c =
+    let back7 = c .before .before .before .before .before .before .before in
+    let start = back7 .before .before .before .before in
+    transported-length (to-found _ _ _ _ _ _ (start .pre .0) (start .pre .1) (c .before .before .before .before .before .before .loop-test .taken) (back7 .loop .inv .1) (c .before .if1 .left) (c .before .before .before .before .look .ensures) (c .refused-at .ensures))
 
 returns : tie.Need-returns Inv-loop μ-loop
-returns c = to-found _ _ _ _ _ _ (c .before .before .before .before .before .before .before .before .before .before .before .pre .0) (c .before .before .before .before .before .before .before .before .before .before .before .pre .1) (c .before .before .before .before .before .before .loop-test .taken) (c .before .before .before .before .before .before .before .loop .inv .1) (c .before .if1 .left) (c .before .before .before .before .look .ensures) (c .refused-at .ensures)
+returns c =
+    let back7 = c .before .before .before .before .before .before .before in
+    let start = back7 .before .before .before .before in
+    to-found _ _ _ _ _ _ (start .pre .0) (start .pre .1) (c .before .before .before .before .before .before .loop-test .taken) (back7 .loop .inv .1) (c .before .if1 .left) (c .before .before .before .before .look .ensures) (c .refused-at .ensures)
 
 same-length-2 : tie.Need-same-length-2 Inv-loop μ-loop
 same-length-2 c = to-length (c .before .loop .inv .1)
@@ -47,16 +54,5 @@ returns-2 c = to-done (omega arith) (c .before .loop .inv .1) refl
 pub transports-spec : {M : Type 1} → statement M
 transports-spec =
     tie.close
-    (tie.spec
-    Inv-loop
-    μ-loop
-    loop-holds
-    look-requires
-    add-e
-    loop-less
-    loop-again
-    refused-at-requires
-    same-length
-    returns
-    same-length-2
-    returns-2)
+    (tie.spec Inv-loop μ-loop loop-holds look-requires (λ c. search needs) (λ c. search needs) loop-again refused-at-requires same-length returns
+    same-length-2 returns-2)

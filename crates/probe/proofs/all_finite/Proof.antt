@@ -17,26 +17,15 @@ abbrev μ-loop : tie.MeasureT-loop
 loop-holds : tie.Need-loop-holds Inv-loop μ-loop
 loop-holds c = every-none finite (c .before .args .alpha .now)
 
-mul-is-finite : tie.Need-mul-is-finite Inv-loop μ-loop
-mul-is-finite c = search needs
-
-shared-slice-read-is-finite : tie.Need-shared-slice-read-is-finite Inv-loop μ-loop
-shared-slice-read-is-finite c = search needs
-
-is-finite-requires : tie.Need-is-finite-requires Inv-loop μ-loop
-is-finite-requires c κs = search needs
-
-add-i : tie.Need-add-i Inv-loop μ-loop
-add-i c = search needs
-
-loop-less : tie.Need-loop-less Inv-loop μ-loop
-loop-less c = search needs
-
 loop-again : tie.Need-loop-again Inv-loop μ-loop
-loop-again c = every-more finite (c .before .before .before .before .before .before .args .alpha .now) (c .before .before .before .before .loop .i) (c .before .before .before .loop-test .taken) (c .before .before .before .before .loop .inv) (sym (c .before .is-finite .ensures) ∙ c .if1 .taken)
+loop-again c =
+    let back4 = c .before .before .before .before in
+    every-more finite (c .before .before .before .before .before .before .args .alpha .now) (back4 .loop .i) (c .before .before .before .loop-test .taken) (back4 .loop .inv) (sym (c .before .is-finite .ensures) ∙ c .if1 .taken)
 
 returns : tie.Need-returns Inv-loop μ-loop
-returns c = every-fail finite (c .before .before .before .before .before .before .args .alpha .now) (c .before .before .before .before .loop .i) (c .before .before .before .loop-test .taken) (c .before .before .before .before .loop .inv) (sym (c .before .is-finite .ensures) ∙ c .if1 .left)
+returns c =
+    let back4 = c .before .before .before .before in
+    every-fail finite (c .before .before .before .before .before .before .args .alpha .now) (back4 .loop .i) (c .before .before .before .loop-test .taken) (back4 .loop .inv) (sym (c .before .is-finite .ensures) ∙ c .if1 .left)
 
 returns-2 : tie.Need-returns-2 Inv-loop μ-loop
 returns-2 c = every-done finite (c .before .before .before .args .alpha .now) (c .before .loop .i) (c .loop-test .left) (c .before .loop .inv)
@@ -44,15 +33,5 @@ returns-2 c = every-done finite (c .before .before .before .args .alpha .now) (c
 pub all-finite-spec : {M : Type 1} → statement M
 all-finite-spec =
     tie.close
-    (tie.spec
-    Inv-loop
-    μ-loop
-    loop-holds
-    mul-is-finite
-    shared-slice-read-is-finite
-    is-finite-requires
-    add-i
-    loop-less
-    loop-again
-    returns
-    returns-2)
+    (tie.spec Inv-loop μ-loop loop-holds (λ c. search needs) (λ c. search needs) (λ c κs. search needs) (λ c. search needs) (λ c. search needs)
+    loop-again returns returns-2)

@@ -17,26 +17,15 @@ abbrev μ-loop : tie.MeasureT-loop
 loop-holds : tie.Need-loop-holds Inv-loop μ-loop
 loop-holds c = every-none taken (c .before .args .alpha .now)
 
-mul-is-taken : tie.Need-mul-is-taken Inv-loop μ-loop
-mul-is-taken c = search needs
-
-shared-slice-read-is-taken : tie.Need-shared-slice-read-is-taken Inv-loop μ-loop
-shared-slice-read-is-taken c = search needs
-
-is-taken-requires : tie.Need-is-taken-requires Inv-loop μ-loop
-is-taken-requires c κs = search needs
-
-add-i : tie.Need-add-i Inv-loop μ-loop
-add-i c = search needs
-
-loop-less : tie.Need-loop-less Inv-loop μ-loop
-loop-less c = search needs
-
 loop-again : tie.Need-loop-again Inv-loop μ-loop
-loop-again c = every-more taken (c .before .before .before .before .before .before .args .alpha .now) (c .before .before .before .before .loop .i) (c .before .before .before .loop-test .taken) (c .before .before .before .before .loop .inv) (rw (← c .before .is-taken .ensures, c .if1 .taken))
+loop-again c =
+    let back4 = c .before .before .before .before in
+    every-more taken (c .before .before .before .before .before .before .args .alpha .now) (back4 .loop .i) (c .before .before .before .loop-test .taken) (back4 .loop .inv) (rw (← c .before .is-taken .ensures, c .if1 .taken))
 
 returns : tie.Need-returns Inv-loop μ-loop
-returns c = every-fail taken (c .before .before .before .before .before .before .args .alpha .now) (c .before .before .before .before .loop .i) (c .before .before .before .loop-test .taken) (c .before .before .before .before .loop .inv) (rw (← c .before .is-taken .ensures, c .if1 .left))
+returns c =
+    let back4 = c .before .before .before .before in
+    every-fail taken (c .before .before .before .before .before .before .args .alpha .now) (back4 .loop .i) (c .before .before .before .loop-test .taken) (back4 .loop .inv) (rw (← c .before .is-taken .ensures, c .if1 .left))
 
 returns-2 : tie.Need-returns-2 Inv-loop μ-loop
 returns-2 c = every-done taken (c .before .before .before .args .alpha .now) (c .before .loop .i) (c .loop-test .left) (c .before .loop .inv)
@@ -44,15 +33,5 @@ returns-2 c = every-done taken (c .before .before .before .args .alpha .now) (c 
 pub all-taken-spec : {M : Type 1} → statement M
 all-taken-spec =
     tie.close
-    (tie.spec
-    Inv-loop
-    μ-loop
-    loop-holds
-    mul-is-taken
-    shared-slice-read-is-taken
-    is-taken-requires
-    add-i
-    loop-less
-    loop-again
-    returns
-    returns-2)
+    (tie.spec Inv-loop μ-loop loop-holds (λ c. search needs) (λ c. search needs) (λ c κs. search needs) (λ c. search needs) (λ c. search needs)
+    loop-again returns returns-2)

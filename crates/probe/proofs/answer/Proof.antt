@@ -4,19 +4,15 @@ use borrow.Author.Needs.{needs}
 use Rattle.probe.proofs.answer.Statement.{statement}
 use Rattle.probe.proofs.answer.Tie as tie
 
-is-zero-requires : tie.Need-is-zero-requires
-is-zero-requires c κs = search needs
-
 returns : tie.Need-returns
 unfolding answered
 returns c = simp (← c .before .is-zero .ensures, c .if1 .taken)
-
-cross-angle-requires : tie.Need-cross-angle-requires
-cross-angle-requires c κs = search needs
 
 returns-2 : tie.Need-returns-2
 unfolding answered
 returns-2 c = simp (← c .before .before .is-zero .ensures, c .before .if1 .left, c .cross-angle .ensures .0)
 
 pub answer-spec : {M : Type 1} → statement M
-answer-spec = tie.close (tie.spec is-zero-requires returns cross-angle-requires returns-2)
+answer-spec =
+    tie.close
+    (tie.spec (λ c κs. search needs) returns (λ c κs. search needs) returns-2)

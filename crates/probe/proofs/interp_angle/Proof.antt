@@ -28,40 +28,36 @@ returns-3 : tie.Need-returns-3
 unfolding probeOf
 returns-3 c = ranged (c .before .before .before .before .before .before) NoAngle (simp (eq-eqb _ _ (c .before .before .if1 .left), eq-eqb _ _ (c .before .if2 .left), ne-eqb _ _ (c .if3 .taken)))
 
-all-taken-requires : tie.Need-all-taken-requires
-all-taken-requires c κs = search needs
-
-search-requires : tie.Need-search-requires
-search-requires c κs = search needs
-
 returns-4 : tie.Need-returns-4
 returns-4 c =
     let both = each-taken (c .before .before .before .before .before .before .before .before .before .args .alpha .now) (sym (c .before .before .all-taken .ensures) ∙ c .before .if4 .taken) in
-    ranged (c .before .before .before .before .before .before .before .before .before) (c .search .result) (c .search .ensures ∙ probe-search _ _ _ _ (c .before .before .before .before .before .if1 .left) (c .before .before .before .before .if2 .left) (c .before .before .before .if3 .left) (both .0) (both .1))
-
-all-finite-requires : tie.Need-all-finite-requires
-all-finite-requires c κs = search needs
+    ranged (c .before .before .before .before .before .before .before .before .before) (c .search .result)
+    (c .search .ensures ∙ probe-search _ _ _ _ (c .before .before .before .before .before .if1 .left)
+    (c .before .before .before .before .if2 .left) (c .before .before .before .if3 .left) (both .0) (both .1))
 
 returns-5 : tie.Need-returns-5
 unfolding probeOf
 returns-5 c =
     let all : every finite (c .before .before .before .before .before .before .before .before .before .before .args .alpha .now) ≡ true = sym (c .before .all-finite .ensures) ∙ c .if5 .taken in
-    ranged (c .before .before .before .before .before .before .before .before .before .before) TooLarge (simp (eq-eqb _ _ (c .before .before .before .before .before .before .if1 .left), eq-eqb _ _ (c .before .before .before .before .before .if2 .left), eq-eqb _ _ (c .before .before .before .before .if3 .left), all, too-large (c .before .before .before .before .before .before .before .before .before .before .args .alpha .now) (sym (c .before .before .before .all-taken .ensures) ∙ c .before .before .if4 .left) all))
+    ranged (c .before .before .before .before .before .before .before .before .before .before) TooLarge
+    (simp (
+      eq-eqb _ _ (c .before .before .before .before .before .before .if1 .left),
+      eq-eqb _ _
+          (c .before .before .before .before .before .if2 .left),
+      eq-eqb _ _ (c .before .before .before .before .if3 .left),
+      all,
+      too-large
+          (c .before .before .before .before .before .before .before .before .before .before .args .alpha .now)
+          (sym (c .before .before .before .all-taken .ensures) ∙ c .before .before .if4 .left) all,
+    ))
 
 returns-6 : tie.Need-returns-6
 unfolding probeOf
-returns-6 c = ranged (c .before .before .before .before .before .before .before .before .before .before) NoAngle (simp (eq-eqb _ _ (c .before .before .before .before .before .before .if1 .left), eq-eqb _ _ (c .before .before .before .before .before .if2 .left), eq-eqb _ _ (c .before .before .before .before .if3 .left), ← c .before .all-finite .ensures, c .if5 .left))
+returns-6 c =
+    let back10 = c .before .before .before .before .before .before .before .before .before .before in
+    ranged (back10) NoAngle (simp (eq-eqb _ _ (c .before .before .before .before .before .before .if1 .left), eq-eqb _ _ (c .before .before .before .before .before .if2 .left), eq-eqb _ _ (c .before .before .before .before .if3 .left), ← c .before .all-finite .ensures, c .if5 .left))
 
 pub interp-angle-spec : {M : Type 1} → statement M
 interp-angle-spec =
     tie.close
-    (tie.spec
-    returns
-    returns-2
-    returns-3
-    all-taken-requires
-    search-requires
-    returns-4
-    all-finite-requires
-    returns-5
-    returns-6)
+    (tie.spec returns returns-2 returns-3 (λ c κs. search needs) (λ c κs. search needs) returns-4 (λ c κs. search needs) returns-5 returns-6)

@@ -13,4 +13,6 @@ returns-3 : tie.Need-returns-3
 returns-3 c = usable-none (c .before .before .args .denominator) (c .before .if1 .left) (c .if2 .left)
 
 pub is-usable-spec : {M : Type 1} → statement M
-is-usable-spec = tie.close (tie.spec returns returns-2 returns-3)
+is-usable-spec =
+    tie.close
+    (tie.spec returns returns-2 returns-3)

@@ -12,4 +12,6 @@ unfolding within
 returns-2 c = simp (c .if1 .left)
 
 pub is-within-spec : {M : Type 1} → statement M
-is-within-spec = tie.close (tie.spec returns returns-2)
+is-within-spec =
+    tie.close
+    (tie.spec returns returns-2)

@@ -18,50 +18,39 @@ abbrev μ-loop : tie.MeasureT-loop
 loop-holds : tie.Need-loop-holds Inv-loop μ-loop
 loop-holds c = (omega arith, found-none _ _)
 
-visit-triangle-requires : tie.Need-visit-triangle-requires Inv-loop μ-loop
-visit-triangle-requires c κs = search needs
-
-enum-known-visit : tie.Need-enum-known-visit Inv-loop μ-loop
-enum-known-visit c = search needs
-
 returns : tie.Need-returns Inv-loop μ-loop
-returns c = found-here (visitAt (c .before .before .before .before .before .before .before .before .before .args .alpha .now) (c .before .before .before .before .before .before .before .before .before .args .points .now) (c .before .before .before .before .before .before .before .before .before .args .tris .now) (c .before .before .before .before .before .before .before .before .before .args .at)) (c .before .before .before .before .before .before .before .before .before .args .triangles) (c .before .before .before .before .before .loop .t) _ (c .before .before .before .before .loop-test .taken) (c .before .before .before .before .before .loop .inv .1) (sym (c .before .before .before .visit-triangle .ensures) ∙ c .before .visit .given .1)
-
-enum-told : tie.Need-enum-told Inv-loop μ-loop
-enum-told c = search needs
+returns c =
+    let back5 = c .before .before .before .before .before in
+    let start = back5 .before .before .before .before in
+    found-here (visitAt (start .args .alpha .now) (start .args .points .now) (start .args .tris .now) (start .args .at)) (start .args .triangles)
+    (back5 .loop .t) _ (c .before .before .before .before .loop-test .taken) (back5 .loop .inv .1)
+    (sym (c .before .before .before .visit-triangle .ensures) ∙ c .before .visit .given .1)
 
 returns-2 : tie.Need-returns-2 Inv-loop μ-loop
-returns-2 c = found-vanished (visitAt (c .before .before .before .before .before .before .before .before .args .alpha .now) (c .before .before .before .before .before .before .before .before .args .points .now) (c .before .before .before .before .before .before .before .before .args .tris .now) (c .before .before .before .before .before .before .before .before .args .at)) (c .before .before .before .before .before .before .before .before .args .triangles) (c .before .before .before .before .loop .t) (c .before .before .before .loop-test .taken) (c .before .before .before .before .loop .inv .1) (sym (c .before .before .visit-triangle .ensures) ∙ c .enum-told .given .1)
-
-enum-told-2 : tie.Need-enum-told-2 Inv-loop μ-loop
-enum-told-2 c = search needs
-
-add-t : tie.Need-add-t Inv-loop μ-loop
-add-t c = search needs
-
-loop-less : tie.Need-loop-less Inv-loop μ-loop
-loop-less c = search needs
+returns-2 c =
+    let back4 = c .before .before .before .before in
+    let start = back4 .before .before .before .before in
+    found-vanished (visitAt (start .args .alpha .now) (start .args .points .now) (start .args .tris .now) (start .args .at))
+    (start .args .triangles) (back4 .loop .t) (c .before .before .before .loop-test .taken) (back4 .loop .inv .1)
+    (sym (c .before .before .visit-triangle .ensures) ∙ c .enum-told .given .1)
 
 loop-again : tie.Need-loop-again Inv-loop μ-loop
-loop-again c = (omega arith, found-more (visitAt (c .before .before .before .before .before .before .before .before .args .alpha .now) (c .before .before .before .before .before .before .before .before .args .points .now) (c .before .before .before .before .before .before .before .before .args .tris .now) (c .before .before .before .before .before .before .before .before .args .at)) (c .before .before .before .before .before .before .before .before .args .triangles) (c .before .before .before .before .loop .t) (c .before .before .before .loop-test .taken) (c .before .before .before .before .loop .inv .1) (sym (c .before .before .visit-triangle .ensures) ∙ c .enum-told2 .given .1))
+loop-again c =
+    let back4 = c .before .before .before .before in
+    let start = back4 .before .before .before .before in (
+      omega arith,
+      found-more (visitAt (start .args .alpha .now) (start .args .points .now) (start .args .tris .now) (start .args .at))
+          (start .args .triangles) (back4 .loop .t) (c .before .before .before .loop-test .taken) (back4 .loop .inv .1)
+          (sym (c .before .before .visit-triangle .ensures) ∙ c .enum-told2 .given .1),
+    )
 
 returns-3 : tie.Need-returns-3 Inv-loop μ-loop
-returns-3 c = found-done (visitAt (c .before .before .before .before .before .args .alpha .now) (c .before .before .before .before .before .args .points .now) (c .before .before .before .before .before .args .tris .now) (c .before .before .before .before .before .args .at)) (c .before .before .before .before .before .args .triangles) (c .before .loop .t) (c .loop-test .left) (c .before .loop .inv .1)
+returns-3 c =
+    let start = c .before .before .before .before .before in
+    found-done (visitAt (start .args .alpha .now) (start .args .points .now) (start .args .tris .now) (start .args .at)) (start .args .triangles) (c .before .loop .t) (c .loop-test .left) (c .before .loop .inv .1)
 
 pub search-spec : {M : Type 1} → statement M
 search-spec =
     tie.close
-    (tie.spec
-    Inv-loop
-    μ-loop
-    loop-holds
-    visit-triangle-requires
-    enum-known-visit
-    returns
-    enum-told
-    returns-2
-    enum-told-2
-    add-t
-    loop-less
-    loop-again
-    returns-3)
+    (tie.spec Inv-loop μ-loop loop-holds (λ c κs. search needs) (λ c. search needs) returns (λ c. search needs) returns-2 (λ c. search needs)
+    (λ c. search needs) (λ c. search needs) loop-again returns-3)

@@ -5,39 +5,21 @@ use borrow.Author.Needs.{needs}
 use Rattle.probe.proofs.visit_points.Statement.{statement}
 use Rattle.probe.proofs.visit_points.Tie as tie
 
-position-requires : tie.Need-position-requires
-position-requires c κs = search needs
-
-position-requires-2 : tie.Need-position-requires-2
-position-requires-2 c κs = search needs
-
-position-requires-3 : tie.Need-position-requires-3
-position-requires-3 c κs = search needs
-
-mul-visit-corners : tie.Need-mul-visit-corners
-mul-visit-corners c = search needs
-
-shared-slice-read-visit-corners : tie.Need-shared-slice-read-visit-corners
-shared-slice-read-visit-corners c = search needs
-
-mul-visit-corners-2 : tie.Need-mul-visit-corners-2
-mul-visit-corners-2 c = search needs
-
-shared-slice-read-visit-corners-2 : tie.Need-shared-slice-read-visit-corners-2
-shared-slice-read-visit-corners-2 c = search needs
-
-mul-visit-corners-3 : tie.Need-mul-visit-corners-3
-mul-visit-corners-3 c = search needs
-
-shared-slice-read-visit-corners-3 : tie.Need-shared-slice-read-visit-corners-3
-shared-slice-read-visit-corners-3 c = search needs
-
-visit-corners-requires : tie.Need-visit-corners-requires
-visit-corners-requires c κs = search needs
-
 returns : tie.Need-returns
 unfolding visitOf
-returns c = simp (lt-ltb _ _ (c .before .before .before .before .before .before .before .before .before .if1 .taken), lt-ltb _ _ (c .before .before .before .before .before .before .before .before .if2 .taken), lt-ltb _ _ (c .before .before .before .before .before .before .before .if3 .taken), c .visit-corners .ensures, c .before .before .before .before .before .before .position .ensures, c .before .before .before .before .before .position2 .ensures, c .before .before .before .before .position3 .ensures)
+returns c =
+    let back7 = c .before .before .before .before .before .before .before in
+    let back8 = back7 .before in
+    let back9 = back8 .before in
+    simp (
+      lt-ltb _ _ (back9 .if1 .taken),
+      lt-ltb _ _ (back8 .if2 .taken),
+      lt-ltb _ _ (back7 .if3 .taken),
+      c .visit-corners .ensures,
+      c .before .before .before .before .before .before .position .ensures,
+      c .before .before .before .before .before .position2 .ensures,
+      c .before .before .before .before .position3 .ensures,
+    )
 
 returns-2 : tie.Need-returns-2
 unfolding visitOf
@@ -54,18 +36,5 @@ returns-4 c = simp (le-ltb _ _ (c .if1 .left))
 pub visit-points-spec : {M : Type 1} → statement M
 visit-points-spec =
     tie.close
-    (tie.spec
-    position-requires
-    position-requires-2
-    position-requires-3
-    mul-visit-corners
-    shared-slice-read-visit-corners
-    mul-visit-corners-2
-    shared-slice-read-visit-corners-2
-    mul-visit-corners-3
-    shared-slice-read-visit-corners-3
-    visit-corners-requires
-    returns
-    returns-2
-    returns-3
-    returns-4)
+    (tie.spec (λ c κs. search needs) (λ c κs. search needs) (λ c κs. search needs) (λ c. search needs) (λ c. search needs) (λ c. search needs)
+    (λ c. search needs) (λ c. search needs) (λ c. search needs) (λ c κs. search needs) returns returns-2 returns-3 returns-4)

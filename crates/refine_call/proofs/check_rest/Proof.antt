@@ -5,28 +5,13 @@ use Rattle.refine_call.specs.Call.{checkRest}
 use Rattle.refine_call.proofs.check_rest.Statement.{statement}
 use Rattle.refine_call.proofs.check_rest.Tie as tie
 
-refused-requires : tie.Need-refused-requires
-refused-requires c κs = search needs
-
 returns : tie.Need-returns
 unfolding checkRest
 returns c = simp (ne-eqb _ _ (c .before .if1 .taken)) (c .refused .ensures)
 
-not-finite-or-below-zero-requires : tie.Need-not-finite-or-below-zero-requires
-not-finite-or-below-zero-requires c κs = search needs
-
-refused-requires-2 : tie.Need-refused-requires-2
-refused-requires-2 c κs = search needs
-
 returns-2 : tie.Need-returns-2
 unfolding checkRest
 returns-2 c = simp (eq-eqb _ _ (c .before .before .before .if1 .left), ← c .before .before .not-finite-or-below-zero .ensures, c .before .if2 .taken) (c .refused2 .ensures)
-
-is-short-requires : tie.Need-is-short-requires
-is-short-requires c κs = search needs
-
-refused-requires-3 : tie.Need-refused-requires-3
-refused-requires-3 c κs = search needs
 
 returns-3 : tie.Need-returns-3
 unfolding checkRest
@@ -39,13 +24,5 @@ returns-4 c = simp (eq-eqb _ _ (c .before .before .before .before .if1 .left), �
 pub check-rest-spec : {M : Type 1} → statement M
 check-rest-spec =
     tie.close
-    (tie.spec
-    refused-requires
-    returns
-    not-finite-or-below-zero-requires
-    refused-requires-2
-    returns-2
-    is-short-requires
-    refused-requires-3
-    returns-3
-    returns-4)
+    (tie.spec (λ c κs. search needs) returns (λ c κs. search needs) (λ c κs. search needs) returns-2 (λ c κs. search needs) (λ c κs. search needs)
+    returns-3 returns-4)

@@ -5,34 +5,13 @@ use Rattle.refine_call.specs.Call.{short}
 use Rattle.refine_call.proofs.is_short.Statement.{statement}
 use Rattle.refine_call.proofs.is_short.Tie as tie
 
-mul-if1 : tie.Need-mul-if1
-mul-if1 c = search needs
-
-add-if1 : tie.Need-add-if1
-add-if1 c = search needs
-
-mul-if1-2 : tie.Need-mul-if1-2
-mul-if1-2 c = search needs
-
 returns : tie.Need-returns
 unfolding short
 returns c = simp (lt-ltb _ _ (c .if1 .taken))
 
-mul-if2 : tie.Need-mul-if2
-mul-if2 c = search needs
-
-add-if2 : tie.Need-add-if2
-add-if2 c = search needs
-
 returns-2 : tie.Need-returns-2
 unfolding short
 returns-2 c = simp (le-ltb _ _ (c .before .before .if1 .left), lt-ltb _ _ (c .if2 .taken))
-
-mul-if3 : tie.Need-mul-if3
-mul-if3 c = search needs
-
-mul-result : tie.Need-mul-result
-mul-result c = search needs
 
 returns-3 : tie.Need-returns-3
 unfolding short
@@ -45,15 +24,5 @@ returns-4 c = rw (le-ltb _ _ (c .before .before .before .before .before .if1 .le
 pub is-short-spec : {M : Type 1} → statement M
 is-short-spec =
     tie.close
-    (tie.spec
-    mul-if1
-    add-if1
-    mul-if1-2
-    returns
-    mul-if2
-    add-if2
-    returns-2
-    mul-if3
-    mul-result
-    returns-3
-    returns-4)
+    (tie.spec (λ c. search needs) (λ c. search needs) (λ c. search needs) returns (λ c. search needs) (λ c. search needs) returns-2
+    (λ c. search needs) (λ c. search needs) returns-3 returns-4)

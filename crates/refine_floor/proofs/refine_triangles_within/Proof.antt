@@ -19,14 +19,10 @@ loop-holds c = (omega arith, within-none _ _ _ _ _ (c .before .before .pre .0))
 refine-triangle-within-requires : tie.Need-refine-triangle-within-requires Inv-loop μ-loop
 refine-triangle-within-requires c κs = (c .before .before .loop .inv .1 .held, (omega arith, (c .before .before .before .before .before .pre .1 .0 .1, omega (arith, c .before .before .loop .inv .1 .stands .few, c .before .before .loop .inv .1 .stands .same-length))))
 
-add-i : tie.Need-add-i Inv-loop μ-loop
-add-i c = search needs
-
-loop-less : tie.Need-loop-less Inv-loop μ-loop
-loop-less c = search needs
-
 loop-again : tie.Need-loop-again Inv-loop μ-loop
-loop-again c = (omega arith, within-again (c .before .before .before .before .before .before .before .before .pre .1 .1 .0) (c .before .before .before .before .before .before .before .before .pre .0) (c .before .before .before .before .before .loop .inv .1) (c .before .before .refine-triangle-within .ensures))
+loop-again c =
+    let start = c .before .before .before .before .before .before .before .before in
+    (omega arith, within-again (start .pre .1 .1 .0) (start .pre .0) (c .before .before .before .before .before .loop .inv .1) (c .before .before .refine-triangle-within .ensures))
 
 same-length : tie.Need-same-length Inv-loop μ-loop
 same-length c = c .before .loop .inv .1 .stands .same-length
@@ -37,13 +33,4 @@ returns c = let e : c .before .loop .i ≡ c .before .before .before .before .ar
 pub refine-triangles-within-spec : {M : Type 1} → statement M
 refine-triangles-within-spec =
     tie.close
-    (tie.spec
-    Inv-loop
-    μ-loop
-    loop-holds
-    refine-triangle-within-requires
-    add-i
-    loop-less
-    loop-again
-    same-length
-    returns)
+    (tie.spec Inv-loop μ-loop loop-holds refine-triangle-within-requires (λ c. search needs) (λ c. search needs) loop-again same-length returns)

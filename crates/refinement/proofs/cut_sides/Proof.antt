@@ -18,15 +18,6 @@ abbrev μ-loop : tie.MeasureT-loop
 loop-holds : tie.Need-loop-holds Inv-loop μ-loop
 loop-holds c = (omega arith, cut-none _ _ _ (c .before .before .before .pre .0))
 
-cut-triangle-requires : tie.Need-cut-triangle-requires Inv-loop μ-loop
-cut-triangle-requires c κs = search needs
-
-add-i : tie.Need-add-i Inv-loop μ-loop
-add-i c = search needs
-
-loop-less : tie.Need-loop-less Inv-loop μ-loop
-loop-less c = search needs
-
 loop-again : tie.Need-loop-again Inv-loop μ-loop
 loop-again c = (omega arith, cut-again (c .before .before .before .before .before .loop .inv .1) (c .before .before .cut-triangle .ensures))
 
@@ -39,13 +30,4 @@ returns c = let e : c .before .loop .i ≡ c .before .before .before .before .be
 pub cut-sides-spec : {M : Type 1} → statement M
 cut-sides-spec =
     tie.close
-    (tie.spec
-    Inv-loop
-    μ-loop
-    loop-holds
-    cut-triangle-requires
-    add-i
-    loop-less
-    loop-again
-    same-length
-    returns)
+    (tie.spec Inv-loop μ-loop loop-holds (λ c κs. search needs) (λ c. search needs) (λ c. search needs) loop-again same-length returns)

@@ -5,26 +5,10 @@ use Rattle.refinement.proofs.Parts.{step-flagged, step-passed}
 use Rattle.refinement.proofs.cut_triangle.Statement.{statement}
 use Rattle.refinement.proofs.cut_triangle.Tie as tie
 
-mul-corners : tie.Need-mul-corners
-mul-corners c = search needs
-
-corners-requires : tie.Need-corners-requires
-corners-requires c κs = search needs
-
-is-flagged-requires : tie.Need-is-flagged-requires
-is-flagged-requires c κs = search needs
-
-meet-triangle-requires : tie.Need-meet-triangle-requires
-meet-triangle-requires c κs = search needs
-
-add-t15 : tie.Need-add-t15
-add-t15 c = search needs
-
-same-length : tie.Need-same-length
-same-length c = search needs
-
 returns : tie.Need-returns
-returns c = let e = c .before .before .before .before .before .before .before .corners .ensures in step-flagged _ (sym (rw e at (c .before .before .before .before .before .before .is-flagged .ensures)) ∙ c .before .before .before .before .before .if1 .taken) (rw e at (c .before .before .before .meet-triangle .ensures))
+returns c =
+    let back7 = c .before .before .before .before .before .before .before in
+    let e = back7 .corners .ensures in step-flagged _ (sym (rw e at (c .before .before .before .before .before .before .is-flagged .ensures)) ∙ c .before .before .before .before .before .if1 .taken) (rw e at (c .before .before .before .meet-triangle .ensures))
 
 returns-2 : tie.Need-returns-2
 returns-2 c = step-passed _ (sym (rw (c .before .before .corners .ensures) at (c .before .is-flagged .ensures)) ∙ c .if1 .left) (c .before .before .before .before .before .before .pre .0)
@@ -32,12 +16,5 @@ returns-2 c = step-passed _ (sym (rw (c .before .before .corners .ensures) at (c
 pub cut-triangle-spec : {M : Type 1} → statement M
 cut-triangle-spec =
     tie.close
-    (tie.spec
-    mul-corners
-    corners-requires
-    is-flagged-requires
-    meet-triangle-requires
-    add-t15
-    same-length
-    returns
+    (tie.spec (λ c. search needs) (λ c κs. search needs) (λ c κs. search needs) (λ c κs. search needs) (λ c. search needs) (λ c. search needs) returns
     returns-2)

@@ -4,12 +4,11 @@ use Rattle.refinement.specs.Flag.{flagged, flaggedTri}
 use Rattle.refinement.proofs.is_flagged.Statement.{statement}
 use Rattle.refinement.proofs.is_flagged.Tie as tie
 
-triangle-field-variation-requires : tie.Need-triangle-field-variation-requires
-triangle-field-variation-requires c κs = search needs
-
 returns : tie.Need-returns
 unfolding flaggedTri flagged
 returns c = rw (c .triangle-field-variation .ensures)
 
 pub is-flagged-spec : {M : Type 1} → statement M
-is-flagged-spec = tie.close (tie.spec triangle-field-variation-requires returns)
+is-flagged-spec =
+    tie.close
+    (tie.spec (λ c κs. search needs) returns)

@@ -6,35 +6,16 @@ use Rattle.refinement.proofs.Parts.{rows-of}
 use Rattle.refinement.proofs.pieces_of.Statement.{statement}
 use Rattle.refinement.proofs.pieces_of.Tie as tie
 
-mul-corners : tie.Need-mul-corners
-mul-corners c = search needs
-
-corners-requires : tie.Need-corners-requires
-corners-requires c κs = search needs
-
-middle-requires : tie.Need-middle-requires
-middle-requires c κs = search needs
-
-middle-requires-2 : tie.Need-middle-requires-2
-middle-requires-2 c κs = search needs
-
-middle-requires-3 : tie.Need-middle-requires-3
-middle-requires-3 c κs = search needs
-
-split-triangle-requires : tie.Need-split-triangle-requires
-split-triangle-requires c κs = search needs
-
 returns : tie.Need-returns
-returns c = let a = c .before .before .before .before .before .before .before .args in let t = c .before .before .before .before .corners .result in rw (c .before .before .before .before .corners .ensures) at (rows-of (mid (a .points) (cutsIn (a .table) (a .numbers .now))) (t .a) (t .b) (t .c) (c .before .before .before .middle .ensures) (c .before .before .middle2 .ensures) (c .before .middle3 .ensures) (c .split-triangle .ensures))
+returns c =
+    let back4 = c .before .before .before .before in
+    let start = back4 .before .before .before in
+    let a = start .args in let t = back4 .corners .result in rw (back4 .corners .ensures) at
+    (rows-of (mid (a .points) (cutsIn (a .table) (a .numbers .now))) (t .a) (t .b) (t .c) (c .before .before .before .middle .ensures)
+    (c .before .before .middle2 .ensures) (c .before .middle3 .ensures) (c .split-triangle .ensures))
 
 pub pieces-of-spec : {M : Type 1} → statement M
 pieces-of-spec =
     tie.close
-    (tie.spec
-    mul-corners
-    corners-requires
-    middle-requires
-    middle-requires-2
-    middle-requires-3
-    split-triangle-requires
+    (tie.spec (λ c. search needs) (λ c κs. search needs) (λ c κs. search needs) (λ c κs. search needs) (λ c κs. search needs) (λ c κs. search needs)
     returns)

@@ -5,15 +5,11 @@ use Rattle.refinement.specs.Flag.{turnAlong}
 use Rattle.refinement.proofs.turn_along.Statement.{statement}
 use Rattle.refinement.proofs.turn_along.Tie as tie
 
-rem-euclid-requires : tie.Need-rem-euclid-requires
-rem-euclid-requires c κs = search needs
-
-min-requires : tie.Need-min-requires
-min-requires c κs = search needs
-
 returns : tie.Need-returns
 unfolding turnAlong
 returns c = c .min .ensures ∙ rw (c .before .rem-euclid .ensures)
 
 pub turn-along-spec : {M : Type 1} → statement M
-turn-along-spec = tie.close (tie.spec rem-euclid-requires min-requires returns)
+turn-along-spec =
+    tie.close
+    (tie.spec (λ c κs. search needs) (λ c κs. search needs) returns)

@@ -6,12 +6,6 @@ use borrow.Author.Needs.{needs}
 use Rattle.replay.proofs.digit_at.Statement.{statement}
 use Rattle.replay.proofs.digit_at.Tie as tie
 
-shared-slice-read-digit : tie.Need-shared-slice-read-digit
-shared-slice-read-digit c = search needs
-
-digit-requires : tie.Need-digit-requires
-digit-requires c κs = search needs
-
 returns : tie.Need-returns
 returns c = c .digit .ensures
 
@@ -20,4 +14,6 @@ unfolding digitOf
 returns-2 c = (rw (List·getD-eq-default (c .before .before .args .text .now) _ (c .if1 .left)), omega arith)
 
 pub digit-at-spec : {M : Type 1} → statement M
-digit-at-spec = tie.close (tie.spec shared-slice-read-digit digit-requires returns returns-2)
+digit-at-spec =
+    tie.close
+    (tie.spec (λ c. search needs) (λ c κs. search needs) returns returns-2)

@@ -4,12 +4,6 @@ use borrow.Author.Needs.{needs}
 use Rattle.replay.proofs.same_double.Statement.{statement}
 use Rattle.replay.proofs.same_double.Tie as tie
 
-is-nan-pattern-requires : tie.Need-is-nan-pattern-requires
-is-nan-pattern-requires c κs = search needs
-
-is-nan-pattern-requires-2 : tie.Need-is-nan-pattern-requires-2
-is-nan-pattern-requires-2 c κs = search needs
-
 returns : tie.Need-returns
 unfolding sameDouble
 returns c = simp (← c .before .before .is-nan-pattern .ensures, c .before .if1 .taken, c .is-nan-pattern2 .ensures)
@@ -20,4 +14,5 @@ returns-2 c = simp (← c .before .is-nan-pattern .ensures, c .if1 .left)
 
 pub same-double-spec : {M : Type 1} → statement M
 same-double-spec =
-    tie.close (tie.spec is-nan-pattern-requires is-nan-pattern-requires-2 returns returns-2)
+    tie.close
+    (tie.spec (λ c κs. search needs) (λ c κs. search needs) returns returns-2)

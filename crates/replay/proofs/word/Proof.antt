@@ -18,29 +18,14 @@ returns : tie.Need-returns Inv-loop μ-loop
 unfolding wordAt
 returns c = let h : length (c .before .before .args .text .now) ≤ 17 * c .before .before .args .k = omega arith in rw (past _ (17 * c .before .before .args .k) 16 h)
 
-mul-at : tie.Need-mul-at Inv-loop μ-loop
-mul-at c = search needs
-
 loop-holds : tie.Need-loop-holds Inv-loop μ-loop
 loop-holds c = none _ _
 
 mul-value : tie.Need-mul-value Inv-loop μ-loop
 mul-value c = omega (arith, fits (c .before .loop .value) (c .before .loop .i) (c .before .loop .inv .short) (c .loop-test .taken))
 
-add-digit-at : tie.Need-add-digit-at Inv-loop μ-loop
-add-digit-at c = search needs
-
-digit-at-requires : tie.Need-digit-at-requires Inv-loop μ-loop
-digit-at-requires c κs = search needs
-
 add-value : tie.Need-add-value Inv-loop μ-loop
 add-value c = omega (arith, fits (c .before .before .loop .value) (c .before .before .loop .i) (c .before .before .loop .inv .short) (c .before .loop-test .taken), c .digit-at .ensures .1)
-
-add-i : tie.Need-add-i Inv-loop μ-loop
-add-i c = search needs
-
-loop-less : tie.Need-loop-less Inv-loop μ-loop
-loop-less c = search needs
 
 loop-again : tie.Need-loop-again Inv-loop μ-loop
 loop-again c = more _ _ _ _ _ (c .before .before .loop .inv) (c .before .loop-test .taken) (c .digit-at .ensures .0) (c .digit-at .ensures .1)
@@ -52,17 +37,5 @@ returns-2 c = whole (c .before .loop .inv) (c .loop-test .left)
 pub word-spec : {M : Type 1} → statement M
 word-spec =
     tie.close
-    (tie.spec
-    Inv-loop
-    μ-loop
-    returns
-    mul-at
-    loop-holds
-    mul-value
-    add-digit-at
-    digit-at-requires
-    add-value
-    add-i
-    loop-less
-    loop-again
-    returns-2)
+    (tie.spec Inv-loop μ-loop returns (λ c. search needs) loop-holds mul-value (λ c. search needs) (λ c κs. search needs) add-value
+    (λ c. search needs) (λ c. search needs) loop-again returns-2)

@@ -11,4 +11,6 @@ returns-2 : tie.Need-returns-2
 returns-2 c = (rw (ne-eqb _ _ (c .if1 .left)), search needs)
 
 pub width-spec : {M : Type 1} → statement M
-width-spec = tie.close (tie.spec returns returns-2)
+width-spec =
+    tie.close
+    (tie.spec returns returns-2)

@@ -18,23 +18,10 @@ slice-aggregate-normalize c = sym (length-take-le _ _ (omega arith))
 slice-aggregate-normalize-2 : tie.Need-slice-aggregate-normalize-2
 slice-aggregate-normalize-2 c = sym (length-take-le _ _ (omega arith))
 
-normalize-requires : tie.Need-normalize-requires
-normalize-requires c κs = search needs
-
-same-length : tie.Need-same-length
-same-length c = search needs
-
 returns-3 : tie.Need-returns-3
 returns-3 c = search needs
 
 pub normalize-spec : {M : Type 1} → statement M
 normalize-spec =
     tie.close
-    (tie.spec
-    returns
-    returns-2
-    slice-aggregate-normalize
-    slice-aggregate-normalize-2
-    normalize-requires
-    same-length
-    returns-3)
+    (tie.spec returns returns-2 slice-aggregate-normalize slice-aggregate-normalize-2 (λ c κs. search needs) (λ c. search needs) returns-3)

@@ -18,27 +18,10 @@ slice-aggregate-solve c = sym (length-take-le _ _ (omega arith))
 slice-aggregate-solve-2 : tie.Need-slice-aggregate-solve-2
 slice-aggregate-solve-2 c = sym (length-take-le _ _ (omega arith))
 
-solve-requires : tie.Need-solve-requires
-solve-requires c κs = search needs
-
-same-length : tie.Need-same-length
-same-length c = search needs
-
-same-length-2 : tie.Need-same-length-2
-same-length-2 c = search needs
-
 returns-3 : tie.Need-returns-3
 returns-3 c = search needs
 
 pub solve-spec : {M : Type 1} → statement M
 solve-spec =
     tie.close
-    (tie.spec
-    returns
-    returns-2
-    slice-aggregate-solve
-    slice-aggregate-solve-2
-    solve-requires
-    same-length
-    same-length-2
-    returns-3)
+    (tie.spec returns returns-2 slice-aggregate-solve slice-aggregate-solve-2 (λ c κs. search needs) (λ c. search needs) (λ c. search needs) returns-3)

@@ -5,48 +5,6 @@ use Rattle.replay_linear.specs.Verdict.{ofReason}
 use Rattle.replay_linear.proofs.told_reason.Statement.{statement}
 use Rattle.replay_linear.proofs.told_reason.Tie as tie
 
-enum-told : tie.Need-enum-told
-enum-told c = search needs
-
-told-requires : tie.Need-told-requires
-told-requires c κs = search needs
-
-enum-known-r : tie.Need-enum-known-r
-enum-known-r c = search needs
-
-told-requires-2 : tie.Need-told-requires-2
-told-requires-2 c κs = search needs
-
-enum-told-2 : tie.Need-enum-told-2
-enum-told-2 c = search needs
-
-told-requires-3 : tie.Need-told-requires-3
-told-requires-3 c κs = search needs
-
-enum-told-3 : tie.Need-enum-told-3
-enum-told-3 c = search needs
-
-told-requires-4 : tie.Need-told-requires-4
-told-requires-4 c κs = search needs
-
-enum-told-4 : tie.Need-enum-told-4
-enum-told-4 c = search needs
-
-told-requires-5 : tie.Need-told-requires-5
-told-requires-5 c κs = search needs
-
-enum-told-5 : tie.Need-enum-told-5
-enum-told-5 c = search needs
-
-told-requires-6 : tie.Need-told-requires-6
-told-requires-6 c κs = search needs
-
-enum-told-6 : tie.Need-enum-told-6
-enum-told-6 c = search needs
-
-told-requires-7 : tie.Need-told-requires-7
-told-requires-7 c κs = search needs
-
 returns : tie.Need-returns
 returns c = c .told .ensures ∙ sym (ap ofReason (c .before .enum-told .given .1))
 
@@ -71,25 +29,6 @@ returns-7 c = c .told7 .ensures ∙ sym (ap ofReason (c .before .enum-told6 .giv
 pub told-reason-spec : {M : Type 1} → statement M
 told-reason-spec =
     tie.close
-    (tie.spec
-    enum-told
-    told-requires
-    enum-known-r
-    told-requires-2
-    enum-told-2
-    told-requires-3
-    enum-told-3
-    told-requires-4
-    enum-told-4
-    told-requires-5
-    enum-told-5
-    told-requires-6
-    enum-told-6
-    told-requires-7
-    returns
-    returns-2
-    returns-3
-    returns-4
-    returns-5
-    returns-6
-    returns-7)
+    (tie.spec (λ c. search needs) (λ c κs. search needs) (λ c. search needs) (λ c κs. search needs) (λ c. search needs) (λ c κs. search needs)
+    (λ c. search needs) (λ c κs. search needs) (λ c. search needs) (λ c κs. search needs) (λ c. search needs) (λ c κs. search needs)
+    (λ c. search needs) (λ c κs. search needs) returns returns-2 returns-3 returns-4 returns-5 returns-6 returns-7)

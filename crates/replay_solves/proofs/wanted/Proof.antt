@@ -7,18 +7,13 @@ use Rattle.replay_solves.proofs.wanted.Tie as tie
 returns : tie.Need-returns
 returns c = simp (eq-eqb _ _ (c .if1 .taken))
 
-has-minus-zero-requires : tie.Need-has-minus-zero-requires
-has-minus-zero-requires c κs = search needs
-
 returns-2 : tie.Need-returns-2
 returns-2 c = simp (c .has-minus-zero .ensures, eq-eqb _ _ (c .before .if2 .taken), ne-eqb _ _ (c .before .before .if1 .left))
-
-has-nan-requires : tie.Need-has-nan-requires
-has-nan-requires c κs = search needs
 
 returns-3 : tie.Need-returns-3
 returns-3 c = simp (c .has-nan .ensures, ne-eqb _ _ (c .before .if2 .left), ne-eqb _ _ (c .before .before .if1 .left))
 
 pub wanted-spec : {M : Type 1} → statement M
 wanted-spec =
-    tie.close (tie.spec returns has-minus-zero-requires returns-2 has-nan-requires returns-3)
+    tie.close
+    (tie.spec returns (λ c κs. search needs) returns-2 (λ c κs. search needs) returns-3)

@@ -9,26 +9,21 @@ use Rattle.text_answer.proofs.Whole.{count-fits}
 use Rattle.replay_texts.proofs.prints.Statement.{statement}
 use Rattle.replay_texts.proofs.prints.Tie as tie
 
-slice-aggregate-answer : tie.Need-slice-aggregate-answer
-slice-aggregate-answer c = search needs
-
-answer-requires : tie.Need-answer-requires
-answer-requires c κs = search needs
-
 array-share-prefix-out : tie.Need-array-share-prefix-out
 array-share-prefix-out c = omega (arith, c .before .answer .ensures .1, count-fits (c .before .before .before .before .before .args .text .now) (replicate {A = ℕ} 29500 170), length-replicate {A = ℕ} 29500 170)
 
 slice-aggregate-same : tie.Need-slice-aggregate-same
-slice-aggregate-same c = sym (length-take-le (c .before .before .answer .result) (c .before .before .answer .last .1 .0) (omega (arith, c .before .before .answer .ensures .1, count-fits (c .before .before .before .before .before .before .args .text .now) (replicate {A = ℕ} 29500 170), length-replicate {A = ℕ} 29500 170, c .before .out2 .given)))
-
-same-requires : tie.Need-same-requires
-same-requires c κs = search needs
-
-slice-aggregate-marked : tie.Need-slice-aggregate-marked
-slice-aggregate-marked c = search needs
-
-marked-requires : tie.Need-marked-requires
-marked-requires c κs = search needs
+slice-aggregate-same c =
+    sym
+    (length-take-le (c .before .before .answer .result) (c .before .before .answer .last .1 .0)
+    (omega (
+      arith,
+      c .before .before .answer .ensures .1,
+      count-fits (c .before .before .before .before .before .before .args .text .now)
+          (replicate {A = ℕ} 29500 170),
+      length-replicate {A = ℕ} 29500 170,
+      c .before .out2 .given,
+    )))
 
 returns : tie.Need-returns
 returns c = search needs
@@ -39,13 +34,5 @@ returns-2 c = search needs
 pub prints-spec : {M : Type 1} → statement M
 prints-spec =
     tie.close
-    (tie.spec
-    slice-aggregate-answer
-    answer-requires
-    array-share-prefix-out
-    slice-aggregate-same
-    same-requires
-    slice-aggregate-marked
-    marked-requires
-    returns
-    returns-2)
+    (tie.spec (λ c. search needs) (λ c κs. search needs) array-share-prefix-out slice-aggregate-same (λ c κs. search needs) (λ c. search needs)
+    (λ c κs. search needs) returns returns-2)

@@ -22,9 +22,6 @@ returns c = none (c .before .args .m)
 returns-2 : tie.Need-returns-2
 returns-2 c = none (c .before .before .args .m)
 
-mul-e : tie.Need-mul-e
-mul-e c = search needs
-
 mul-ab : tie.Need-mul-ab
 mul-ab c = omega (arith, small (c .before .before))
 
@@ -40,14 +37,8 @@ add-if3-2 c = omega (arith, small (c .before .before))
 add-if4 : tie.Need-add-if4
 add-if4 c = omega (arith, small (c .before .before .before))
 
-sub-if4 : tie.Need-sub-if4
-sub-if4 c = search needs
-
 add-if4-2 : tie.Need-add-if4-2
 add-if4-2 c = omega (arith, small (c .before .before .before))
-
-add-if4-3 : tie.Need-add-if4-3
-add-if4-3 c = search needs
 
 returns-3 : tie.Need-returns-3
 returns-3 c =
@@ -57,20 +48,8 @@ returns-3 c =
 add-if5 : tie.Need-add-if5
 add-if5 c = omega (arith, small (c .before .before .before .before))
 
-mul-if5 : tie.Need-mul-if5
-mul-if5 c = search needs
-
-sub-if5 : tie.Need-sub-if5
-sub-if5 c = search needs
-
 add-if5-2 : tie.Need-add-if5-2
 add-if5-2 c = omega (arith, small (c .before .before .before .before))
-
-add-if5-3 : tie.Need-add-if5-3
-add-if5-3 c = search needs
-
-sub-result : tie.Need-sub-result
-sub-result c = search needs
 
 returns-4 : tie.Need-returns-4
 returns-4 c =
@@ -80,9 +59,6 @@ returns-4 c =
 returns-5 : tie.Need-returns-5
 returns-5 c = search needs
 
-mul-if6 : tie.Need-mul-if6
-mul-if6 c = search needs
-
 add-if6 : tie.Need-add-if6
 add-if6 c = omega (arith, small (c .before .before .before))
 
@@ -91,9 +67,6 @@ add-if6-2 c = omega (arith, small (c .before .before .before))
 
 add-if6-3 : tie.Need-add-if6-3
 add-if6-3 c = omega (arith, small (c .before .before .before))
-
-add-result : tie.Need-add-result
-add-result c = search needs
 
 returns-6 : tie.Need-returns-6
 returns-6 c =
@@ -106,33 +79,6 @@ returns-7 c = search needs
 pub settled-spec : {M : Type 1} → statement M
 settled-spec =
     tie.close
-    (tie.spec
-    mul-aa
-    mul-aa-2
-    returns
-    returns-2
-    mul-e
-    mul-ab
-    mul-bb
-    add-if3
-    add-if3-2
-    add-if4
-    sub-if4
-    add-if4-2
-    add-if4-3
-    returns-3
-    add-if5
-    mul-if5
-    sub-if5
-    add-if5-2
-    add-if5-3
-    sub-result
-    returns-4
-    returns-5
-    mul-if6
-    add-if6
-    add-if6-2
-    add-if6-3
-    add-result
-    returns-6
-    returns-7)
+    (tie.spec mul-aa mul-aa-2 returns returns-2 (λ c. search needs) mul-ab mul-bb add-if3 add-if3-2 add-if4 (λ c. search needs) add-if4-2
+    (λ c. search needs) returns-3 add-if5 (λ c. search needs) (λ c. search needs) add-if5-2 (λ c. search needs) (λ c. search needs) returns-4
+    returns-5 (λ c. search needs) add-if6 add-if6-2 add-if6-3 (λ c. search needs) returns-6 returns-7)

@@ -27,32 +27,33 @@ returns-3 : tie.Need-returns-3
 unfolding rootOf
 returns-3 c = rooted (c .before .before .before .args .x) (lit 0 ⊘ lit 0) (held (c .before .before .before)) (simp (c .before .before .if1 .left, c .before .if2 .left, c .if3 .taken, zero-by-zero))
 
-bits-requires : tie.Need-bits-requires
-bits-requires c κs = search needs
-
 returns-4 : tie.Need-returns-4
 unfolding rootOf
-returns-4 c = rooted (c .before .before .before .before .before .args .x) (c .before .before .before .before .before .args .x) (held (c .before .before .before .before .before)) (simp (c .before .before .before .before .if1 .left, c .before .before .before .if2 .left, c .before .before .if3 .left, ← c .before .bits .ensures, le-leb _ _ (c .if4 .taken)))
+returns-4 c =
+    let start = c .before .before .before .before .before in
+    rooted (start .args .x) (start .args .x) (held (start)) (simp (c .before .before .before .before .if1 .left, c .before .before .before .if2 .left, c .before .before .if3 .left, ← c .before .bits .ensures, le-leb _ _ (c .if4 .taken)))
 
 root-bits-requires : tie.Need-root-bits-requires
-root-bits-requires c κs = rw (c .before .bits .ensures) (not-zero (c .before .before .before .before .before .args .x) (held (c .before .before .before .before .before)) (c .before .before .before .if2 .left))
-
-from-bits-requires : tie.Need-from-bits-requires
-from-bits-requires c κs = search needs
+root-bits-requires c κs =
+    let start = c .before .before .before .before .before in
+    rw (c .before .bits .ensures) (not-zero (start .args .x) (held (start)) (c .before .before .before .if2 .left))
 
 returns-5 : tie.Need-returns-5
 unfolding rootOf
-returns-5 c = rooted (c .before .before .before .before .before .before .before .args .x) (c .from-bits .result) (held (c .before .before .before .before .before .before .before)) (simp (c .before .before .before .before .before .before .if1 .left, c .before .before .before .before .before .if2 .left, c .before .before .before .before .if3 .left, ← c .before .before .before .bits .ensures, lt-leb _ _ (c .before .before .if4 .left), c .before .root-bits .ensures, c .from-bits .ensures))
+returns-5 c =
+    let start = c .before .before .before .before .before .before .before in
+    rooted (start .args .x) (c .from-bits .result) (held (start))
+    (simp (
+      c .before .before .before .before .before .before .if1 .left,
+      c .before .before .before .before .before .if2 .left,
+      c .before .before .before .before .if3 .left,
+      ← c .before .before .before .bits .ensures,
+      lt-leb _ _ (c .before .before .if4 .left),
+      c .before .root-bits .ensures,
+      c .from-bits .ensures,
+    ))
 
 pub sqrt-spec : {M : Type 1} → statement M
 sqrt-spec =
     tie.close
-    (tie.spec
-    returns
-    returns-2
-    returns-3
-    bits-requires
-    returns-4
-    root-bits-requires
-    from-bits-requires
-    returns-5)
+    (tie.spec returns returns-2 returns-3 (λ c κs. search needs) returns-4 root-bits-requires (λ c κs. search needs) returns-5)

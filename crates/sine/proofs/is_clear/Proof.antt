@@ -6,9 +6,6 @@ use borrow.Author.Needs.{needs}
 use Rattle.sine.proofs.is_clear.Statement.{statement}
 use Rattle.sine.proofs.is_clear.Tie as tie
 
-high-word-requires : tie.Need-high-word-requires
-high-word-requires c κs = search needs
-
 returns : tie.Need-returns
 unfolding isClear
 returns c = simp (lt-ltb _ _ (c .before .if1 .taken), c .high-word .ensures, c .before .before .pre, word-is (c .before .before .args .n) (c .before .if1 .taken))
@@ -18,4 +15,6 @@ unfolding isClear
 returns-2 c = simp (le-ltb _ _ (c .if1 .left))
 
 pub is-clear-spec : {M : Type 1} → statement M
-is-clear-spec = tie.close (tie.spec high-word-requires returns returns-2)
+is-clear-spec =
+    tie.close
+    (tie.spec (λ c κs. search needs) returns returns-2)

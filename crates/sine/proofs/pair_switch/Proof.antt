@@ -21,4 +21,6 @@ unfolding pairSwitch
 returns-4 c = simp (ne-eqb _ _ (c .before .before .if1 .left), ne-eqb _ _ (c .before .if2 .left), ne-eqb _ _ (c .if3 .left))
 
 pub pair-switch-spec : {M : Type 1} → statement M
-pair-switch-spec = tie.close (tie.spec returns returns-2 returns-3 returns-4)
+pair-switch-spec =
+    tie.close
+    (tie.spec returns returns-2 returns-3 returns-4)

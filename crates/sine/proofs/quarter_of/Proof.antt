@@ -7,18 +7,10 @@ use Rattle.sine.proofs.quarter_of.Tie as tie
 returns : tie.Need-returns
 returns c = simp (lt-ltb _ _ (c .if1 .taken))
 
-sub-from-bits : tie.Need-sub-from-bits
-sub-from-bits c = search needs
-
-mul-from-bits : tie.Need-mul-from-bits
-mul-from-bits c = search needs
-
-from-bits-requires : tie.Need-from-bits-requires
-from-bits-requires c κs = search needs
-
 returns-2 : tie.Need-returns-2
 returns-2 c = simp (le-ltb _ _ (c .before .if1 .left), c .from-bits .ensures)
 
 pub quarter-of-spec : {M : Type 1} → statement M
 quarter-of-spec =
-    tie.close (tie.spec returns sub-from-bits mul-from-bits from-bits-requires returns-2)
+    tie.close
+    (tie.spec returns (λ c. search needs) (λ c. search needs) (λ c κs. search needs) returns-2)

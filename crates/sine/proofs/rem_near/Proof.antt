@@ -5,15 +5,9 @@ use borrow.Author.Needs.{needs}
 use Rattle.sine.proofs.rem_near.Statement.{statement}
 use Rattle.sine.proofs.rem_near.Tie as tie
 
-split-requires : tie.Need-split-requires
-split-requires c κs = search needs
-
 returns : tie.Need-returns
 unfolding remNear
 returns c = simp (eq-eqb _ _ (c .before .before .if1 .taken), ne-eqb _ _ (c .before .if2 .taken), c .split .ensures, ← c .before .before .before .pre)
-
-split-requires-2 : tie.Need-split-requires-2
-split-requires-2 c κs = search needs
 
 returns-2 : tie.Need-returns-2
 unfolding remNear
@@ -29,4 +23,5 @@ returns-4 c = simp (ne-eqb _ _ (c .before .if1 .left), eq-eqb _ _ (c .if3 .left)
 
 pub rem-near-spec : {M : Type 1} → statement M
 rem-near-spec =
-    tie.close (tie.spec split-requires returns split-requires-2 returns-2 returns-3 returns-4)
+    tie.close
+    (tie.spec (λ c κs. search needs) returns (λ c κs. search needs) returns-2 returns-3 returns-4)

@@ -8,27 +8,38 @@ use borrow.Author.Needs.{needs}
 use Rattle.sine.proofs.rem_pio2.Statement.{statement}
 use Rattle.sine.proofs.rem_pio2.Tie as tie
 
-rem-near-requires : tie.Need-rem-near-requires
-rem-near-requires c κs = search needs
-
 returns : tie.Need-returns
 unfolding remPio2
 returns c = let h : 0x3fe9_21fb < c .before .before .args .b % 0x8000_0000_0000_0000 / 0x1_0000_0000 = omega arith in simp (← c .before .before .pre .0 .1, lt-leb _ _ h, lt-ltb _ _ (c .before .if1 .taken), c .rem-near .ensures)
 
-rem-medium-requires : tie.Need-rem-medium-requires
-rem-medium-requires c κs = search needs
-
 returns-2 : tie.Need-returns-2
 unfolding remPio2
-returns-2 c = let h : 0x3fe9_21fb < c .before .before .before .args .b % 0x8000_0000_0000_0000 / 0x1_0000_0000 = omega arith in simp (← c .before .before .before .pre .0 .0, ← c .before .before .before .pre .0 .1, lt-leb _ _ h, le-ltb _ _ (c .before .before .if1 .left), eq-eqb _ _ (c .if2 .taken), c .before .rem-medium .ensures)
-
-sub-t12 : tie.Need-sub-t12
-sub-t12 c = search needs
+returns-2 c =
+    let h : 0x3fe9_21fb < c .before .before .before .args .b % 0x8000_0000_0000_0000 / 0x1_0000_0000 = omega arith in simp (
+      ← c .before .before .before .pre .0 .0,
+      ← c .before .before .before .pre .0 .1,
+      lt-leb _ _ h,
+      le-ltb _ _ (c .before .before .if1 .left),
+      eq-eqb
+          _ _ (c .if2 .taken),
+      c .before .rem-medium .ensures,
+    )
 
 returns-3 : tie.Need-returns-3
 unfolding remPio2
-returns-3 c = let h : 0x3fe9_21fb < c .before .before .before .args .b % 0x8000_0000_0000_0000 / 0x1_0000_0000 = omega arith in simp (← c .before .before .before .pre .0 .0, ← c .before .before .before .pre .0 .1, lt-leb _ _ h, le-ltb _ _ (c .before .before .if1 .left), ne-eqb _ _ (c .if2 .left), c .before .rem-medium .ensures, quarters-neg)
+returns-3 c =
+    let h : 0x3fe9_21fb < c .before .before .before .args .b % 0x8000_0000_0000_0000 / 0x1_0000_0000 = omega arith in simp (
+      ← c .before .before .before .pre .0 .0,
+      ← c .before .before .before .pre .0 .1,
+      lt-leb _ _ h,
+      le-ltb _ _ (c .before .before .if1 .left),
+      ne-eqb
+          _ _ (c .if2 .left),
+      c .before .rem-medium .ensures,
+      quarters-neg,
+    )
 
 pub rem-pio2-spec : {M : Type 1} → statement M
 rem-pio2-spec =
-    tie.close (tie.spec rem-near-requires returns rem-medium-requires returns-2 sub-t12 returns-3)
+    tie.close
+    (tie.spec (λ c κs. search needs) returns (λ c κs. search needs) returns-2 (λ c. search needs) returns-3)

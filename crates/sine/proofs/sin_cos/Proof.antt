@@ -7,24 +7,9 @@ use borrow.Author.Needs.{needs}
 use Rattle.sine.proofs.sin_cos.Statement.{statement}
 use Rattle.sine.proofs.sin_cos.Tie as tie
 
-bits-requires : tie.Need-bits-requires
-bits-requires c κs = search needs
-
-kernel-sin-alone-requires : tie.Need-kernel-sin-alone-requires
-kernel-sin-alone-requires c κs = search needs
-
-kernel-cos-requires : tie.Need-kernel-cos-requires
-kernel-cos-requires c κs = search needs
-
 returns : tie.Need-returns
 unfolding sinOf cosOf
 returns c = simp (← c .before .before .before .bits .ensures, le-leb _ _ (c .before .before .if1 .taken), c .before .kernel-sin-alone .ensures, c .kernel-cos .ensures)
-
-abs-requires : tie.Need-abs-requires
-abs-requires c κs = search needs
-
-turn-by-requires : tie.Need-turn-by-requires
-turn-by-requires c κs = search needs
 
 returns-2 : tie.Need-returns-2
 unfolding sinOf cosOf
@@ -38,12 +23,5 @@ returns-3 c = simp (← c .before .before .before .bits .ensures, lt-leb _ _ (c 
 pub sin-cos-spec : {M : Type 1} → statement M
 sin-cos-spec =
     tie.close
-    (tie.spec
-    bits-requires
-    kernel-sin-alone-requires
-    kernel-cos-requires
-    returns
-    abs-requires
-    turn-by-requires
-    returns-2
+    (tie.spec (λ c κs. search needs) (λ c κs. search needs) (λ c κs. search needs) returns (λ c κs. search needs) (λ c κs. search needs) returns-2
     returns-3)

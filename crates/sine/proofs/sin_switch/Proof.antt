@@ -5,29 +5,17 @@ use borrow.Author.Needs.{needs}
 use Rattle.sine.proofs.sin_switch.Statement.{statement}
 use Rattle.sine.proofs.sin_switch.Tie as tie
 
-kernel-sin-requires : tie.Need-kernel-sin-requires
-kernel-sin-requires c κs = search needs
-
 returns : tie.Need-returns
 unfolding sinSwitch
 returns c = simp (eq-eqb _ _ (c .before .if1 .taken), c .kernel-sin .ensures)
-
-kernel-cos-requires : tie.Need-kernel-cos-requires
-kernel-cos-requires c κs = search needs
 
 returns-2 : tie.Need-returns-2
 unfolding sinSwitch
 returns-2 c = simp (ne-eqb _ _ (c .before .before .if1 .left), eq-eqb _ _ (c .before .if2 .taken), c .kernel-cos .ensures)
 
-kernel-sin-requires-2 : tie.Need-kernel-sin-requires-2
-kernel-sin-requires-2 c κs = search needs
-
 returns-3 : tie.Need-returns-3
 unfolding sinSwitch
 returns-3 c = simp (ne-eqb _ _ (c .before .before .before .if1 .left), ne-eqb _ _ (c .before .before .if2 .left), eq-eqb _ _ (c .before .if3 .taken), c .kernel-sin2 .ensures)
-
-kernel-cos-requires-2 : tie.Need-kernel-cos-requires-2
-kernel-cos-requires-2 c κs = search needs
 
 returns-4 : tie.Need-returns-4
 unfolding sinSwitch
@@ -36,12 +24,4 @@ returns-4 c = simp (ne-eqb _ _ (c .before .before .before .if1 .left), ne-eqb _ 
 pub sin-switch-spec : {M : Type 1} → statement M
 sin-switch-spec =
     tie.close
-    (tie.spec
-    kernel-sin-requires
-    returns
-    kernel-cos-requires
-    returns-2
-    kernel-sin-requires-2
-    returns-3
-    kernel-cos-requires-2
-    returns-4)
+    (tie.spec (λ c κs. search needs) returns (λ c κs. search needs) returns-2 (λ c κs. search needs) returns-3 (λ c κs. search needs) returns-4)

@@ -7,24 +7,6 @@ use Rattle.singularities.specs.Count.{chargeAt}
 use Rattle.singularities.proofs.charge_at.Statement.{statement}
 use Rattle.singularities.proofs.charge_at.Tie as tie
 
-mul-corners : tie.Need-mul-corners
-mul-corners c = search needs
-
-corners-requires : tie.Need-corners-requires
-corners-requires c κs = search needs
-
-index-requires : tie.Need-index-requires
-index-requires c κs = search needs
-
-index-requires-2 : tie.Need-index-requires-2
-index-requires-2 c κs = search needs
-
-index-requires-3 : tie.Need-index-requires-3
-index-requires-3 c κs = search needs
-
-charge-of-requires : tie.Need-charge-of-requires
-charge-of-requires c κs = search needs
-
 returns : tie.Need-returns
 unfolding chargeAt
 returns c = toZ-ofZ {w = w64} {z = c .charge-of .result} (record { sfits = c .charge-of .ok }) ∙ simp (c .charge-of .ensures, c .before .index3 .ensures, c .before .before .index2 .ensures, c .before .before .before .index .ensures, c .before .before .before .before .corners .ensures)
@@ -32,11 +14,5 @@ returns c = toZ-ofZ {w = w64} {z = c .charge-of .result} (record { sfits = c .ch
 pub charge-at-spec : {M : Type 1} → statement M
 charge-at-spec =
     tie.close
-    (tie.spec
-    mul-corners
-    corners-requires
-    index-requires
-    index-requires-2
-    index-requires-3
-    charge-of-requires
+    (tie.spec (λ c. search needs) (λ c κs. search needs) (λ c κs. search needs) (λ c κs. search needs) (λ c κs. search needs) (λ c κs. search needs)
     returns)

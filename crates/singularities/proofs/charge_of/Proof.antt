@@ -20,43 +20,18 @@ returns-3 : tie.Need-returns-3
 unfolding chargeOf
 returns-3 c = simp (lt-ltb _ _ (c .before .before .if1 .left), lt-ltb _ _ (c .before .if2 .left), le-ltb _ _ (c .if3 .taken))
 
-mul-triangle-charge : tie.Need-mul-triangle-charge
-mul-triangle-charge c = search needs
-
-shared-slice-read-triangle-charge : tie.Need-shared-slice-read-triangle-charge
-shared-slice-read-triangle-charge c = search needs
-
-mul-triangle-charge-2 : tie.Need-mul-triangle-charge-2
-mul-triangle-charge-2 c = search needs
-
-shared-slice-read-triangle-charge-2 : tie.Need-shared-slice-read-triangle-charge-2
-shared-slice-read-triangle-charge-2 c = search needs
-
-mul-triangle-charge-3 : tie.Need-mul-triangle-charge-3
-mul-triangle-charge-3 c = search needs
-
-shared-slice-read-triangle-charge-3 : tie.Need-shared-slice-read-triangle-charge-3
-shared-slice-read-triangle-charge-3 c = search needs
-
-triangle-charge-requires : tie.Need-triangle-charge-requires
-triangle-charge-requires c κs = search needs
-
 returns-4 : tie.Need-returns-4
 unfolding chargeOf
-returns-4 c = toZ-ofZ {w = w64} {z = c .triangle-charge .result} (record { sfits = c .triangle-charge .ok }) ∙ simp (lt-ltb _ _ (c .before .before .before .before .before .before .if1 .left), lt-ltb _ _ (c .before .before .before .before .before .if2 .left), lt-ltb _ _ (c .before .before .before .before .if3 .left), c .triangle-charge .ensures .0)
+returns-4 c =
+    toZ-ofZ {w = w64} {z = c .triangle-charge .result} (record { sfits = c .triangle-charge .ok }) ∙ simp (
+      lt-ltb _ _ (c .before .before .before .before .before .before .if1 .left),
+      lt-ltb _ _ (c .before .before .before .before .before .if2 .left),
+      lt-ltb _ _ (c .before .before .before .before .if3 .left),
+      c .triangle-charge .ensures .0,
+    )
 
 pub charge-of-spec : {M : Type 1} → statement M
 charge-of-spec =
     tie.close
-    (tie.spec
-    returns
-    returns-2
-    returns-3
-    mul-triangle-charge
-    shared-slice-read-triangle-charge
-    mul-triangle-charge-2
-    shared-slice-read-triangle-charge-2
-    mul-triangle-charge-3
-    shared-slice-read-triangle-charge-3
-    triangle-charge-requires
-    returns-4)
+    (tie.spec returns returns-2 returns-3 (λ c. search needs) (λ c. search needs) (λ c. search needs) (λ c. search needs) (λ c. search needs)
+    (λ c. search needs) (λ c κs. search needs) returns-4)

@@ -9,12 +9,11 @@ returns : tie.Need-returns
 unfolding singularities
 returns c = simp (ne-eqb _ _ (c .if1 .taken))
 
-count-triangles-requires : tie.Need-count-triangles-requires
-count-triangles-requires c κs = search needs
-
 returns-2 : tie.Need-returns-2
 unfolding singularities
 returns-2 c = simp (eq-eqb _ _ (c .before .if1 .left), c .count-triangles .ensures)
 
 pub count-singularities-spec : {M : Type 1} → statement M
-count-singularities-spec = tie.close (tie.spec returns count-triangles-requires returns-2)
+count-singularities-spec =
+    tie.close
+    (tie.spec returns (λ c κs. search needs) returns-2)

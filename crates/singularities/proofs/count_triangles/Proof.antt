@@ -20,34 +20,15 @@ abbrev μ-loop : tie.MeasureT-loop
 loop-holds : tie.Need-loop-holds Inv-loop μ-loop
 loop-holds c = (omega arith, tallied-none _ _)
 
-charge-at-requires : tie.Need-charge-at-requires Inv-loop μ-loop
-charge-at-requires c κs = search needs
-
-add-charge-requires : tie.Need-add-charge-requires Inv-loop μ-loop
-add-charge-requires c κs = search needs
-
-add-t : tie.Need-add-t Inv-loop μ-loop
-add-t c = search needs
-
-loop-less : tie.Need-loop-less Inv-loop μ-loop
-loop-less c = search needs
-
 loop-again : tie.Need-loop-again Inv-loop μ-loop
 loop-again c = (omega arith, tallied-more (c .before .before .before .loop .inv .1) (toZ-ofZ {w = w64} {z = c .before .charge-at .result} (record { sfits = c .before .charge-at .ok }) ∙ c .before .charge-at .ensures) (c .add-charge .ensures))
 
 returns : tie.Need-returns Inv-loop μ-loop
-returns c = c .before .loop .inv .1 .is ∙ ap (countOf (c .before .before .before .before .args .alpha .now) (c .before .before .before .before .args .tris .now)) (le-antisymm (c .before .loop .inv .0) (c .loop-test .left))
+returns c =
+    let start = c .before .before .before .before in
+    c .before .loop .inv .1 .is ∙ ap (countOf (start .args .alpha .now) (start .args .tris .now)) (le-antisymm (c .before .loop .inv .0) (c .loop-test .left))
 
 pub count-triangles-spec : {M : Type 1} → statement M
 count-triangles-spec =
     tie.close
-    (tie.spec
-    Inv-loop
-    μ-loop
-    loop-holds
-    charge-at-requires
-    add-charge-requires
-    add-t
-    loop-less
-    loop-again
-    returns)
+    (tie.spec Inv-loop μ-loop loop-holds (λ c κs. search needs) (λ c κs. search needs) (λ c. search needs) (λ c. search needs) loop-again returns)

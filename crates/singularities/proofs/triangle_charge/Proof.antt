@@ -9,35 +9,46 @@ use borrow.Author.Needs.{needs}
 use Rattle.singularities.proofs.triangle_charge.Statement.{statement}
 use Rattle.singularities.proofs.triangle_charge.Tie as tie
 
-is-finite-requires : tie.Need-is-finite-requires
-is-finite-requires c κs = search needs
-
-is-finite-requires-2 : tie.Need-is-finite-requires-2
-is-finite-requires-2 c κs = search needs
-
-is-finite-requires-3 : tie.Need-is-finite-requires-3
-is-finite-requires-3 c κs = search needs
-
-winding-of-requires : tie.Need-winding-of-requires
-winding-of-requires c κs = search needs
-
-round-requires : tie.Need-round-requires
-round-requires c κs = search needs
-
-whole-signed-requires : tie.Need-whole-signed-requires
-whole-signed-requires c κs = search needs
-
 returns : tie.Need-returns
 unfolding charge turns
-returns c = charged (c .before .before .before .before .before .before .before .before .before .args .a) (c .before .before .before .before .before .before .before .before .before .args .b) (c .before .before .before .before .before .before .before .before .before .args .c) _ (toZ-ofZ {w = w64} {z = c .whole-signed .result} (record { sfits = c .whole-signed .ok }) ∙ simp (← c .before .before .before .before .before .before .before .before .is-finite .ensures, ← c .before .before .before .before .before .before .is-finite2 .ensures, ← c .before .before .before .before .is-finite3 .ensures, c .before .before .before .before .before .before .before .if1 .taken, c .before .before .before .before .before .if2 .taken, c .before .before .before .if3 .taken, ← c .before .before .winding-of .ensures, ← c .before .round .ensures, c .whole-signed .ensures))
+returns c =
+    let back7 = c .before .before .before .before .before .before .before in
+    let back8 = back7 .before in
+    let start = back8 .before in
+    charged (start .args .a) (start .args .b) (start .args .c) _
+    (toZ-ofZ {w = w64} {z = c .whole-signed .result} (record { sfits = c .whole-signed .ok }) ∙ simp (
+      ← back8 .is-finite .ensures,
+      ← c .before .before .before .before .before .before .is-finite2 .ensures,
+      ←
+          c .before .before .before .before .is-finite3 .ensures,
+      back7 .if1 .taken,
+      c .before .before .before .before .before .if2 .taken,
+      c .before .before .before .if3 .taken,
+      ← c .before .before .winding-of .ensures,
+      ← c .before .round .ensures,
+      c .whole-signed .ensures,
+    ))
 
 returns-2 : tie.Need-returns-2
 unfolding charge
-returns-2 c = charged (c .before .before .before .before .before .before .args .a) (c .before .before .before .before .before .before .args .b) (c .before .before .before .before .before .before .args .c) (pos 0) (simp (← c .before .before .before .before .before .is-finite .ensures, ← c .before .before .before .is-finite2 .ensures, ← c .before .is-finite3 .ensures, c .before .before .before .before .if1 .taken, c .before .before .if2 .taken, c .if3 .left))
+returns-2 c =
+    let start = c .before .before .before .before .before .before in
+    charged (start .args .a) (start .args .b) (start .args .c) (pos 0)
+    (simp (
+      ← c .before .before .before .before .before .is-finite .ensures,
+      ← c .before .before .before .is-finite2 .ensures,
+      ←
+          c .before .is-finite3 .ensures,
+      c .before .before .before .before .if1 .taken,
+      c .before .before .if2 .taken,
+      c .if3 .left,
+    ))
 
 returns-3 : tie.Need-returns-3
 unfolding charge
-returns-3 c = charged (c .before .before .before .before .args .a) (c .before .before .before .before .args .b) (c .before .before .before .before .args .c) (pos 0) (simp (← c .before .before .before .is-finite .ensures, ← c .before .is-finite2 .ensures, c .before .before .if1 .taken, c .if2 .left))
+returns-3 c =
+    let start = c .before .before .before .before in
+    charged (start .args .a) (start .args .b) (start .args .c) (pos 0) (simp (← c .before .before .before .is-finite .ensures, ← c .before .is-finite2 .ensures, c .before .before .if1 .taken, c .if2 .left))
 
 returns-4 : tie.Need-returns-4
 unfolding charge
@@ -46,14 +57,5 @@ returns-4 c = charged (c .before .before .args .a) (c .before .before .args .b) 
 pub triangle-charge-spec : {M : Type 1} → statement M
 triangle-charge-spec =
     tie.close
-    (tie.spec
-    is-finite-requires
-    is-finite-requires-2
-    is-finite-requires-3
-    winding-of-requires
-    round-requires
-    whole-signed-requires
-    returns
-    returns-2
-    returns-3
-    returns-4)
+    (tie.spec (λ c κs. search needs) (λ c κs. search needs) (λ c κs. search needs) (λ c κs. search needs) (λ c κs. search needs)
+    (λ c κs. search needs) returns returns-2 returns-3 returns-4)

@@ -4,19 +4,11 @@ use borrow.Author.Needs.{needs}
 use Rattle.singularities.proofs.winding_of.Statement.{statement}
 use Rattle.singularities.proofs.winding_of.Tie as tie
 
-wrap-to-pi-requires : tie.Need-wrap-to-pi-requires
-wrap-to-pi-requires c κs = search needs
-
-wrap-to-pi-requires-2 : tie.Need-wrap-to-pi-requires-2
-wrap-to-pi-requires-2 c κs = search needs
-
-wrap-to-pi-requires-3 : tie.Need-wrap-to-pi-requires-3
-wrap-to-pi-requires-3 c κs = search needs
-
 returns : tie.Need-returns
 unfolding winding
 returns c = simp (c .wrap-to-pi3 .ensures .0, c .before .wrap-to-pi2 .ensures .0, c .before .before .wrap-to-pi .ensures .0)
 
 pub winding-of-spec : {M : Type 1} → statement M
 winding-of-spec =
-    tie.close (tie.spec wrap-to-pi-requires wrap-to-pi-requires-2 wrap-to-pi-requires-3 returns)
+    tie.close
+    (tie.spec (λ c κs. search needs) (λ c κs. search needs) (λ c κs. search needs) returns)

@@ -9,4 +9,6 @@ returns-2 : tie.Need-returns-2
 returns-2 c = rw (c .if1 .left)
 
 pub asked-again-spec : {M : Type 1} → statement M
-asked-again-spec = tie.close (tie.spec returns returns-2)
+asked-again-spec =
+    tie.close
+    (tie.spec returns returns-2)

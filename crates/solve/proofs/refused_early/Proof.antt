@@ -5,12 +5,6 @@ use borrow.Author.Needs.{needs}
 use Rattle.solve.proofs.refused_early.Statement.{statement}
 use Rattle.solve.proofs.refused_early.Tie as tie
 
-enum-known-c : tie.Need-enum-known-c
-enum-known-c c = search needs
-
-enum-told : tie.Need-enum-told
-enum-told c = search needs
-
 returns : tie.Need-returns
 returns c = sym (ap toldEarly (c .enum-told .given .1))
 
@@ -18,4 +12,6 @@ returns-2 : tie.Need-returns-2
 returns-2 c = sym (ap toldEarly (c .before .c .given .1))
 
 pub refused-early-spec : {M : Type 1} → statement M
-refused-early-spec = tie.close (tie.spec enum-known-c enum-told returns returns-2)
+refused-early-spec =
+    tie.close
+    (tie.spec (λ c. search needs) (λ c. search needs) returns returns-2)

@@ -5,12 +5,6 @@ use borrow.Author.Needs.{needs}
 use Rattle.solve.proofs.refused_in.Statement.{statement}
 use Rattle.solve.proofs.refused_in.Tie as tie
 
-enum-known-s : tie.Need-enum-known-s
-enum-known-s c = search needs
-
-enum-told : tie.Need-enum-told
-enum-told c = search needs
-
 returns : tie.Need-returns
 returns c = sym (ap (toldIn (c .before .before .args .pass)) (c .enum-told .given .1))
 
@@ -18,4 +12,6 @@ returns-2 : tie.Need-returns-2
 returns-2 c = sym (ap (toldIn (c .before .before .before .args .pass)) (c .before .s .given .1))
 
 pub refused-in-spec : {M : Type 1} → statement M
-refused-in-spec = tie.close (tie.spec enum-known-s enum-told returns returns-2)
+refused-in-spec =
+    tie.close
+    (tie.spec (λ c. search needs) (λ c. search needs) returns returns-2)

@@ -7,14 +7,12 @@ use Rattle.text_answer.proofs.answer.Tie as tie
 returns : tie.Need-returns
 returns c = answer-short (c .before .before .before .args .text .now) (c .before .before .before .args .out .now) (c .if1 .taken)
 
-answer-text-requires : tie.Need-answer-text-requires
-answer-text-requires c κs = search needs
-
-same-length : tie.Need-same-length
-same-length c = search needs
-
 returns-2 : tie.Need-returns-2
-returns-2 c = answer-long (c .before .before .before .before .before .before .before .args .text .now) (c .before .before .before .before .before .before .before .args .out .now) (c .before .before .before .before .if1 .left) (c .before .before .answer-text .ensures)
+returns-2 c =
+    let start = c .before .before .before .before .before .before .before in
+    answer-long (start .args .text .now) (start .args .out .now) (c .before .before .before .before .if1 .left) (c .before .before .answer-text .ensures)
 
 pub answer-spec : {M : Type 1} → statement M
-answer-spec = tie.close (tie.spec returns answer-text-requires same-length returns-2)
+answer-spec =
+    tie.close
+    (tie.spec returns (λ c κs. search needs) (λ c. search needs) returns-2)

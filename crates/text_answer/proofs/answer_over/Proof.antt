@@ -13,67 +13,53 @@ use Rattle.text_answer.proofs.Whole.{floor-read, other-read, text-print
 use Rattle.text_answer.proofs.answer_over.Statement.{statement}
 use Rattle.text_answer.proofs.answer_over.Tie as tie
 
-read-floor-requires : tie.Need-read-floor-requires
-read-floor-requires c κs = search needs
-
-enum-known-read : tie.Need-enum-known-read
-enum-known-read c = search needs
-
-enum-told : tie.Need-enum-told
-enum-told c = search needs
-
-put-refused-requires : tie.Need-put-refused-requires
-put-refused-requires c κs = search needs
-
-same-length : tie.Need-same-length
-same-length c = search needs
-
-same-length-2 : tie.Need-same-length-2
-same-length-2 c = search needs
-
-same-length-3 : tie.Need-same-length-3
-same-length-3 c = search needs
-
-same-length-4 : tie.Need-same-length-4
-same-length-4 c = search needs
-
 returns : tie.Need-returns
-returns c = let e = other-read (c .before .before .before .before .before .before .before .before .before .before .before .before .before .before .before .before .before .before .before .before .before .before .args .text .now) (c .before .before .before .before .before .before .before .before .before .before .before .before .read-floor .ensures .answer) (c .before .before .before .before .enum-told .given .1) in (c .before .before .put-refused .ensures .0 ∙ ap (λ (b : List ℕ). sets (c .before .before .before .before .before .before .before .before .before .before .before .before .before .before .before .before .before .before .before .before .before .before .args .out .now) 0 b) (sym e), c .before .before .put-refused .ensures .1 ∙ sym (ap length e))
+returns c =
+    let back12 = c .before .before .before .before .before .before .before .before .before .before .before .before in
+    let start = back12 .before .before .before .before .before .before .before .before .before .before in
+    let e = other-read (start .args .text .now) (back12 .read-floor .ensures .answer) (c .before .before .before .before .enum-told .given .1) in (
+      c .before .before .put-refused .ensures .0 ∙ ap (λ (b : List ℕ). sets (start .args .out .now) 0 b) (sym e),
+      c .before .before .put-refused .ensures .1 ∙ sym (ap length e),
+    )
 
 answer-front-requires : tie.Need-answer-front-requires
-answer-front-requires c κs = let f = floor-read (c .before .before .before .before .before .before .before .before .before .before .before .before .before .before .before .before .before .before .before .before .before .before .before .args .text .now) (c .before .before .before .before .before .before .before .before .before .before .before .before .before .read-floor .ensures .answer) (c .before .before .before .before .before .read .given .1) in let k = known _ (f .text) in (((omega (arith, f .points, k .few-points), omega (arith, f .triangles, k .few-triangles)), c .before .before .before .before .before .before .before .before .before .before .before .before .before .before .before .before .before .before .before .before .before .before .before .pre .1 .1), (c .before .before .before .before .before .before .before .before .before .before .before .before .points .given ∙ c .before .before .before .before .before .before .before .before .before .before .before .before .before .before .before .before .before .before .before .before .before .before .before .pre .0 .0, (c .before .before .before .before .before .before .before .before .corners .given ∙ c .before .before .before .before .before .before .before .before .before .before .before .before .before .before .before .before .before .before .before .before .before .before .before .pre .0 .1 .1, (ap length (c .before .before .before .before .before .before .before .before .before .before .before .before .before .before .before .before .before .before .before .before .before .before .before .pre .1 .0) ∙ length-replicate {A = Float} 256 (lit 0x3ff0_0000_0000_0000), c .before .before .before .before .before .before .before .before .before .before .angles .given ∙ c .before .before .before .before .before .before .before .before .before .before .before .before .before .before .before .before .before .before .before .before .before .before .before .pre .0 .1 .0))))
-
-same-length-5 : tie.Need-same-length-5
-same-length-5 c = search needs
-
-same-length-6 : tie.Need-same-length-6
-same-length-6 c = search needs
-
-same-length-7 : tie.Need-same-length-7
-same-length-7 c = search needs
-
-same-length-8 : tie.Need-same-length-8
-same-length-8 c = search needs
+answer-front-requires c κs =
+    let back8 = c .before .before .before .before .before .before .before .before in
+    let back10 = back8 .before .before in
+    let back12 = back10 .before .before in
+    let back13 = back12 .before in
+    let start = back13 .before .before .before .before .before .before .before .before .before .before in
+    let f = floor-read (start .args .text .now) (back13 .read-floor .ensures .answer) (c .before .before .before .before .before .read .given .1)
+    in let k = known _ (f .text) in (
+      ((omega (arith, f .points, k .few-points), omega (arith, f .triangles, k .few-triangles)), start .pre .1 .1),
+      (
+        back12 .points .given ∙ start .pre .0 .0,
+        (
+          back8 .corners .given ∙ start .pre .0 .1 .1,
+          (
+            ap length (start .pre .1 .0) ∙ length-replicate {A = Float} 256 (lit 0x3ff0_0000_0000_0000),
+            back10 .angles .given ∙
+                start .pre .0 .1 .0,
+          ),
+        ),
+      ),
+    )
 
 returns-2 : tie.Need-returns-2
-returns-2 c = let e = text-prints (c .before .before .before .before .before .before .before .before .before .before .before .before .before .before .before .before .before .before .before .before .before .before .before .before .before .before .args .text .now) (c .before .before .before .before .before .before .before .before .before .before .before .before .before .before .before .before .read-floor .ensures) (floor-read (c .before .before .before .before .before .before .before .before .before .before .before .before .before .before .before .before .before .before .before .before .before .before .before .before .before .before .args .text .now) (c .before .before .before .before .before .before .before .before .before .before .before .before .before .before .before .before .read-floor .ensures .answer) (c .before .before .before .before .before .before .before .before .read .given .1)) (c .before .before .before .before .before .before .before .before .before .before .before .before .before .before .before .before .before .before .before .before .before .before .before .before .before .before .pre .0 .0) (c .before .before .before .before .before .before .before .before .before .before .before .before .before .before .before .before .before .before .before .before .before .before .before .before .before .before .pre .0 .1 .0) (c .before .before .before .before .before .before .before .before .before .before .before .before .before .before .before .before .before .before .before .before .before .before .before .before .before .before .pre .0 .1 .1) (c .before .before .before .before .before .before .before .before .before .before .before .before .before .before .before .before .before .before .before .before .before .before .before .before .before .before .pre .1 .0) in (c .before .before .answer-front .ensures .0 ∙ ap (λ (b : List ℕ). sets (c .before .before .before .before .before .before .before .before .before .before .before .before .before .before .before .before .before .before .before .before .before .before .before .before .before .before .args .out .now) 0 b) e, c .before .before .answer-front .ensures .1 ∙ ap length e)
+returns-2 c =
+    let back8 = c .before .before .before .before .before .before .before .before in
+    let back16 = back8 .before .before .before .before .before .before .before .before in
+    let start = back16 .before .before .before .before .before .before .before .before .before .before in
+    let e = text-prints (start .args .text .now) (back16 .read-floor .ensures)
+    (floor-read (start .args .text .now) (back16 .read-floor .ensures .answer) (back8 .read .given .1)) (start .pre .0 .0) (start .pre .0 .1 .0)
+    (start .pre .0 .1 .1) (start .pre .1 .0) in (
+      c .before .before .answer-front .ensures .0 ∙ ap (λ (b : List ℕ). sets (start .args .out .now) 0 b) e,
+      c .before .before .answer-front .ensures .1 ∙ ap length e,
+    )
 
 pub answer-over-spec : {M : Type 1} → statement M
 answer-over-spec =
     tie.close
-    (tie.spec
-    read-floor-requires
-    enum-known-read
-    enum-told
-    put-refused-requires
-    same-length
-    same-length-2
-    same-length-3
-    same-length-4
-    returns
-    answer-front-requires
-    same-length-5
-    same-length-6
-    same-length-7
-    same-length-8
-    returns-2)
+    (tie.spec (λ c κs. search needs) (λ c. search needs) (λ c. search needs) (λ c κs. search needs) (λ c. search needs) (λ c. search needs)
+    (λ c. search needs) (λ c. search needs) returns answer-front-requires (λ c. search needs) (λ c. search needs) (λ c. search needs)
+    (λ c. search needs) returns-2)

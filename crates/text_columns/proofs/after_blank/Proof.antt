@@ -20,9 +20,6 @@ returns-3 : tie.Need-returns-3
 unfolding afterBlank
 returns-3 c = simp (ne-eqb _ _ (c .before .before .if1 .left), ne-eqb _ _ (c .before .if2 .left), eq-eqb _ _ (c .if3 .taken))
 
-is-lead-requires : tie.Need-is-lead-requires
-is-lead-requires c κs = search needs
-
 sub-t5 : tie.Need-sub-t5
 sub-t5 c = omega (arith, lead-range _ (sym (c .before .is-lead .ensures) ∙ c .if4 .taken) .0)
 
@@ -36,4 +33,5 @@ returns-5 c = simp (ne-eqb _ _ (c .before .before .before .before .if1 .left), n
 
 pub after-blank-spec : {M : Type 1} → statement M
 after-blank-spec =
-    tie.close (tie.spec returns returns-2 returns-3 is-lead-requires sub-t5 returns-4 returns-5)
+    tie.close
+    (tie.spec returns returns-2 returns-3 (λ c κs. search needs) sub-t5 returns-4 returns-5)

@@ -7,9 +7,6 @@ use Rattle.text_columns.proofs.Columns.{lead-range}
 use Rattle.text_columns.proofs.after_minus.Statement.{statement}
 use Rattle.text_columns.proofs.after_minus.Tie as tie
 
-is-lead-requires : tie.Need-is-lead-requires
-is-lead-requires c κs = search needs
-
 sub-t4 : tie.Need-sub-t4
 sub-t4 c = omega (arith, lead-range _ (sym (c .before .is-lead .ensures) ∙ c .if1 .taken) .0)
 
@@ -22,4 +19,6 @@ unfolding afterMinus
 returns-2 c = simp (← c .before .is-lead .ensures, c .if1 .left)
 
 pub after-minus-spec : {M : Type 1} → statement M
-after-minus-spec = tie.close (tie.spec is-lead-requires sub-t4 returns returns-2)
+after-minus-spec =
+    tie.close
+    (tie.spec (λ c κs. search needs) sub-t4 returns returns-2)

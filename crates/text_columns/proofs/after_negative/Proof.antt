@@ -7,12 +7,6 @@ use Rattle.text_columns.proofs.Columns.{digit-range}
 use Rattle.text_columns.proofs.after_negative.Statement.{statement}
 use Rattle.text_columns.proofs.after_negative.Tie as tie
 
-is-digit-requires : tie.Need-is-digit-requires
-is-digit-requires c κs = search needs
-
-mul-t4 : tie.Need-mul-t4
-mul-t4 c = search needs
-
 sub-t6 : tie.Need-sub-t6
 sub-t6 c = omega (arith, digit-range _ (sym (c .before .is-digit .ensures) ∙ c .if1 .taken) .0)
 
@@ -28,4 +22,6 @@ unfolding step
 returns-2 c = simp (← c .before .is-digit .ensures, c .if1 .left)
 
 pub after-negative-spec : {M : Type 1} → statement M
-after-negative-spec = tie.close (tie.spec is-digit-requires mul-t4 sub-t6 add-t7 returns returns-2)
+after-negative-spec =
+    tie.close
+    (tie.spec (λ c κs. search needs) (λ c. search needs) sub-t6 add-t7 returns returns-2)

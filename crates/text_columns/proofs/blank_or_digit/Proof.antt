@@ -9,15 +9,11 @@ returns : tie.Need-returns
 unfolding blankOrDigit
 returns c = simp (eq-eqb _ _ (c .if1 .taken))
 
-add-result : tie.Need-add-result
-add-result c = search needs
-
-cast-result : tie.Need-cast-result
-cast-result c = search needs
-
 returns-2 : tie.Need-returns-2
 unfolding blankOrDigit
 returns-2 c = simp (ne-eqb _ _ (c .if1 .left))
 
 pub blank-or-digit-spec : {M : Type 1} → statement M
-blank-or-digit-spec = tie.close (tie.spec returns add-result cast-result returns-2)
+blank-or-digit-spec =
+    tie.close
+    (tie.spec returns (λ c. search needs) (λ c. search needs) returns-2)

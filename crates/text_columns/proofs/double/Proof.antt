@@ -6,30 +6,6 @@ use Rattle.text_columns.specs.Columns.{doubleOf}
 use Rattle.text_columns.proofs.double.Statement.{statement}
 use Rattle.text_columns.proofs.double.Tie as tie
 
-enum-known-s : tie.Need-enum-known-s
-enum-known-s c = search needs
-
-from-whole-requires : tie.Need-from-whole-requires
-from-whole-requires c κs = search needs
-
-enum-known-s-2 : tie.Need-enum-known-s-2
-enum-known-s-2 c = search needs
-
-from-whole-requires-2 : tie.Need-from-whole-requires-2
-from-whole-requires-2 c κs = search needs
-
-enum-told : tie.Need-enum-told
-enum-told c = search needs
-
-enum-told-2 : tie.Need-enum-told-2
-enum-told-2 c = search needs
-
-enum-told-3 : tie.Need-enum-told-3
-enum-told-3 c = search needs
-
-enum-told-4 : tie.Need-enum-told-4
-enum-told-4 c = search needs
-
 returns : tie.Need-returns
 returns c = c .from-whole .ensures ∙ sym (ap doubleOf (c .before .before .s .given .1))
 
@@ -51,18 +27,5 @@ returns-6 c = sym (ap doubleOf (c .enum-told4 .given .1))
 pub double-spec : {M : Type 1} → statement M
 double-spec =
     tie.close
-    (tie.spec
-    enum-known-s
-    from-whole-requires
-    enum-known-s-2
-    from-whole-requires-2
-    enum-told
-    enum-told-2
-    enum-told-3
-    enum-told-4
-    returns
-    returns-2
-    returns-3
-    returns-4
-    returns-5
-    returns-6)
+    (tie.spec (λ c. search needs) (λ c κs. search needs) (λ c. search needs) (λ c κs. search needs) (λ c. search needs) (λ c. search needs)
+    (λ c. search needs) (λ c. search needs) returns returns-2 returns-3 returns-4 returns-5 returns-6)

@@ -13,4 +13,6 @@ unfolding isDigit
 returns-2 c = simp (le-ltb _ _ (c .if1 .left))
 
 pub is-digit-spec : {M : Type 1} → statement M
-is-digit-spec = tie.close (tie.spec returns returns-2)
+is-digit-spec =
+    tie.close
+    (tie.spec returns returns-2)

@@ -13,4 +13,6 @@ unfolding isLead
 returns-2 c = simp (le-ltb _ _ (c .if1 .left))
 
 pub is-lead-spec : {M : Type 1} → statement M
-is-lead-spec = tie.close (tie.spec returns returns-2)
+is-lead-spec =
+    tie.close
+    (tie.spec returns returns-2)

@@ -19,17 +19,8 @@ abbrev μ-loop : tie.MeasureT-loop
 loop-holds : tie.Need-loop-holds Inv-loop μ-loop
 loop-holds c = (omega arith, scan-none (c .before .args .column .now))
 
-shared-slice-read-step-on : tie.Need-shared-slice-read-step-on Inv-loop μ-loop
-shared-slice-read-step-on c = search needs
-
 step-on-requires : tie.Need-step-on-requires Inv-loop μ-loop
 step-on-requires c κs = subst (λ (s : Scan). sizeOf s < 1000000) (sym (c .before .before .loop .inv .1)) (few (c .before .before .before .before .args .column .now) (c .before .before .loop .i) (omega arith))
-
-add-i : tie.Need-add-i Inv-loop μ-loop
-add-i c = search needs
-
-loop-less : tie.Need-loop-less Inv-loop μ-loop
-loop-less c = search needs
 
 loop-again : tie.Need-loop-again Inv-loop μ-loop
 loop-again c = (omega arith, scan-again (c .before .before .before .before .before .args .column .now) (c .before .before .before .loop .i) (c .before .before .before .loop .inv .1) (c .step-on .ensures))
@@ -40,13 +31,4 @@ returns c = let e : c .before .loop .i ≡ length (c .before .before .before .ar
 pub scan-column-spec : {M : Type 1} → statement M
 scan-column-spec =
     tie.close
-    (tie.spec
-    Inv-loop
-    μ-loop
-    loop-holds
-    shared-slice-read-step-on
-    step-on-requires
-    add-i
-    loop-less
-    loop-again
-    returns)
+    (tie.spec Inv-loop μ-loop loop-holds (λ c. search needs) step-on-requires (λ c. search needs) (λ c. search needs) loop-again returns)

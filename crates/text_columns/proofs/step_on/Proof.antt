@@ -8,35 +8,11 @@ use Rattle.text_columns.specs.declared.Scan.{Scan}
 use Rattle.text_columns.proofs.step_on.Statement.{statement}
 use Rattle.text_columns.proofs.step_on.Tie as tie
 
-enum-told : tie.Need-enum-told
-enum-told c = search needs
-
-after-blank-requires : tie.Need-after-blank-requires
-after-blank-requires c κs = search needs
-
-enum-told-2 : tie.Need-enum-told-2
-enum-told-2 c = search needs
-
-after-minus-requires : tie.Need-after-minus-requires
-after-minus-requires c κs = search needs
-
-enum-known-s : tie.Need-enum-known-s
-enum-known-s c = search needs
-
 after-whole-requires : tie.Need-after-whole-requires
 after-whole-requires c κs = subst (λ (s : Scan). sizeOf s < 1000000) (c .before .s .given .1) (c .before .before .before .pre)
 
-enum-known-s-2 : tie.Need-enum-known-s-2
-enum-known-s-2 c = search needs
-
 after-negative-requires : tie.Need-after-negative-requires
 after-negative-requires c κs = subst (λ (s : Scan). sizeOf s < 1000000) (c .before .s2 .given .1) (c .before .before .before .pre)
-
-enum-told-3 : tie.Need-enum-told-3
-enum-told-3 c = search needs
-
-enum-told-4 : tie.Need-enum-told-4
-enum-told-4 c = search needs
 
 returns : tie.Need-returns
 unfolding step
@@ -63,20 +39,5 @@ returns-6 c = rw (c .enum-told4 .given .1) refl
 pub step-on-spec : {M : Type 1} → statement M
 step-on-spec =
     tie.close
-    (tie.spec
-    enum-told
-    after-blank-requires
-    enum-told-2
-    after-minus-requires
-    enum-known-s
-    after-whole-requires
-    enum-known-s-2
-    after-negative-requires
-    enum-told-3
-    enum-told-4
-    returns
-    returns-2
-    returns-3
-    returns-4
-    returns-5
-    returns-6)
+    (tie.spec (λ c. search needs) (λ c κs. search needs) (λ c. search needs) (λ c κs. search needs) (λ c. search needs) after-whole-requires
+    (λ c. search needs) after-negative-requires (λ c. search needs) (λ c. search needs) returns returns-2 returns-3 returns-4 returns-5 returns-6)

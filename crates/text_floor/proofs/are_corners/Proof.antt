@@ -18,20 +18,10 @@ abbrev μ-loop : tie.MeasureT-loop
 loop-holds : tie.Need-loop-holds Inv-loop μ-loop
 loop-holds c = (omega arith, every-none _ _)
 
-add-is-corners : tie.Need-add-is-corners Inv-loop μ-loop
-add-is-corners c = search needs
-
-is-corners-requires : tie.Need-is-corners-requires Inv-loop μ-loop
-is-corners-requires c κs = search needs
-
 returns : tie.Need-returns Inv-loop μ-loop
-returns c = sym (every-stops _ (c .before .before .before .before .before .args .from) (c .before .before .before .loop .i) (c .before .before .before .before .before .args .k) (c .before .before .loop-test .taken) (sym (c .before .is-corners .ensures) ∙ not-true _ (c .if1 .taken)))
-
-add-i : tie.Need-add-i Inv-loop μ-loop
-add-i c = search needs
-
-loop-less : tie.Need-loop-less Inv-loop μ-loop
-loop-less c = search needs
+returns c =
+    let start = c .before .before .before .before .before in
+    sym (every-stops _ (start .args .from) (c .before .before .before .loop .i) (start .args .k) (c .before .before .loop-test .taken) (sym (c .before .is-corners .ensures) ∙ not-true _ (c .if1 .taken)))
 
 loop-again : tie.Need-loop-again Inv-loop μ-loop
 loop-again c = (omega arith, every-again _ (c .before .before .before .before .before .args .from) (c .before .before .before .loop .i) (c .before .before .before .loop .inv .1) (sym (c .before .is-corners .ensures) ∙ not-false _ (c .if1 .left)))
@@ -42,14 +32,5 @@ returns-2 c = let e : c .before .loop .i ≡ c .before .before .before .args .k 
 pub are-corners-spec : {M : Type 1} → statement M
 are-corners-spec =
     tie.close
-    (tie.spec
-    Inv-loop
-    μ-loop
-    loop-holds
-    add-is-corners
-    is-corners-requires
-    returns
-    add-i
-    loop-less
-    loop-again
+    (tie.spec Inv-loop μ-loop loop-holds (λ c. search needs) (λ c κs. search needs) returns (λ c. search needs) (λ c. search needs) loop-again
     returns-2)

@@ -18,20 +18,10 @@ abbrev μ-loop : tie.MeasureT-loop
 loop-holds : tie.Need-loop-holds Inv-loop μ-loop
 loop-holds c = (omega arith, every-none _ _)
 
-add-is-line : tie.Need-add-is-line Inv-loop μ-loop
-add-is-line c = search needs
-
-is-line-requires : tie.Need-is-line-requires Inv-loop μ-loop
-is-line-requires c κs = search needs
-
 returns : tie.Need-returns Inv-loop μ-loop
-returns c = sym (every-stops _ (c .before .before .before .before .before .args .from) (c .before .before .before .loop .i) (c .before .before .before .before .before .args .k) (c .before .before .loop-test .taken) (sym (c .before .is-line .ensures) ∙ not-true _ (c .if1 .taken)))
-
-add-i : tie.Need-add-i Inv-loop μ-loop
-add-i c = search needs
-
-loop-less : tie.Need-loop-less Inv-loop μ-loop
-loop-less c = search needs
+returns c =
+    let start = c .before .before .before .before .before in
+    sym (every-stops _ (start .args .from) (c .before .before .before .loop .i) (start .args .k) (c .before .before .loop-test .taken) (sym (c .before .is-line .ensures) ∙ not-true _ (c .if1 .taken)))
 
 loop-again : tie.Need-loop-again Inv-loop μ-loop
 loop-again c = (omega arith, every-again _ (c .before .before .before .before .before .args .from) (c .before .before .before .loop .i) (c .before .before .before .loop .inv .1) (sym (c .before .is-line .ensures) ∙ not-false _ (c .if1 .left)))
@@ -42,14 +32,5 @@ returns-2 c = let e : c .before .loop .i ≡ c .before .before .before .args .k 
 pub are-lines-spec : {M : Type 1} → statement M
 are-lines-spec =
     tie.close
-    (tie.spec
-    Inv-loop
-    μ-loop
-    loop-holds
-    add-is-line
-    is-line-requires
-    returns
-    add-i
-    loop-less
-    loop-again
+    (tie.spec Inv-loop μ-loop loop-holds (λ c. search needs) (λ c κs. search needs) returns (λ c. search needs) (λ c. search needs) loop-again
     returns-2)

@@ -7,12 +7,6 @@ use Rattle.text_floor.proofs.Lines.{small-column}
 use Rattle.text_floor.proofs.corner_at.Statement.{statement}
 use Rattle.text_floor.proofs.corner_at.Tie as tie
 
-column-at-requires : tie.Need-column-at-requires
-column-at-requires c κs = search needs
-
-size-requires : tie.Need-size-requires
-size-requires c κs = search needs
-
 cast-result : tie.Need-cast-result
 cast-result c = omega (arith, c .size .ensures ∙ ap sizeOf (c .before .column-at .ensures), small-column (c .before .before .before .args .text .now) (c .before .before .before .args .a))
 
@@ -20,4 +14,6 @@ returns : tie.Need-returns
 returns c = c .size .ensures ∙ ap sizeOf (c .before .column-at .ensures)
 
 pub corner-at-spec : {M : Type 1} → statement M
-corner-at-spec = tie.close (tie.spec column-at-requires size-requires cast-result returns)
+corner-at-spec =
+    tie.close
+    (tie.spec (λ c κs. search needs) (λ c κs. search needs) cast-result returns)

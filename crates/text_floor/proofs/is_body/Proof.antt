@@ -6,46 +6,24 @@ use Rattle.text_floor.proofs.Lines.{not-true, not-false}
 use Rattle.text_floor.proofs.is_body.Statement.{statement}
 use Rattle.text_floor.proofs.is_body.Tie as tie
 
-add-if1 : tie.Need-add-if1
-add-if1 c = search needs
-
-add-if1-2 : tie.Need-add-if1-2
-add-if1-2 c = search needs
-
-mul-if1 : tie.Need-mul-if1
-mul-if1 c = search needs
-
 returns : tie.Need-returns
 unfolding isText
 returns c = simp (c .before .before .pre .1 .1 .1, ← c .before .before .pre .1 .0, ← c .before .before .pre .1 .1 .0, ne-eqb _ _ (c .if1 .taken))
 
-are-lines-requires : tie.Need-are-lines-requires
-are-lines-requires c κs = search needs
-
 returns-2 : tie.Need-returns-2
 unfolding isText
-returns-2 c = simp (c .before .before .before .before .pre .1 .1 .1, ← c .before .before .before .before .pre .1 .0, ← c .before .before .before .before .pre .1 .1 .0, eq-eqb _ _ (c .before .before .if1 .left), ← c .before .are-lines .ensures, not-true (c .before .are-lines .result) (c .if2 .taken))
-
-add-are-corners : tie.Need-add-are-corners
-add-are-corners c = search needs
-
-are-corners-requires : tie.Need-are-corners-requires
-are-corners-requires c κs = search needs
+returns-2 c =
+    let start = c .before .before .before .before in
+    simp (start .pre .1 .1 .1, ← start .pre .1 .0, ← start .pre .1 .1 .0, eq-eqb _ _ (c .before .before .if1 .left), ← c .before .are-lines .ensures, not-true (c .before .are-lines .result) (c .if2 .taken))
 
 returns-3 : tie.Need-returns-3
 unfolding isText
-returns-3 c = simp (c .before .before .before .before .before .pre .1 .1 .1, ← c .before .before .before .before .before .pre .1 .0, ← c .before .before .before .before .before .pre .1 .1 .0, eq-eqb _ _ (c .before .before .before .if1 .left), ← c .before .before .are-lines .ensures, not-false (c .before .before .are-lines .result) (c .before .if2 .left)) (c .are-corners .ensures)
+returns-3 c =
+    let start = c .before .before .before .before .before in
+    simp (start .pre .1 .1 .1, ← start .pre .1 .0, ← start .pre .1 .1 .0, eq-eqb _ _ (c .before .before .before .if1 .left), ← c .before .before .are-lines .ensures, not-false (c .before .before .are-lines .result) (c .before .if2 .left)) (c .are-corners .ensures)
 
 pub is-body-spec : {M : Type 1} → statement M
 is-body-spec =
     tie.close
-    (tie.spec
-    add-if1
-    add-if1-2
-    mul-if1
-    returns
-    are-lines-requires
-    returns-2
-    add-are-corners
-    are-corners-requires
-    returns-3)
+    (tie.spec (λ c. search needs) (λ c. search needs) (λ c. search needs) returns (λ c κs. search needs) returns-2 (λ c. search needs)
+    (λ c κs. search needs) returns-3)

@@ -9,20 +9,15 @@ use Rattle.text_floor.proofs.is_text.Tie as tie
 returns : tie.Need-returns
 returns c = short-text _ (c .if1 .taken)
 
-is-head-requires : tie.Need-is-head-requires
-is-head-requires c κs = search needs
-
 returns-2 : tie.Need-returns-2
 returns-2 c = no-head _ (sym (c .before .is-head .ensures) ∙ not-true _ (c .if2 .taken))
 
-size-at-requires : tie.Need-size-at-requires
-size-at-requires c κs = search needs
-
-size-at-requires-2 : tie.Need-size-at-requires-2
-size-at-requires-2 c κs = search needs
-
 is-body-requires : tie.Need-is-body-requires
-is-body-requires c κs = let h = sym (c .before .before .before .is-head .ensures) ∙ not-false _ (c .before .before .if2 .left) in let k = head-small _ h in ((omega (arith, k .0, c .before .size-at .ensures), omega (arith, k .1, c .size-at2 .ensures)), (c .before .size-at .ensures, (c .size-at2 .ensures, h)))
+is-body-requires c κs =
+    let h = sym (c .before .before .before .is-head .ensures) ∙ not-false _ (c .before .before .if2 .left) in let k = head-small _ h in (
+      (omega (arith, k .0, c .before .size-at .ensures), omega (arith, k .1, c .size-at2 .ensures)),
+      (c .before .size-at .ensures, (c .size-at2 .ensures, h)),
+    )
 
 returns-3 : tie.Need-returns-3
 returns-3 c = c .is-body .ensures
@@ -30,11 +25,4 @@ returns-3 c = c .is-body .ensures
 pub is-text-spec : {M : Type 1} → statement M
 is-text-spec =
     tie.close
-    (tie.spec
-    returns
-    is-head-requires
-    returns-2
-    size-at-requires
-    size-at-requires-2
-    is-body-requires
-    returns-3)
+    (tie.spec returns (λ c κs. search needs) returns-2 (λ c κs. search needs) (λ c κs. search needs) is-body-requires returns-3)

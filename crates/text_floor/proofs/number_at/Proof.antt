@@ -5,14 +5,10 @@ use Rattle.text_columns.specs.Columns.{isNumber}
 use Rattle.text_floor.proofs.number_at.Statement.{statement}
 use Rattle.text_floor.proofs.number_at.Tie as tie
 
-column-at-requires : tie.Need-column-at-requires
-column-at-requires c κs = search needs
-
-is-number-requires : tie.Need-is-number-requires
-is-number-requires c κs = search needs
-
 returns : tie.Need-returns
 returns c = c .is-number .ensures ∙ ap isNumber (c .before .column-at .ensures)
 
 pub number-at-spec : {M : Type 1} → statement M
-number-at-spec = tie.close (tie.spec column-at-requires is-number-requires returns)
+number-at-spec =
+    tie.close
+    (tie.spec (λ c κs. search needs) (λ c κs. search needs) returns)

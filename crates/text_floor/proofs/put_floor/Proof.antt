@@ -12,40 +12,38 @@ size-at-requires-2 : tie.Need-size-at-requires-2
 size-at-requires-2 c κs = let k = known _ (c .before .before .before .before .before .pre .0) in omega (arith, k .long)
 
 put-points-requires : tie.Need-put-points-requires
-put-points-requires c κs = let k = known _ (c .before .before .before .before .before .before .before .pre .0) in omega (arith, k .long, k .few-points, k .few-triangles, c .before .before .size-at .ensures, c .before .size-at2 .ensures, c .before .before .before .before .before .before .before .pre .1)
+put-points-requires c κs =
+    let start = c .before .before .before .before .before .before .before in
+    let k = known _ (start .pre .0) in omega (arith, k .long, k .few-points, k .few-triangles, c .before .before .size-at .ensures, c .before .size-at2 .ensures, start .pre .1)
 
 put-angles-requires : tie.Need-put-angles-requires
-put-angles-requires c κs = let k = known _ (c .before .before .before .before .before .before .before .before .before .before .before .pre .0) in omega (arith, k .long, k .few-points, k .few-triangles, c .before .before .before .before .before .before .size-at .ensures, c .before .before .before .before .before .size-at2 .ensures, c .before .before .before .before .before .before .before .before .before .before .before .pre .1)
+put-angles-requires c κs =
+    let start = c .before .before .before .before .before .before .before .before .before .before .before in
+    let k = known _ (start .pre .0) in omega (arith, k .long, k .few-points, k .few-triangles, c .before .before .before .before .before .before .size-at .ensures, c .before .before .before .before .before .size-at2 .ensures, start .pre .1)
 
 put-triangles-requires : tie.Need-put-triangles-requires
-put-triangles-requires c κs = let k = known _ (c .before .before .before .before .before .before .before .before .before .before .before .before .before .before .before .pre .0) in omega (arith, k .long, k .few-points, k .few-triangles, c .before .before .before .before .before .before .before .before .before .before .size-at .ensures, c .before .before .before .before .before .before .before .before .before .size-at2 .ensures, c .before .before .before .before .before .before .before .before .before .before .before .before .before .before .before .pre .1)
+put-triangles-requires c κs =
+    let back9 = c .before .before .before .before .before .before .before .before .before in
+    let back10 = back9 .before in
+    let start = back10 .before .before .before .before .before in
+    let k = known _ (start .pre .0) in omega (arith, k .long, k .few-points, k .few-triangles, back10 .size-at .ensures, back9 .size-at2 .ensures, start .pre .1)
 
 radians-at-requires : tie.Need-radians-at-requires
-radians-at-requires c κs = let k = known _ (c .before .before .before .before .before .before .before .before .before .before .before .before .before .before .before .before .before .before .pre .0) in omega (arith, k .long)
-
-same-length : tie.Need-same-length
-same-length c = search needs
-
-same-length-2 : tie.Need-same-length-2
-same-length-2 c = search needs
-
-same-length-3 : tie.Need-same-length-3
-same-length-3 c = search needs
+radians-at-requires c κs =
+    let start = c .before .before .before .before .before .before .before .before .before .before .before .before .before .before .before .before .before .before in
+    let k = known _ (start .pre .0) in omega (arith, k .long)
 
 returns : tie.Need-returns
-returns c = read-done (c .before .before .before .before .before .before .before .before .before .before .before .before .before .before .before .before .before .before .before .args .text .now) (c .before .before .before .before .before .before .before .before .before .before .before .before .before .before .before .before .before .before .before .pre .0) (c .before .before .before .before .before .before .before .before .before .before .before .before .before .before .size-at .ensures) (c .before .before .before .before .before .before .before .before .before .before .before .before .before .size-at2 .ensures) (c .radians-at .ensures) (c .before .before .before .before .before .before .before .before .before .before .before .put-points .ensures) (c .before .before .before .before .before .before .before .put-angles .ensures) (c .before .before .before .put-triangles .ensures)
+returns c =
+    let back7 = c .before .before .before .before .before .before .before in
+    let back11 = back7 .before .before .before .before in
+    let back13 = back11 .before .before in
+    let back14 = back13 .before in
+    let start = back14 .before .before .before .before .before in
+    read-done (start .args .text .now) (start .pre .0) (back14 .size-at .ensures) (back13 .size-at2 .ensures) (c .radians-at .ensures) (back11 .put-points .ensures) (back7 .put-angles .ensures) (c .before .before .before .put-triangles .ensures)
 
 pub put-floor-spec : {M : Type 1} → statement M
 put-floor-spec =
     tie.close
-    (tie.spec
-    size-at-requires
-    size-at-requires-2
-    put-points-requires
-    put-angles-requires
-    put-triangles-requires
-    radians-at-requires
-    same-length
-    same-length-2
-    same-length-3
-    returns)
+    (tie.spec size-at-requires size-at-requires-2 put-points-requires put-angles-requires put-triangles-requires radians-at-requires
+    (λ c. search needs) (λ c. search needs) (λ c. search needs) returns)

@@ -6,56 +6,11 @@ use Rattle.text_floor.proofs.Lines.{three-stores}
 use Rattle.text_floor.proofs.put_point.Statement.{statement}
 use Rattle.text_floor.proofs.put_point.Tie as tie
 
-add-a : tie.Need-add-a
-add-a c = search needs
-
-mul-a : tie.Need-mul-a
-mul-a c = search needs
-
-double-at-requires : tie.Need-double-at-requires
-double-at-requires c κs = search needs
-
-add-double-at : tie.Need-add-double-at
-add-double-at c = search needs
-
-double-at-requires-2 : tie.Need-double-at-requires-2
-double-at-requires-2 c κs = search needs
-
-mul-out : tie.Need-mul-out
-mul-out c = search needs
-
-mul-out-2 : tie.Need-mul-out-2
-mul-out-2 c = search needs
-
-slice-write-out : tie.Need-slice-write-out
-slice-write-out c = search needs
-
-mul-out-3 : tie.Need-mul-out-3
-mul-out-3 c = search needs
-
-add-out : tie.Need-add-out
-add-out c = search needs
-
-mul-out-4 : tie.Need-mul-out-4
-mul-out-4 c = search needs
-
 slice-write-out-2 : tie.Need-slice-write-out-2
 slice-write-out-2 c = simp length-set (omega arith)
 
-mul-out-5 : tie.Need-mul-out-5
-mul-out-5 c = search needs
-
-add-out-2 : tie.Need-add-out-2
-add-out-2 c = search needs
-
-mul-out-6 : tie.Need-mul-out-6
-mul-out-6 c = search needs
-
 slice-write-out-3 : tie.Need-slice-write-out-3
 slice-write-out-3 c = simp length-set (omega arith)
-
-same-length : tie.Need-same-length
-same-length c = search needs
 
 returns : tie.Need-returns
 returns c = rw (← c .before .double-at .ensures, ← c .double-at2 .ensures) (three-stores (c .before .before .before .before .args .out .now) _ _ _ _)
@@ -63,22 +18,6 @@ returns c = rw (← c .before .double-at .ensures, ← c .double-at2 .ensures) (
 pub put-point-spec : {M : Type 1} → statement M
 put-point-spec =
     tie.close
-    (tie.spec
-    add-a
-    mul-a
-    double-at-requires
-    add-double-at
-    double-at-requires-2
-    mul-out
-    mul-out-2
-    slice-write-out
-    mul-out-3
-    add-out
-    mul-out-4
-    slice-write-out-2
-    mul-out-5
-    add-out-2
-    mul-out-6
-    slice-write-out-3
-    same-length
-    returns)
+    (tie.spec (λ c. search needs) (λ c. search needs) (λ c κs. search needs) (λ c. search needs) (λ c κs. search needs) (λ c. search needs)
+    (λ c. search needs) (λ c. search needs) (λ c. search needs) (λ c. search needs) (λ c. search needs) slice-write-out-2 (λ c. search needs)
+    (λ c. search needs) (λ c. search needs) slice-write-out-3 (λ c. search needs) returns)

@@ -19,17 +19,11 @@ abbrev μ-loop : tie.MeasureT-loop
 loop-holds : tie.Need-loop-holds Inv-loop μ-loop
 loop-holds c = (omega arith, (refl, points-none (c .before .before .args .text .now) (c .before .before .args .out .now)))
 
-put-point-requires : tie.Need-put-point-requires Inv-loop μ-loop
-put-point-requires c κs = search needs
-
-add-i : tie.Need-add-i Inv-loop μ-loop
-add-i c = search needs
-
-loop-less : tie.Need-loop-less Inv-loop μ-loop
-loop-less c = search needs
-
 loop-again : tie.Need-loop-again Inv-loop μ-loop
-loop-again c = (omega arith, (ap length (c .before .before .put-point .ensures) ∙ simp length-sets (c .before .before .before .before .before .loop .inv .1 .0), points-again (c .before .before .before .before .before .before .before .before .args .text .now) (c .before .before .before .before .before .before .before .before .args .out .now) (c .before .before .before .before .before .loop .i) (c .before .before .before .before .before .loop .inv .1 .1) (c .before .before .put-point .ensures)))
+loop-again c =
+    let back5 = c .before .before .before .before .before in
+    let start = back5 .before .before .before in
+    (omega arith, (ap length (c .before .before .put-point .ensures) ∙ simp length-sets (back5 .loop .inv .1 .0), points-again (start .args .text .now) (start .args .out .now) (back5 .loop .i) (back5 .loop .inv .1 .1) (c .before .before .put-point .ensures)))
 
 same-length : tie.Need-same-length Inv-loop μ-loop
 same-length c = c .before .loop .inv .1 .0
@@ -40,13 +34,4 @@ returns c = let e : c .before .loop .i ≡ c .before .before .before .before .ar
 pub put-points-spec : {M : Type 1} → statement M
 put-points-spec =
     tie.close
-    (tie.spec
-    Inv-loop
-    μ-loop
-    loop-holds
-    put-point-requires
-    add-i
-    loop-less
-    loop-again
-    same-length
-    returns)
+    (tie.spec Inv-loop μ-loop loop-holds (λ c κs. search needs) (λ c. search needs) (λ c. search needs) loop-again same-length returns)

@@ -5,12 +5,11 @@ use lib.Ieee.{div, ofBits}
 use Rattle.text_floor.proofs.radians_at.Statement.{statement}
 use Rattle.text_floor.proofs.radians_at.Tie as tie
 
-double-at-requires : tie.Need-double-at-requires
-double-at-requires c κs = search needs
-
 returns : tie.Need-returns
 unfolding div ofBits
 returns c = rw (c .double-at .ensures) refl
 
 pub radians-at-spec : {M : Type 1} → statement M
-radians-at-spec = tie.close (tie.spec double-at-requires returns)
+radians-at-spec =
+    tie.close
+    (tie.spec (λ c κs. search needs) returns)

@@ -5,20 +5,10 @@ use Rattle.text_floor.proofs.Lines.{read-other}
 use Rattle.text_floor.proofs.read_floor.Statement.{statement}
 use Rattle.text_floor.proofs.read_floor.Tie as tie
 
-is-text-requires : tie.Need-is-text-requires
-is-text-requires c κs = search needs
-
 put-floor-requires : tie.Need-put-floor-requires
-put-floor-requires c κs = (sym (c .before .before .before .before .is-text .ensures) ∙ c .before .before .before .if1 .taken, c .before .before .before .before .before .before .before .before .before .pre)
-
-same-length : tie.Need-same-length
-same-length c = search needs
-
-same-length-2 : tie.Need-same-length-2
-same-length-2 c = search needs
-
-same-length-3 : tie.Need-same-length-3
-same-length-3 c = search needs
+put-floor-requires c κs =
+    let start = c .before .before .before .before .before .before .before .before .before in
+    (sym (c .before .before .before .before .is-text .ensures) ∙ c .before .before .before .if1 .taken, start .pre)
 
 returns : tie.Need-returns
 returns c = c .before .before .before .before .before .before .put-floor .ensures
@@ -29,11 +19,4 @@ returns-2 c = read-other (c .before .before .before .before .before .before .arg
 pub read-floor-spec : {M : Type 1} → statement M
 read-floor-spec =
     tie.close
-    (tie.spec
-    is-text-requires
-    put-floor-requires
-    same-length
-    same-length-2
-    same-length-3
-    returns
-    returns-2)
+    (tie.spec (λ c κs. search needs) put-floor-requires (λ c. search needs) (λ c. search needs) (λ c. search needs) returns returns-2)

@@ -5,14 +5,10 @@ use Rattle.text_columns.specs.Columns.{sizeOf}
 use Rattle.text_floor.proofs.size_at.Statement.{statement}
 use Rattle.text_floor.proofs.size_at.Tie as tie
 
-column-at-requires : tie.Need-column-at-requires
-column-at-requires c κs = search needs
-
-size-requires : tie.Need-size-requires
-size-requires c κs = search needs
-
 returns : tie.Need-returns
 returns c = c .size .ensures ∙ ap sizeOf (c .before .column-at .ensures)
 
 pub size-at-spec : {M : Type 1} → statement M
-size-at-spec = tie.close (tie.spec column-at-requires size-requires returns)
+size-at-spec =
+    tie.close
+    (tie.spec (λ c κs. search needs) (λ c κs. search needs) returns)

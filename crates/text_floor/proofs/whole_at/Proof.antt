@@ -5,14 +5,10 @@ use Rattle.text_columns.specs.Columns.{isWhole}
 use Rattle.text_floor.proofs.whole_at.Statement.{statement}
 use Rattle.text_floor.proofs.whole_at.Tie as tie
 
-column-at-requires : tie.Need-column-at-requires
-column-at-requires c κs = search needs
-
-is-whole-requires : tie.Need-is-whole-requires
-is-whole-requires c κs = search needs
-
 returns : tie.Need-returns
 returns c = c .is-whole .ensures ∙ ap isWhole (c .before .column-at .ensures)
 
 pub whole-at-spec : {M : Type 1} → statement M
-whole-at-spec = tie.close (tie.spec column-at-requires is-whole-requires returns)
+whole-at-spec =
+    tie.close
+    (tie.spec (λ c κs. search needs) (λ c κs. search needs) returns)

@@ -4,43 +4,14 @@ use Rattle.text_lines.proofs.Lines.{lines-put}
 use Rattle.text_lines.proofs.put_floor.Statement.{statement}
 use Rattle.text_lines.proofs.put_floor.Tie as tie
 
-mul-at : tie.Need-mul-at
-mul-at c = search needs
-
-add-at : tie.Need-add-at
-add-at c = search needs
-
-put-counts-requires : tie.Need-put-counts-requires
-put-counts-requires c κs = search needs
-
-put-triangles-requires : tie.Need-put-triangles-requires
-put-triangles-requires c κs = search needs
-
-put-sides-requires : tie.Need-put-sides-requires
-put-sides-requires c κs = search needs
-
-mul-result : tie.Need-mul-result
-mul-result c = search needs
-
-add-result : tie.Need-add-result
-add-result c = search needs
-
-same-length : tie.Need-same-length
-same-length c = search needs
-
 returns : tie.Need-returns
-returns c = lines-put (c .before .before .before .before .before .before .before .before .before .before .before .before .before .before .before .args .c) (c .before .before .before .before .before .before .before .before .before .before .before .before .before .before .before .args .corners .now) (c .before .before .before .before .before .before .before .before .before .before .before .before .before .before .before .args .ends .now) (c .before .before .before .before .before .before .before .before .before .before .before .before .before .before .before .args .out .now) (c .before .before .before .before .before .before .before .before .before .before .put-counts .ensures) (c .before .before .before .before .before .before .put-triangles .ensures) (c .before .before .put-sides .ensures)
+returns c =
+    let back10 = c .before .before .before .before .before .before .before .before .before .before in
+    let start = back10 .before .before .before .before .before in
+    lines-put (start .args .c) (start .args .corners .now) (start .args .ends .now) (start .args .out .now) (back10 .put-counts .ensures) (c .before .before .before .before .before .before .put-triangles .ensures) (c .before .before .put-sides .ensures)
 
 pub put-floor-spec : {M : Type 1} → statement M
 put-floor-spec =
     tie.close
-    (tie.spec
-    mul-at
-    add-at
-    put-counts-requires
-    put-triangles-requires
-    put-sides-requires
-    mul-result
-    add-result
-    same-length
-    returns)
+    (tie.spec (λ c. search needs) (λ c. search needs) (λ c κs. search needs) (λ c κs. search needs) (λ c κs. search needs) (λ c. search needs)
+    (λ c. search needs) (λ c. search needs) returns)

@@ -7,9 +7,6 @@ use Rattle.text_lines.specs.Lines.{refusedLine}
 use Rattle.text_lines.proofs.put_refused.Statement.{statement}
 use Rattle.text_lines.proofs.put_refused.Tie as tie
 
-slice-write-out : tie.Need-slice-write-out
-slice-write-out c = search needs
-
 slice-write-out-2 : tie.Need-slice-write-out-2
 slice-write-out-2 c = simp length-set (omega arith)
 
@@ -31,9 +28,6 @@ slice-write-out-7 c = simp length-set (omega arith)
 slice-write-out-8 : tie.Need-slice-write-out-8
 slice-write-out-8 c = simp length-set (omega arith)
 
-same-length : tie.Need-same-length
-same-length c = search needs
-
 returns : tie.Need-returns
 unfolding refusedLine
 returns c = (refl, refl)
@@ -41,14 +35,5 @@ returns c = (refl, refl)
 pub put-refused-spec : {M : Type 1} → statement M
 put-refused-spec =
     tie.close
-    (tie.spec
-    slice-write-out
-    slice-write-out-2
-    slice-write-out-3
-    slice-write-out-4
-    slice-write-out-5
-    slice-write-out-6
-    slice-write-out-7
-    slice-write-out-8
-    same-length
-    returns)
+    (tie.spec (λ c. search needs) slice-write-out-2 slice-write-out-3 slice-write-out-4 slice-write-out-5 slice-write-out-6 slice-write-out-7
+    slice-write-out-8 (λ c. search needs) returns)

@@ -9,4 +9,6 @@ unfolding cadd
 returns c = refl
 
 pub add-spec : {M : Type 1} → statement M
-add-spec = tie.close (tie.spec returns)
+add-spec =
+    tie.close
+    (tie.spec returns)

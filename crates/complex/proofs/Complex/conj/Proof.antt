@@ -9,4 +9,6 @@ unfolding cconj
 returns c = refl
 
 pub conj-spec : {M : Type 1} → statement M
-conj-spec = tie.close (tie.spec returns)
+conj-spec =
+    tie.close
+    (tie.spec returns)

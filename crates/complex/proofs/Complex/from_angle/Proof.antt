@@ -4,12 +4,11 @@ use borrow.Author.Needs.{needs}
 use Rattle.complex.proofs.Complex.from_angle.Statement.{statement}
 use Rattle.complex.proofs.Complex.from_angle.Tie as tie
 
-sin-cos-requires : tie.Need-sin-cos-requires
-sin-cos-requires c κs = search needs
-
 returns : tie.Need-returns
 unfolding fromAngle
 returns c = simp (c .sin-cos .ensures)
 
 pub from-angle-spec : {M : Type 1} → statement M
-from-angle-spec = tie.close (tie.spec sin-cos-requires returns)
+from-angle-spec =
+    tie.close
+    (tie.spec (λ c κs. search needs) returns)

@@ -17,4 +17,6 @@ returns-2 : tie.Need-returns-2
 returns-2 c = neither _ _ (c .if1 .left)
 
 pub is-zero-spec : {M : Type 1} → statement M
-is-zero-spec = tie.close (tie.spec returns returns-2)
+is-zero-spec =
+    tie.close
+    (tie.spec returns returns-2)

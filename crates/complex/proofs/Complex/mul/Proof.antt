@@ -9,4 +9,6 @@ unfolding cmul
 returns c = refl
 
 pub mul-spec : {M : Type 1} → statement M
-mul-spec = tie.close (tie.spec returns)
+mul-spec =
+    tie.close
+    (tie.spec returns)

@@ -9,4 +9,6 @@ unfolding cscale
 returns c = refl
 
 pub scale-spec : {M : Type 1} → statement M
-scale-spec = tie.close (tie.spec returns)
+scale-spec =
+    tie.close
+    (tie.spec returns)

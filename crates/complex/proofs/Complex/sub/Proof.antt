@@ -9,4 +9,6 @@ unfolding csub
 returns c = refl
 
 pub sub-spec : {M : Type 1} → statement M
-sub-spec = tie.close (tie.spec returns)
+sub-spec =
+    tie.close
+    (tie.spec returns)

@@ -4,12 +4,11 @@ use Rattle.complex.specs.Guidance.{fourfold}
 use Rattle.complex.proofs.guidance.fourfold_direction.Statement.{statement}
 use Rattle.complex.proofs.guidance.fourfold_direction.Tie as tie
 
-from-angle-requires : tie.Need-from-angle-requires
-from-angle-requires c κs = search needs
-
 returns : tie.Need-returns
 unfolding fourfold
 returns c = c .from-angle .ensures
 
 pub fourfold-direction-spec : {M : Type 1} → statement M
-fourfold-direction-spec = tie.close (tie.spec from-angle-requires returns)
+fourfold-direction-spec =
+    tie.close
+    (tie.spec (λ c κs. search needs) returns)

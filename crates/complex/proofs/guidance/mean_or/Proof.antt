@@ -5,15 +5,6 @@ use Rattle.complex.specs.Guidance.{meanOr}
 use Rattle.complex.proofs.guidance.mean_or.Statement.{statement}
 use Rattle.complex.proofs.guidance.mean_or.Tie as tie
 
-norm-requires : tie.Need-norm-requires
-norm-requires c κs = search needs
-
-is-finite-requires : tie.Need-is-finite-requires
-is-finite-requires c κs = search needs
-
-cross-angle-requires : tie.Need-cross-angle-requires
-cross-angle-requires c κs = search needs
-
 returns : tie.Need-returns
 unfolding meanOr
 returns c = c .cross-angle .ensures .0 ∙ rw (← c .before .before .before .before .norm .ensures, ← c .before .before .before .is-finite .ensures, c .before .before .if1 .taken, c .before .if2 .taken)
@@ -29,4 +20,4 @@ returns-3 c = rw (← c .before .before .norm .ensures, ← c .before .is-finite
 pub mean-or-spec : {M : Type 1} → statement M
 mean-or-spec =
     tie.close
-    (tie.spec norm-requires is-finite-requires cross-angle-requires returns returns-2 returns-3)
+    (tie.spec (λ c κs. search needs) (λ c κs. search needs) (λ c κs. search needs) returns returns-2 returns-3)

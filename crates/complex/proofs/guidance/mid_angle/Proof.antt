@@ -5,18 +5,6 @@ use Rattle.complex.specs.Guidance.{midAngle}
 use Rattle.complex.proofs.guidance.mid_angle.Statement.{statement}
 use Rattle.complex.proofs.guidance.mid_angle.Tie as tie
 
-fourfold-direction-requires : tie.Need-fourfold-direction-requires
-fourfold-direction-requires c κs = search needs
-
-fourfold-direction-requires-2 : tie.Need-fourfold-direction-requires-2
-fourfold-direction-requires-2 c κs = search needs
-
-add-requires : tie.Need-add-requires
-add-requires c κs = search needs
-
-mean-or-requires : tie.Need-mean-or-requires
-mean-or-requires c κs = search needs
-
 returns : tie.Need-returns
 unfolding midAngle
 returns c = c .mean-or .ensures ∙ rw (c .before .add .ensures, c .before .before .fourfold-direction2 .ensures, c .before .before .before .fourfold-direction .ensures)
@@ -24,9 +12,4 @@ returns c = c .mean-or .ensures ∙ rw (c .before .add .ensures, c .before .befo
 pub mid-angle-spec : {M : Type 1} → statement M
 mid-angle-spec =
     tie.close
-    (tie.spec
-    fourfold-direction-requires
-    fourfold-direction-requires-2
-    add-requires
-    mean-or-requires
-    returns)
+    (tie.spec (λ c κs. search needs) (λ c κs. search needs) (λ c κs. search needs) (λ c κs. search needs) returns)

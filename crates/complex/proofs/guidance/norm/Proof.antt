@@ -4,12 +4,11 @@ use Rattle.complex.specs.Guidance.{normOf}
 use Rattle.complex.proofs.guidance.norm.Statement.{statement}
 use Rattle.complex.proofs.guidance.norm.Tie as tie
 
-sqrt-requires : tie.Need-sqrt-requires
-sqrt-requires c κs = search needs
-
 returns : tie.Need-returns
 unfolding normOf
 returns c = c .sqrt .ensures .0
 
 pub norm-spec : {M : Type 1} → statement M
-norm-spec = tie.close (tie.spec sqrt-requires returns)
+norm-spec =
+    tie.close
+    (tie.spec (λ c κs. search needs) returns)

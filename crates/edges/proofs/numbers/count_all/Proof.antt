@@ -18,16 +18,14 @@ loop-holds : tie.Need-loop-holds Inv-loop μ-loop
 loop-holds c = (omega arith, c .before .pre .1 .1)
 
 count-number-requires : tie.Need-count-number-requires Inv-loop μ-loop
-count-number-requires c κs = count-room (c .before .before .before .before .pre .0) (c .before .before .before .before .pre .1 .0) (c .before .loop-test .taken) (c .before .before .loop .inv .1)
-
-add-j : tie.Need-add-j Inv-loop μ-loop
-add-j c = search needs
-
-loop-less : tie.Need-loop-less Inv-loop μ-loop
-loop-less c = search needs
+count-number-requires c κs =
+    let start = c .before .before .before .before in
+    count-room (start .pre .0) (start .pre .1 .0) (c .before .loop-test .taken) (c .before .before .loop .inv .1)
 
 loop-again : tie.Need-loop-again Inv-loop μ-loop
-loop-again c = (omega arith, counted-more (c .before .before .before .before .before .before .before .pre .0) (c .before .before .before .before .before .before .before .pre .1 .0) (c .before .before .before .before .loop-test .taken) (c .before .before .before .before .before .loop .inv .1) (c .before .before .count-number .ensures))
+loop-again c =
+    let start = c .before .before .before .before .before .before .before in
+    (omega arith, counted-more (start .pre .0) (start .pre .1 .0) (c .before .before .before .before .loop-test .taken) (c .before .before .before .before .before .loop .inv .1) (c .before .before .count-number .ensures))
 
 same-length : tie.Need-same-length Inv-loop μ-loop
 same-length c = c .before .loop .inv .1 .same-length
@@ -38,13 +36,4 @@ returns c = let e : c .before .loop .j ≡ c .before .before .before .args .k = 
 pub count-all-spec : {M : Type 1} → statement M
 count-all-spec =
     tie.close
-    (tie.spec
-    Inv-loop
-    μ-loop
-    loop-holds
-    count-number-requires
-    add-j
-    loop-less
-    loop-again
-    same-length
-    returns)
+    (tie.spec Inv-loop μ-loop loop-holds count-number-requires (λ c. search needs) (λ c. search needs) loop-again same-length returns)

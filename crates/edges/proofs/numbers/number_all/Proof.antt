@@ -17,20 +17,10 @@ abbrev μ-loop : tie.MeasureT-loop
 loop-holds : tie.Need-loop-holds Inv-loop μ-loop
 loop-holds c = (omega arith, numbered-none _ _ _ _ _ (c .before .pre .1))
 
-number-triangle-requires : tie.Need-number-triangle-requires Inv-loop μ-loop
-number-triangle-requires c κs = search needs
-
-add-i : tie.Need-add-i Inv-loop μ-loop
-add-i c = search needs
-
-loop-less : tie.Need-loop-less Inv-loop μ-loop
-loop-less c = search needs
-
 loop-again : tie.Need-loop-again Inv-loop μ-loop
-loop-again c = (omega arith, numbered-more (c .before .before .before .before .before .before .before .before .pre .0) (c .before .before .before .before .if1 .taken) (c .before .before .before .before .before .before .loop .inv .1) (c .before .before .number-triangle .ensures))
-
-same-length : tie.Need-same-length Inv-loop μ-loop
-same-length c = search needs
+loop-again c =
+    let start = c .before .before .before .before .before .before .before .before in
+    (omega arith, numbered-more (start .pre .0) (c .before .before .before .before .if1 .taken) (c .before .before .before .before .before .before .loop .inv .1) (c .before .before .number-triangle .ensures))
 
 returns : tie.Need-returns Inv-loop μ-loop
 returns c = let e : c .before .before .loop .i ≡ c .before .before .before .before .args .p .triangles = omega arith in rw e at (c .before .before .loop .inv .1)
@@ -38,13 +28,4 @@ returns c = let e : c .before .before .loop .i ≡ c .before .before .before .be
 pub number-all-spec : {M : Type 1} → statement M
 number-all-spec =
     tie.close
-    (tie.spec
-    Inv-loop
-    μ-loop
-    loop-holds
-    number-triangle-requires
-    add-i
-    loop-less
-    loop-again
-    same-length
-    returns)
+    (tie.spec Inv-loop μ-loop loop-holds (λ c κs. search needs) (λ c. search needs) (λ c. search needs) loop-again (λ c. search needs) returns)

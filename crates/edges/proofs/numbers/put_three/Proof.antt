@@ -8,32 +8,11 @@ use native.Mathlib.Omega.{arith}
 use Rattle.edges.proofs.numbers.put_three.Statement.{statement}
 use Rattle.edges.proofs.numbers.put_three.Tie as tie
 
-mul-w : tie.Need-mul-w
-mul-w c = search needs
-
-slice-write-w : tie.Need-slice-write-w
-slice-write-w c = search needs
-
-add-w : tie.Need-add-w
-add-w c = search needs
-
-mul-w-2 : tie.Need-mul-w-2
-mul-w-2 c = search needs
-
 slice-write-w-2 : tie.Need-slice-write-w-2
 slice-write-w-2 c = simp length-set (omega arith)
 
-add-w-2 : tie.Need-add-w-2
-add-w-2 c = search needs
-
-mul-w-3 : tie.Need-mul-w-3
-mul-w-3 c = search needs
-
 slice-write-w-3 : tie.Need-slice-write-w-3
 slice-write-w-3 c = simp length-set (omega arith)
-
-same-length : tie.Need-same-length
-same-length c = search needs
 
 returns : tie.Need-returns
 returns c = let e : c .args .at + 2 ≡ c .args .at + 1 + 1 = omega arith in rw e (simp add-one)
@@ -41,14 +20,5 @@ returns c = let e : c .args .at + 2 ≡ c .args .at + 1 + 1 = omega arith in rw 
 pub put-three-spec : {M : Type 1} → statement M
 put-three-spec =
     tie.close
-    (tie.spec
-    mul-w
-    slice-write-w
-    add-w
-    mul-w-2
-    slice-write-w-2
-    add-w-2
-    mul-w-3
-    slice-write-w-3
-    same-length
-    returns)
+    (tie.spec (λ c. search needs) (λ c. search needs) (λ c. search needs) (λ c. search needs) slice-write-w-2 (λ c. search needs) (λ c. search needs)
+    slice-write-w-3 (λ c. search needs) returns)

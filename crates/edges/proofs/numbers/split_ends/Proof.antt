@@ -4,35 +4,13 @@ use borrow.Author.Needs.{needs}
 use Rattle.edges.proofs.numbers.split_ends.Statement.{statement}
 use Rattle.edges.proofs.numbers.split_ends.Tie as tie
 
-add-copy-fourths : tie.Need-add-copy-fourths
-add-copy-fourths c = search needs
-
-copy-fourths-requires : tie.Need-copy-fourths-requires
-copy-fourths-requires c κs = search needs
-
-add-copy-fourths-2 : tie.Need-add-copy-fourths-2
-add-copy-fourths-2 c = search needs
-
-add-copy-fourths-3 : tie.Need-add-copy-fourths-3
-add-copy-fourths-3 c = search needs
-
-copy-fourths-requires-2 : tie.Need-copy-fourths-requires-2
-copy-fourths-requires-2 c κs = search needs
-
-same-length : tie.Need-same-length
-same-length c = search needs
-
 returns : tie.Need-returns
-returns c = split-done _ _ _ _ _ _ (c .before .before .before .before .before .before .before .before .before .before .before .pre .0) (c .before .before .before .before .before .before .before .copy-fourths .ensures) (c .before .before .copy-fourths2 .ensures)
+returns c =
+    let back7 = c .before .before .before .before .before .before .before in
+    let start = back7 .before .before .before .before in
+    split-done _ _ _ _ _ _ (start .pre .0) (back7 .copy-fourths .ensures) (c .before .before .copy-fourths2 .ensures)
 
 pub split-ends-spec : {M : Type 1} → statement M
 split-ends-spec =
     tie.close
-    (tie.spec
-    add-copy-fourths
-    copy-fourths-requires
-    add-copy-fourths-2
-    add-copy-fourths-3
-    copy-fourths-requires-2
-    same-length
-    returns)
+    (tie.spec (λ c. search needs) (λ c κs. search needs) (λ c. search needs) (λ c. search needs) (λ c κs. search needs) (λ c. search needs) returns)

@@ -4,39 +4,18 @@ use borrow.Author.Needs.{needs}
 use Rattle.edges.proofs.two_slices.meet_side.Statement.{statement}
 use Rattle.edges.proofs.two_slices.meet_side.Tie as tie
 
-find-or-insert-requires : tie.Need-find-or-insert-requires
-find-or-insert-requires c κs = search needs
-
-same-length : tie.Need-same-length
-same-length c = search needs
-
-same-length-2 : tie.Need-same-length-2
-same-length-2 c = search needs
-
 returns : tie.Need-returns
-returns c = rw (key-rising _ _ (c .before .before .before .before .before .before .before .if1 .taken)) (c .before .before .before .before .find-or-insert .ensures)
-
-find-or-insert-requires-2 : tie.Need-find-or-insert-requires-2
-find-or-insert-requires-2 c κs = search needs
-
-same-length-3 : tie.Need-same-length-3
-same-length-3 c = search needs
-
-same-length-4 : tie.Need-same-length-4
-same-length-4 c = search needs
+returns c =
+    let back7 = c .before .before .before .before .before .before .before in
+    rw (key-rising _ _ (back7 .if1 .taken)) (c .before .before .before .before .find-or-insert .ensures)
 
 returns-2 : tie.Need-returns-2
-returns-2 c = rw (key-falling _ _ (c .before .before .before .before .before .before .before .if1 .left)) (c .before .before .before .before .find-or-insert2 .ensures)
+returns-2 c =
+    let back7 = c .before .before .before .before .before .before .before in
+    rw (key-falling _ _ (back7 .if1 .left)) (c .before .before .before .before .find-or-insert2 .ensures)
 
 pub meet-side-spec : {M : Type 1} → statement M
 meet-side-spec =
     tie.close
-    (tie.spec
-    find-or-insert-requires
-    same-length
-    same-length-2
-    returns
-    find-or-insert-requires-2
-    same-length-3
-    same-length-4
+    (tie.spec (λ c κs. search needs) (λ c. search needs) (λ c. search needs) returns (λ c κs. search needs) (λ c. search needs) (λ c. search needs)
     returns-2)

@@ -4,15 +4,6 @@ use borrow.Author.Needs.{needs}
 use Rattle.godf.proofs.field.godf_count_singularities.Statement.{statement}
 use Rattle.godf.proofs.field.godf_count_singularities.Tie as tie
 
-count-singularities-requires : tie.Need-count-singularities-requires
-count-singularities-requires c κs = search needs
-
-enum-known-answer : tie.Need-enum-known-answer
-enum-known-answer c = search needs
-
-enum-told : tie.Need-enum-told
-enum-told c = search needs
-
 returns : tie.Need-returns
 returns c = simp (← c .before .before .count-singularities .ensures, c .enum-told .given .1) (record { number = refl; three-is = refl; five-is = refl })
 
@@ -21,4 +12,5 @@ returns-2 c = simp (← c .before .before .before .count-singularities .ensures,
 
 pub godf-count-singularities-spec : {M : Type 1} → statement M
 godf-count-singularities-spec =
-    tie.close (tie.spec count-singularities-requires enum-known-answer enum-told returns returns-2)
+    tie.close
+    (tie.spec (λ c κs. search needs) (λ c. search needs) (λ c. search needs) returns returns-2)

@@ -5,21 +5,6 @@ use borrow.Author.Needs.{needs}
 use Rattle.godf.proofs.field.godf_interp_angle.Statement.{statement}
 use Rattle.godf.proofs.field.godf_interp_angle.Tie as tie
 
-interp-angle-requires : tie.Need-interp-angle-requires
-interp-angle-requires c κs = search needs
-
-enum-known-answer : tie.Need-enum-known-answer
-enum-known-answer c = search needs
-
-enum-told : tie.Need-enum-told
-enum-told c = search needs
-
-enum-told-2 : tie.Need-enum-told-2
-enum-told-2 c = search needs
-
-enum-told-3 : tie.Need-enum-told-3
-enum-told-3 c = search needs
-
 returns : tie.Need-returns
 returns c =
     simp (← c .before .before .before .interp-angle .ensures .0, c .before .answer .given .1)
@@ -37,13 +22,5 @@ returns-4 c = simp (← c .before .before .interp-angle .ensures .0, c .enum-tol
 pub godf-interp-angle-spec : {M : Type 1} → statement M
 godf-interp-angle-spec =
     tie.close
-    (tie.spec
-    interp-angle-requires
-    enum-known-answer
-    enum-told
-    enum-told-2
-    enum-told-3
-    returns
-    returns-2
-    returns-3
+    (tie.spec (λ c κs. search needs) (λ c. search needs) (λ c. search needs) (λ c. search needs) (λ c. search needs) returns returns-2 returns-3
     returns-4)

@@ -4,15 +4,6 @@ use borrow.Author.Needs.{needs}
 use Rattle.godf.proofs.product.godf_vertex_product.Statement.{statement}
 use Rattle.godf.proofs.product.godf_vertex_product.Tie as tie
 
-vertex-product-requires : tie.Need-vertex-product-requires
-vertex-product-requires c κs = search needs
-
-enum-known-answer : tie.Need-enum-known-answer
-enum-known-answer c = search needs
-
-enum-told : tie.Need-enum-told
-enum-told c = search needs
-
 returns : tie.Need-returns
 returns c = simp (← c .before .before .vertex-product .ensures, c .enum-told .given .1) (record { number = refl; re-is = refl; im-is = refl })
 
@@ -21,4 +12,5 @@ returns-2 c = simp (← c .before .before .before .vertex-product .ensures, c .b
 
 pub godf-vertex-product-spec : {M : Type 1} → statement M
 godf-vertex-product-spec =
-    tie.close (tie.spec vertex-product-requires enum-known-answer enum-told returns returns-2)
+    tie.close
+    (tie.spec (λ c κs. search needs) (λ c. search needs) (λ c. search needs) returns returns-2)

@@ -5,15 +5,6 @@ use lib.Seq.{set-out}
 use Rattle.godf.proofs.refine.put.Statement.{statement}
 use Rattle.godf.proofs.refine.put.Tie as tie
 
-mul-report : tie.Need-mul-report
-mul-report c = search needs
-
-slice-write-report : tie.Need-slice-write-report
-slice-write-report c = search needs
-
-same-length : tie.Need-same-length
-same-length c = search needs
-
 returns : tie.Need-returns
 returns c = search needs
 
@@ -21,4 +12,6 @@ returns-2 : tie.Need-returns-2
 returns-2 c = sym (set-out (c .before .args .report .now) (c .before .args .i) (c .before .args .x) (c .if1 .left))
 
 pub put-spec : {M : Type 1} → statement M
-put-spec = tie.close (tie.spec mul-report slice-write-report same-length returns returns-2)
+put-spec =
+    tie.close
+    (tie.spec (λ c. search needs) (λ c. search needs) (λ c. search needs) returns returns-2)

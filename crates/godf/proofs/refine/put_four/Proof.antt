@@ -4,25 +4,13 @@ use mathlib.Core.Path.{_∙_}
 use Rattle.godf.proofs.refine.put_four.Statement.{statement}
 use Rattle.godf.proofs.refine.put_four.Tie as tie
 
-put-requires : tie.Need-put-requires
-put-requires c κs = search needs
-
-put-requires-2 : tie.Need-put-requires-2
-put-requires-2 c κs = search needs
-
-put-requires-3 : tie.Need-put-requires-3
-put-requires-3 c κs = search needs
-
-put-requires-4 : tie.Need-put-requires-4
-put-requires-4 c κs = search needs
-
-same-length : tie.Need-same-length
-same-length c = search needs
-
 returns : tie.Need-returns
-returns c = c .before .before .put4 .ensures ∙ rw (c .before .before .before .before .before .before .put3 .ensures, c .before .before .before .before .before .before .before .before .before .before .put2 .ensures, c .before .before .before .before .before .before .before .before .before .before .before .before .before .before .put .ensures)
+returns c =
+    let back10 = c .before .before .before .before .before .before .before .before .before .before in
+    let back14 = back10 .before .before .before .before in
+    c .before .before .put4 .ensures ∙ rw (c .before .before .before .before .before .before .put3 .ensures, back10 .put2 .ensures, back14 .put .ensures)
 
 pub put-four-spec : {M : Type 1} → statement M
 put-four-spec =
     tie.close
-    (tie.spec put-requires put-requires-2 put-requires-3 put-requires-4 same-length returns)
+    (tie.spec (λ c κs. search needs) (λ c κs. search needs) (λ c κs. search needs) (λ c κs. search needs) (λ c. search needs) returns)

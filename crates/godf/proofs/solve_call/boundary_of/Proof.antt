@@ -20,4 +20,6 @@ unfolding boundaryOf
 returns-4 c = rw (c .before .before .if1 .left, c .before .if2 .left, c .if3 .left)
 
 pub boundary-of-spec : {M : Type 1} → statement M
-boundary-of-spec = tie.close (tie.spec returns returns-2 returns-3 returns-4)
+boundary-of-spec =
+    tie.close
+    (tie.spec returns returns-2 returns-3 returns-4)

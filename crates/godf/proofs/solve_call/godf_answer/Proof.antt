@@ -7,9 +7,6 @@ use borrow.Author.Needs.{needs}
 use Rattle.godf.proofs.solve_call.godf_answer.Statement.{statement}
 use Rattle.godf.proofs.solve_call.godf_answer.Tie as tie
 
-answer-requires : tie.Need-answer-requires
-answer-requires c κs = search needs
-
 returns : tie.Need-returns
 returns c = record { slice = simp (eq-eqb _ _ (c .if1 .taken)); counted = ap length (c .before .answer .ensures); part = rw (c .before .answer .ensures) (answer-front _ _ _ _) }
 
@@ -17,4 +14,6 @@ returns-2 : tie.Need-returns-2
 returns-2 c = record { slice = simp (ne-eqb _ _ (c .if1 .left)); counted = ap length (c .before .answer .ensures); part = rw (c .before .answer .ensures) (answer-front _ _ _ _) }
 
 pub godf-answer-spec : {M : Type 1} → statement M
-godf-answer-spec = tie.close (tie.spec answer-requires returns returns-2)
+godf-answer-spec =
+    tie.close
+    (tie.spec (λ c κs. search needs) returns returns-2)

@@ -5,9 +5,6 @@ use borrow.Author.Needs.{needs}
 use Rattle.godf.proofs.solve_call.godf_fine_count.Statement.{statement}
 use Rattle.godf.proofs.solve_call.godf_fine_count.Tie as tie
 
-most-of-requires : tie.Need-most-of-requires
-most-of-requires c κs = search needs
-
 returns : tie.Need-returns
 returns c = rw (c .before .if1 .taken) (ap (λ (m : Most). m .points) (c .most-of .ensures .0))
 
@@ -15,4 +12,6 @@ returns-2 : tie.Need-returns-2
 returns-2 c = rw (c .if1 .left)
 
 pub godf-fine-count-spec : {M : Type 1} → statement M
-godf-fine-count-spec = tie.close (tie.spec most-of-requires returns returns-2)
+godf-fine-count-spec =
+    tie.close
+    (tie.spec (λ c κs. search needs) returns returns-2)

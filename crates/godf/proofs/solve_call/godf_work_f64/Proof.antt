@@ -6,21 +6,10 @@ use borrow.Author.Needs.{needs}
 use Rattle.godf.proofs.solve_call.godf_work_f64.Statement.{statement}
 use Rattle.godf.proofs.solve_call.godf_work_f64.Tie as tie
 
-most-of-requires : tie.Need-most-of-requires
-most-of-requires c κs = search needs
-
-mul-result : tie.Need-mul-result
-mul-result c = search needs
-
-mul-result-2 : tie.Need-mul-result-2
-mul-result-2 c = search needs
-
-add-result : tie.Need-add-result
-add-result c = search needs
-
 returns : tie.Need-returns
 returns c = ap (λ (m : Most). 64 * m .points + 32 * m .triangles) (c .before .before .most-of .ensures .0)
 
 pub godf-work-f64-spec : {M : Type 1} → statement M
 godf-work-f64-spec =
-    tie.close (tie.spec most-of-requires mul-result mul-result-2 add-result returns)
+    tie.close
+    (tie.spec (λ c κs. search needs) (λ c. search needs) (λ c. search needs) (λ c. search needs) returns)

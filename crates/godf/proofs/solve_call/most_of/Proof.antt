@@ -14,16 +14,11 @@ returns-2 : tie.Need-returns-2
 unfolding mostOf
 returns-2 c = (simp (le-ltb _ _ (c .before .if1 .left), lt-ltb _ _ (c .if2 .taken)), (omega arith, omega arith))
 
-most-points-requires : tie.Need-most-points-requires
-most-points-requires c κs = search needs
-
-most-triangles-requires : tie.Need-most-triangles-requires
-most-triangles-requires c κs = search needs
-
 returns-3 : tie.Need-returns-3
 unfolding mostOf
 returns-3 c = (simp (le-ltb _ _ (c .before .before .before .if1 .left), le-ltb _ _ (c .before .before .if2 .left)) (cc (c .before .most-points .ensures .0, c .most-triangles .ensures .0)), (c .before .most-points .ensures .1, c .most-triangles .ensures .1))
 
 pub most-of-spec : {M : Type 1} → statement M
 most-of-spec =
-    tie.close (tie.spec returns returns-2 most-points-requires most-triangles-requires returns-3)
+    tie.close
+    (tie.spec returns returns-2 (λ c κs. search needs) (λ c κs. search needs) returns-3)

@@ -4,12 +4,6 @@ use borrow.Author.Needs.{needs}
 use Rattle.godf.proofs.solve_call.tell_outcome.Statement.{statement}
 use Rattle.godf.proofs.solve_call.tell_outcome.Tie as tie
 
-enum-known-outcome : tie.Need-enum-known-outcome
-enum-known-outcome c = search needs
-
-enum-known-outcome-2 : tie.Need-enum-known-outcome-2
-enum-known-outcome-2 c = search needs
-
 returns : tie.Need-returns
 returns c = simp (c .before .before .outcome .given .1) (refl, refl)
 
@@ -17,4 +11,6 @@ returns-2 : tie.Need-returns-2
 returns-2 c = simp (c .before .before .outcome2 .given .1) (refl, refl)
 
 pub tell-outcome-spec : {M : Type 1} → statement M
-tell-outcome-spec = tie.close (tie.spec enum-known-outcome enum-known-outcome-2 returns returns-2)
+tell-outcome-spec =
+    tie.close
+    (tie.spec (λ c. search needs) (λ c. search needs) returns returns-2)

@@ -20,24 +20,6 @@ abbrev μ-loop : tie.MeasureT-loop
 loop-holds : tie.Need-loop-holds Inv-loop μ-loop
 loop-holds c = (omega arith, omega arith, omega arith, count-none _ _ _ _ _ (c .before .before .before .pre .1 .1))
 
-mul-wide : tie.Need-mul-wide Inv-loop μ-loop
-mul-wide c = search needs
-
-shared-slice-read-wide : tie.Need-shared-slice-read-wide Inv-loop μ-loop
-shared-slice-read-wide c = search needs
-
-wide-requires : tie.Need-wide-requires Inv-loop μ-loop
-wide-requires c κs = search needs
-
-mul-wide-2 : tie.Need-mul-wide-2 Inv-loop μ-loop
-mul-wide-2 c = search needs
-
-shared-slice-read-wide-2 : tie.Need-shared-slice-read-wide-2 Inv-loop μ-loop
-shared-slice-read-wide-2 c = search needs
-
-wide-requires-2 : tie.Need-wide-requires-2 Inv-loop μ-loop
-wide-requires-2 c κs = search needs
-
 add-count-edge : tie.Need-add-count-edge Inv-loop μ-loop
 add-count-edge c =
     let start = c .before .before .before .before .before .before .before .before .before .before in
@@ -50,26 +32,17 @@ add-count-edge-2 c =
 
 count-edge-requires : tie.Need-count-edge-requires Inv-loop μ-loop
 count-edge-requires c κs =
-    let start = c .before .before .before .before .before .before .before .before .before .before in
     let back6 = c .before .before .before .before .before .before in
+    let start = back6 .before .before .before .before in
     count-in _ _ _ _ _ (start .pre .0) (start .pre .1 .0) (back6 .loop .e) (omega arith) (back6 .loop .inv .3) (c .before .before .before .wide .ensures) (c .before .wide2 .ensures)
-
-add-e : tie.Need-add-e Inv-loop μ-loop
-add-e c = search needs
-
-loop-less : tie.Need-loop-less Inv-loop μ-loop
-loop-less c = search needs
 
 loop-again : tie.Need-loop-again Inv-loop μ-loop
 loop-again c =
-    let start = c .before .before .before .before .before .before .before .before .before .before .before .before .before in
     let back9 = c .before .before .before .before .before .before .before .before .before in
+    let start = back9 .before .before .before .before in
     let q = count-again _ _ _ _ _ (start .pre .0) (start .pre .1 .0) (back9 .loop .e) (omega arith) (back9 .loop .inv .3) (c .before .before .before .before .before .before .wide .ensures)
     (c .before .before .before .before .wide2 .ensures) (c .before .before .count-edge .ensures) in
     (omega arith, omega arith, ap length q ∙ length-put _ _ _, q)
-
-same-length : tie.Need-same-length Inv-loop μ-loop
-same-length c = search needs
 
 returns : tie.Need-returns Inv-loop μ-loop
 returns c = count-done _ _ _ _ _ (c .before .loop .inv .0) (c .before .loop .inv .1) (c .loop-test .left) (c .before .loop .inv .3)
@@ -77,21 +50,6 @@ returns c = count-done _ _ _ _ _ (c .before .loop .inv .0) (c .before .loop .inv
 pub count-spec : {M : Type 1} → statement M
 count-spec =
     tie.close
-    (tie.spec
-    Inv-loop
-    μ-loop
-    loop-holds
-    mul-wide
-    shared-slice-read-wide
-    wide-requires
-    mul-wide-2
-    shared-slice-read-wide-2
-    wide-requires-2
-    add-count-edge
-    add-count-edge-2
-    count-edge-requires
-    add-e
-    loop-less
-    loop-again
-    same-length
+    (tie.spec Inv-loop μ-loop loop-holds (λ c. search needs) (λ c. search needs) (λ c κs. search needs) (λ c. search needs) (λ c. search needs)
+    (λ c κs. search needs) add-count-edge add-count-edge-2 count-edge-requires (λ c. search needs) (λ c. search needs) loop-again (λ c. search needs)
     returns)

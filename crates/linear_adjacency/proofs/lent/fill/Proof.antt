@@ -17,46 +17,19 @@ abbrev μ-loop : tie.MeasureT-loop
 loop-holds : tie.Need-loop-holds Inv-loop μ-loop
 loop-holds c = (omega arith, omega arith, fill-none _ _ _ (c .before .before .before .pre .1 .0) _ _ (c .before .before .before .pre .0) (c .before .before .before .pre .1 .1))
 
-sub-e : tie.Need-sub-e Inv-loop μ-loop
-sub-e c = search needs
-
-mul-wide : tie.Need-mul-wide Inv-loop μ-loop
-mul-wide c = search needs
-
-shared-slice-read-wide : tie.Need-shared-slice-read-wide Inv-loop μ-loop
-shared-slice-read-wide c = search needs
-
-wide-requires : tie.Need-wide-requires Inv-loop μ-loop
-wide-requires c κs = search needs
-
-mul-wide-2 : tie.Need-mul-wide-2 Inv-loop μ-loop
-mul-wide-2 c = search needs
-
-shared-slice-read-wide-2 : tie.Need-shared-slice-read-wide-2 Inv-loop μ-loop
-shared-slice-read-wide-2 c = search needs
-
-wide-requires-2 : tie.Need-wide-requires-2 Inv-loop μ-loop
-wide-requires-2 c κs = search needs
-
 place-edge-requires : tie.Need-place-edge-requires Inv-loop μ-loop
 place-edge-requires c κs =
-    let start = c .before .before .before .before .before .before .before .before .before .before in
     let back6 = c .before .before .before .before .before .before in
+    let start = back6 .before .before .before .before in
     fill-both _ _ _ (start .pre .1 .0) _ _ (start .pre .0) (back6 .loop .e) (omega arith) (omega arith) (back6 .loop .inv .2) (c .before .before .before .wide .ensures) (c .before .wide2 .ensures)
-
-loop-less : tie.Need-loop-less Inv-loop μ-loop
-loop-less c = search needs
 
 loop-again : tie.Need-loop-again Inv-loop μ-loop
 loop-again c =
-    let start = c .before .before .before .before .before .before .before .before .before .before .before .before .before in
     let back9 = c .before .before .before .before .before .before .before .before .before in
+    let start = back9 .before .before .before .before in
     let q = fill-again _ _ _ (start .pre .1 .0) _ _ (start .pre .0) (back9 .loop .e) (omega arith) (omega arith) (back9 .loop .inv .2) (c .before .before .before .before .before .before .wide .ensures)
     (c .before .before .before .before .wide2 .ensures) (c .before .before .place-edge .ensures) in
     (omega arith, ap length q ∙ length-fillTo _ _ _ (start .pre .1 .0) _ _ (start .pre .0) _, q)
-
-same-length : tie.Need-same-length Inv-loop μ-loop
-same-length c = search needs
 
 returns : tie.Need-returns Inv-loop μ-loop
 returns c =
@@ -66,19 +39,5 @@ returns c =
 pub fill-spec : {M : Type 1} → statement M
 fill-spec =
     tie.close
-    (tie.spec
-    Inv-loop
-    μ-loop
-    loop-holds
-    sub-e
-    mul-wide
-    shared-slice-read-wide
-    wide-requires
-    mul-wide-2
-    shared-slice-read-wide-2
-    wide-requires-2
-    place-edge-requires
-    loop-less
-    loop-again
-    same-length
-    returns)
+    (tie.spec Inv-loop μ-loop loop-holds (λ c. search needs) (λ c. search needs) (λ c. search needs) (λ c κs. search needs) (λ c. search needs)
+    (λ c. search needs) (λ c κs. search needs) place-edge-requires (λ c. search needs) loop-again (λ c. search needs) returns)

@@ -12,14 +12,10 @@ returns c = room-many _ _ _ (c .if1 .taken)
 returns-2 : tie.Need-returns-2
 returns-2 c = room-short _ _ _ (omega (arith, c .if2 .taken))
 
-mul-result : tie.Need-mul-result
-mul-result c = search needs
-
-sub-result : tie.Need-sub-result
-sub-result c = search needs
-
 returns-3 : tie.Need-returns-3
 returns-3 c = room-enough _ _ _ (c .before .if1 .left) (less-over (c .before .before .args .n) (c .before .before .args .edges) (c .before .before .args .room) (omega (arith, c .if2 .left)) refl)
 
 pub has-room-spec : {M : Type 1} → statement M
-has-room-spec = tie.close (tie.spec returns returns-2 mul-result sub-result returns-3)
+has-room-spec =
+    tie.close
+    (tie.spec returns returns-2 (λ c. search needs) (λ c. search needs) returns-3)

@@ -13,4 +13,6 @@ returns-3 : tie.Need-returns-3
 returns-3 c = edge-good _ _ _ (c .before .if1 .left) (c .if2 .left)
 
 pub is-edge-spec : {M : Type 1} → statement M
-is-edge-spec = tie.close (tie.spec returns returns-2 returns-3)
+is-edge-spec =
+    tie.close
+    (tie.spec returns returns-2 returns-3)

@@ -4,14 +4,8 @@ use borrow.Author.Needs.{needs}
 use Rattle.linear_adjacency.proofs.lent.vertex_lists.Statement.{statement}
 use Rattle.linear_adjacency.proofs.lent.vertex_lists.Tie as tie
 
-are-edges-requires : tie.Need-are-edges-requires
-are-edges-requires c κs = search needs
-
 returns : tie.Need-returns
 returns c = lists-no-edges _ _ _ _ (c .before .are-edges .ensures) (not-true _ (c .if1 .taken))
-
-has-room-requires : tie.Need-has-room-requires
-has-room-requires c κs = search needs
 
 returns-2 : tie.Need-returns-2
 returns-2 c = lists-no-room _ _ _ _ (c .before .before .before .are-edges .ensures) (not-false _ (c .before .before .if1 .left)) (c .before .has-room .ensures) (not-true _ (c .if2 .taken))
@@ -21,9 +15,6 @@ build-requires c κs =
     let start = c .before .before .before .before .before .before .before .before in
     lists-needs _ _ _ (start .args .lists .now) (c .before .before .before .before .are-edges .ensures) (not-false _ (c .before .before .before .if1 .left)) (c .before .before .has-room .ensures) (not-false _ (c .before .if2 .left))
 
-same-length : tie.Need-same-length
-same-length c = search needs
-
 returns-3 : tie.Need-returns-3
 returns-3 c =
     let back7 = c .before .before .before .before .before .before .before in
@@ -32,11 +23,4 @@ returns-3 c =
 pub vertex-lists-spec : {M : Type 1} → statement M
 vertex-lists-spec =
     tie.close
-    (tie.spec
-    are-edges-requires
-    returns
-    has-room-requires
-    returns-2
-    build-requires
-    same-length
-    returns-3)
+    (tie.spec (λ c κs. search needs) returns (λ c κs. search needs) returns-2 build-requires (λ c. search needs) returns-3)

@@ -10,32 +10,8 @@ returns c = list-no-vertex _ _ _ (c .if1 .taken)
 returns-2 : tie.Need-returns-2
 returns-2 c = list-short _ _ _ (c .if2 .taken)
 
-mul-wide : tie.Need-mul-wide
-mul-wide c = search needs
-
-shared-slice-read-wide : tie.Need-shared-slice-read-wide
-shared-slice-read-wide c = search needs
-
-wide-requires : tie.Need-wide-requires
-wide-requires c κs = search needs
-
-add-wide : tie.Need-add-wide
-add-wide c = search needs
-
-mul-wide-2 : tie.Need-mul-wide-2
-mul-wide-2 c = search needs
-
-shared-slice-read-wide-2 : tie.Need-shared-slice-read-wide-2
-shared-slice-read-wide-2 c = search needs
-
-wide-requires-2 : tie.Need-wide-requires-2
-wide-requires-2 c κs = search needs
-
 returns-3 : tie.Need-returns-3
 returns-3 c = list-backwards _ _ _ (c .before .before .before .wide .ensures) (c .before .wide2 .ensures) (c .if3 .taken)
-
-sub-result : tie.Need-sub-result
-sub-result c = search needs
 
 returns-4 : tie.Need-returns-4
 returns-4 c = list-end _ _ _ (c .before .before .before .wide .ensures) (c .before .wide2 .ensures) (c .before .before .before .before .before .before .if1 .left) (c .before .before .before .before .before .if2 .left) (c .if3 .left)
@@ -43,16 +19,5 @@ returns-4 c = list-end _ _ _ (c .before .before .before .wide .ensures) (c .befo
 pub has-list-spec : {M : Type 1} → statement M
 has-list-spec =
     tie.close
-    (tie.spec
-    returns
-    returns-2
-    mul-wide
-    shared-slice-read-wide
-    wide-requires
-    add-wide
-    mul-wide-2
-    shared-slice-read-wide-2
-    wide-requires-2
-    returns-3
-    sub-result
-    returns-4)
+    (tie.spec returns returns-2 (λ c. search needs) (λ c. search needs) (λ c κs. search needs) (λ c. search needs) (λ c. search needs)
+    (λ c. search needs) (λ c κs. search needs) returns-3 (λ c. search needs) returns-4)

@@ -13,11 +13,10 @@ returns-2 c = outside-to _ _ _ _ _ _ (c .if2 .taken)
 returns-3 : tie.Need-returns-3
 returns-3 c = pairs-off _ _ _ _ _ _ (c .if3 .taken)
 
-other-end-requires : tie.Need-other-end-requires
-other-end-requires c κs = search needs
-
 returns-4 : tie.Need-returns-4
 returns-4 c = pairs-end _ _ _ _ _ _ (c .before .before .before .if1 .left) (c .before .before .if2 .left) (c .before .if3 .left) (c .other-end .ensures)
 
 pub is-inside-spec : {M : Type 1} → statement M
-is-inside-spec = tie.close (tie.spec returns returns-2 returns-3 other-end-requires returns-4)
+is-inside-spec =
+    tie.close
+    (tie.spec returns returns-2 returns-3 (λ c κs. search needs) returns-4)

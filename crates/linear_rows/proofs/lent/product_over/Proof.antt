@@ -20,35 +20,8 @@ Inv-loop diagonal off from to lists x v at count sum₀ k₀ sum k =
 abbrev μ-loop : tie.MeasureT-loop
 μ-loop diagonal off from to lists x v at count sum₀ k₀ sum k = count - k
 
-pair-at-requires : tie.Need-pair-at-requires Inv-loop μ-loop
-pair-at-requires c κs = search needs
-
-mul-scale : tie.Need-mul-scale Inv-loop μ-loop
-mul-scale c = search needs
-
-shared-slice-read-scale : tie.Need-shared-slice-read-scale Inv-loop μ-loop
-shared-slice-read-scale c = search needs
-
-scale-requires : tie.Need-scale-requires Inv-loop μ-loop
-scale-requires c κs = search needs
-
 loop-holds : tie.Need-loop-holds Inv-loop μ-loop
 loop-holds c = (omega arith, over-inside _ _ _ _ _, over-first _ _ _ _ _ (lent-diagonal _ _ _ _ _ _ (c .before .before .pair-at .ensures) (c .scale .ensures)))
-
-add-wide : tie.Need-add-wide Inv-loop μ-loop
-add-wide c = search needs
-
-mul-wide : tie.Need-mul-wide Inv-loop μ-loop
-mul-wide c = search needs
-
-shared-slice-read-wide : tie.Need-shared-slice-read-wide Inv-loop μ-loop
-shared-slice-read-wide c = search needs
-
-wide-requires : tie.Need-wide-requires Inv-loop μ-loop
-wide-requires c κs = search needs
-
-is-inside-requires : tie.Need-is-inside-requires Inv-loop μ-loop
-is-inside-requires c κs = search needs
 
 returns : tie.Need-returns Inv-loop μ-loop
 returns c =
@@ -58,21 +31,15 @@ returns c =
 term-requires : tie.Need-term-requires Inv-loop μ-loop
 term-requires c κs = sym (c .before .is-inside .ensures) ∙ not-false _ (c .if1 .left)
 
-add-requires : tie.Need-add-requires Inv-loop μ-loop
-add-requires c κs = search needs
-
 add-k : tie.Need-add-k Inv-loop μ-loop
 add-k c =
     let back17 = c .before .before .before .before .before .before .before .before .before .before .before .before .before .before .before .before .before in
     omega (arith, c .before .before .before .before .before .before .loop-test .taken, back17 .fits .count)
 
-loop-less : tie.Need-loop-less Inv-loop μ-loop
-loop-less c = search needs
-
 loop-again : tie.Need-loop-again Inv-loop μ-loop
 loop-again c =
-    let back7 = c .before .before .before .before .before .before .before in
     let back4 = c .before .before .before .before in
+    let back7 = back4 .before .before .before in
     let i = c .before .before .before .is-inside .ensures in (
       omega arith,
       over-still _ _ _ _ _ (back7 .loop .k) (back4 .wide .ensures) i (back7 .loop .inv .1) (not-false _ (c .before .before .if1 .left)),
@@ -86,23 +53,6 @@ returns-2 c = over-done _ _ _ _ _ (omega arith) (omega arith) (c .before .loop .
 pub product-over-spec : {M : Type 1} → statement M
 product-over-spec =
     tie.close
-    (tie.spec
-    Inv-loop
-    μ-loop
-    pair-at-requires
-    mul-scale
-    shared-slice-read-scale
-    scale-requires
-    loop-holds
-    add-wide
-    mul-wide
-    shared-slice-read-wide
-    wide-requires
-    is-inside-requires
-    returns
-    term-requires
-    add-requires
-    add-k
-    loop-less
-    loop-again
-    returns-2)
+    (tie.spec Inv-loop μ-loop (λ c κs. search needs) (λ c. search needs) (λ c. search needs) (λ c κs. search needs) loop-holds (λ c. search needs)
+    (λ c. search needs) (λ c. search needs) (λ c κs. search needs) (λ c κs. search needs) returns term-requires (λ c κs. search needs) add-k
+    (λ c. search needs) loop-again returns-2)

@@ -13,12 +13,10 @@ other-end-requires c κs = let p = pairs-parts _ _ _ _ _ _ (c .before .before .b
 pair-at-requires : tie.Need-pair-at-requires
 pair-at-requires c κs = rw (c .other-end .ensures) (pairs-parts _ _ _ _ _ _ (c .before .before .before .before .before .before .pre) .3)
 
-mul-requires : tie.Need-mul-requires
-mul-requires c κs = search needs
-
 returns : tie.Need-returns
 returns c = term-is _ _ _ _ _ _ (c .before .before .before .entry-at .ensures) (c .before .before .other-end .ensures) (c .before .pair-at .ensures) (c .mul .ensures)
 
 pub term-spec : {M : Type 1} → statement M
 term-spec =
-    tie.close (tie.spec entry-at-requires other-end-requires pair-at-requires mul-requires returns)
+    tie.close
+    (tie.spec entry-at-requires other-end-requires pair-at-requires (λ c κs. search needs) returns)

@@ -7,38 +7,20 @@ use borrow.Author.Needs.{needs}
 use Rattle.linear_rows.proofs.lent.vertex_product.Statement.{statement}
 use Rattle.linear_rows.proofs.lent.vertex_product.Tie as tie
 
-has-list-requires : tie.Need-has-list-requires
-has-list-requires c κs = search needs
-
 returns : tie.Need-returns
 returns c = vertex-no-list _ _ _ _ _ _ _ (c .before .has-list .ensures) (not-true _ (c .if1 .taken))
 
 returns-2 : tie.Need-returns-2
 returns-2 c = vertex-past _ _ _ _ _ _ _ (c .before .before .has-list .ensures) (not-false _ (c .before .if1 .left)) (c .if2 .taken)
 
-mul-wide : tie.Need-mul-wide
-mul-wide c = search needs
-
 shared-slice-read-wide : tie.Need-shared-slice-read-wide
 shared-slice-read-wide c = let p = list-parts _ _ _ (sym (c .before .before .before .has-list .ensures) ∙ not-false _ (c .before .before .if1 .left)) in omega (arith, p .0, p .2)
-
-wide-requires : tie.Need-wide-requires
-wide-requires c κs = search needs
 
 add-wide : tie.Need-add-wide
 add-wide c = let p = list-parts _ _ _ (sym (c .before .before .before .before .has-list .ensures) ∙ not-false _ (c .before .before .before .if1 .left)) in omega (arith, p .0, p .2)
 
-mul-wide-2 : tie.Need-mul-wide-2
-mul-wide-2 c = search needs
-
 shared-slice-read-wide-2 : tie.Need-shared-slice-read-wide-2
 shared-slice-read-wide-2 c = let p = list-parts _ _ _ (sym (c .before .before .before .before .before .has-list .ensures) ∙ not-false _ (c .before .before .before .before .if1 .left)) in omega (arith, p .0, p .2)
-
-wide-requires-2 : tie.Need-wide-requires-2
-wide-requires-2 c κs = search needs
-
-add-product-over : tie.Need-add-product-over
-add-product-over c = search needs
 
 add-product-over-2 : tie.Need-add-product-over-2
 add-product-over-2 c = let p = list-parts _ _ _ (sym (c .before .before .before .before .before .before .has-list .ensures) ∙ not-false _ (c .before .before .before .before .before .if1 .left)) in omega (arith, p .1, p .2, c .before .before .wide .ensures)
@@ -59,19 +41,5 @@ returns-3 c =
 pub vertex-product-spec : {M : Type 1} → statement M
 vertex-product-spec =
     tie.close
-    (tie.spec
-    has-list-requires
-    returns
-    returns-2
-    mul-wide
-    shared-slice-read-wide
-    wide-requires
-    add-wide
-    mul-wide-2
-    shared-slice-read-wide-2
-    wide-requires-2
-    add-product-over
-    add-product-over-2
-    sub-product-over
-    product-over-requires
-    returns-3)
+    (tie.spec (λ c κs. search needs) returns returns-2 (λ c. search needs) shared-slice-read-wide (λ c κs. search needs) add-wide (λ c. search needs)
+    shared-slice-read-wide-2 (λ c κs. search needs) (λ c. search needs) add-product-over-2 sub-product-over product-over-requires returns-3)

@@ -4,12 +4,11 @@ use borrow.Author.Needs.{needs}
 use Rattle.linear_vectors.proofs.residual.add_cell.Statement.{statement}
 use Rattle.linear_vectors.proofs.residual.add_cell.Tie as tie
 
-load-requires : tie.Need-load-requires
-load-requires c κs = search needs
-
 returns : tie.Need-returns
 unfolding addC
 returns c = cc
 
 pub add-cell-spec : {M : Type 1} → statement M
-add-cell-spec = tie.close (tie.spec load-requires returns)
+add-cell-spec =
+    tie.close
+    (tie.spec (λ c κs. search needs) returns)

@@ -15,18 +15,6 @@ abbrev μ-loop : tie.MeasureT-loop
 loop-holds : tie.Need-loop-holds Inv-loop μ-loop
 loop-holds c = search (add-none, needs)
 
-add-add-cell : tie.Need-add-add-cell Inv-loop μ-loop
-add-add-cell c = search needs
-
-add-cell-requires : tie.Need-add-cell-requires Inv-loop μ-loop
-add-cell-requires c κs = search needs
-
-add-k : tie.Need-add-k Inv-loop μ-loop
-add-k c = search needs
-
-loop-less : tie.Need-loop-less Inv-loop μ-loop
-loop-less c = search needs
-
 loop-again : tie.Need-loop-again Inv-loop μ-loop
 loop-again c = search (add-again, needs)
 
@@ -36,13 +24,4 @@ returns c = search add-done
 pub add-cells-spec : {M : Type 1} → statement M
 add-cells-spec =
     tie.close
-    (tie.spec
-    Inv-loop
-    μ-loop
-    loop-holds
-    add-add-cell
-    add-cell-requires
-    add-k
-    loop-less
-    loop-again
-    returns)
+    (tie.spec Inv-loop μ-loop loop-holds (λ c. search needs) (λ c κs. search needs) (λ c. search needs) (λ c. search needs) loop-again returns)

@@ -16,17 +16,11 @@ Inv-loop work₀ r q inverse n alpha count end s₀ i₀ work s i = (end ≡ 2 *
 abbrev μ-loop : tie.MeasureT-loop
 μ-loop work₀ r q inverse n alpha count end s₀ i₀ work s i = end - i
 
-mul-end : tie.Need-mul-end Inv-loop μ-loop
-mul-end c = search needs
-
 loop-holds : tie.Need-loop-holds Inv-loop μ-loop
 loop-holds c = (omega arith, omega arith, omega arith, omega arith, lag-none _ _ _ _ _ _)
 
 lag-at-requires : tie.Need-lag-at-requires Inv-loop μ-loop
 lag-at-requires c κs = omega arith
-
-add-i : tie.Need-add-i Inv-loop μ-loop
-add-i c = search needs
 
 loop-less : tie.Need-loop-less Inv-loop μ-loop
 loop-less c = omega arith
@@ -34,23 +28,10 @@ loop-less c = omega arith
 loop-again : tie.Need-loop-again Inv-loop μ-loop
 loop-again c = search (lag-again, needs)
 
-same-length : tie.Need-same-length Inv-loop μ-loop
-same-length c = search needs
-
 returns : tie.Need-returns Inv-loop μ-loop
 returns c = search lag-done
 
 pub lagged-spec : {M : Type 1} → statement M
 lagged-spec =
     tie.close
-    (tie.spec
-    Inv-loop
-    μ-loop
-    mul-end
-    loop-holds
-    lag-at-requires
-    add-i
-    loop-less
-    loop-again
-    same-length
-    returns)
+    (tie.spec Inv-loop μ-loop (λ c. search needs) loop-holds lag-at-requires (λ c. search needs) loop-less loop-again (λ c. search needs) returns)

@@ -5,12 +5,11 @@ use borrow.Author.Needs.{needs}
 use Rattle.linear_vectors.proofs.residual.products_at.Statement.{statement}
 use Rattle.linear_vectors.proofs.residual.products_at.Tie as tie
 
-scale-requires : tie.Need-scale-requires
-scale-requires c κs = search needs
-
 returns : tie.Need-returns
 unfolding productsAt reTerm
 returns c = cc
 
 pub products-at-spec : {M : Type 1} → statement M
-products-at-spec = tie.close (tie.spec scale-requires returns)
+products-at-spec =
+    tie.close
+    (tie.spec (λ c κs. search needs) returns)

@@ -4,15 +4,11 @@ use borrow.Author.Needs.{needs}
 use Rattle.linear_vectors.proofs.residual.sub_scaled.Statement.{statement}
 use Rattle.linear_vectors.proofs.residual.sub_scaled.Tie as tie
 
-scale-requires : tie.Need-scale-requires
-scale-requires c κs = search needs
-
-sub-requires : tie.Need-sub-requires
-sub-requires c κs = search needs
-
 returns : tie.Need-returns
 unfolding subScaled
 returns c = cc
 
 pub sub-scaled-spec : {M : Type 1} → statement M
-sub-scaled-spec = tie.close (tie.spec scale-requires sub-requires returns)
+sub-scaled-spec =
+    tie.close
+    (tie.spec (λ c κs. search needs) (λ c κs. search needs) returns)

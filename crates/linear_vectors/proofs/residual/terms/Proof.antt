@@ -17,23 +17,11 @@ abbrev μ-loop : tie.MeasureT-loop
 loop-holds : tie.Need-loop-holds Inv-loop μ-loop
 loop-holds c = search (terms-none, needs)
 
-add-term-one : tie.Need-add-term-one Inv-loop μ-loop
-add-term-one c = search needs
-
 term-one-requires : tie.Need-term-one-requires Inv-loop μ-loop
 term-one-requires c κs = omega arith
 
-add-k : tie.Need-add-k Inv-loop μ-loop
-add-k c = search needs
-
-loop-less : tie.Need-loop-less Inv-loop μ-loop
-loop-less c = search needs
-
 loop-again : tie.Need-loop-again Inv-loop μ-loop
 loop-again c = search (terms-again, needs)
-
-same-length : tie.Need-same-length Inv-loop μ-loop
-same-length c = search needs
 
 returns : tie.Need-returns Inv-loop μ-loop
 returns c = search terms-done
@@ -41,14 +29,5 @@ returns c = search terms-done
 pub terms-spec : {M : Type 1} → statement M
 terms-spec =
     tie.close
-    (tie.spec
-    Inv-loop
-    μ-loop
-    loop-holds
-    add-term-one
-    term-one-requires
-    add-k
-    loop-less
-    loop-again
-    same-length
+    (tie.spec Inv-loop μ-loop loop-holds (λ c. search needs) term-one-requires (λ c. search needs) (λ c. search needs) loop-again (λ c. search needs)
     returns)

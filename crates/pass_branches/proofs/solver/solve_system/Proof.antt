@@ -3,74 +3,51 @@ use native.Mathlib.Omega.{arith}
 use Rattle.linear_cells.proofs.Loops.{apart}
 use Rattle.pass_solution.proofs.Chains.{not-done}
 use Rattle.pass_branches.proofs.Copies.{entries-room, copied-room, copied-engine, leaves-linear}
+use Rattle.pass_branches.proofs.Modes.{below}
 use Rattle.pass_branches.proofs.Ends.{linear-refused, linear-angles}
 use borrow.Author.Needs.{needs}
 use Rattle.pass_branches.proofs.solver.solve_system.Statement.{statement}
 use Rattle.pass_branches.proofs.solver.solve_system.Tie as tie
 
-linear-most-requires : tie.Need-linear-most-requires
-linear-most-requires c κs = search needs
-
 entries-requires : tie.Need-entries-requires
 entries-requires c κs =
-    let start = c .before .before .before .before .before .before .before in
-    (start .pre .1 .1 .1 .ready .interleaved, entries-room _ _ _ _ _ (start .pre .0 .0) (start .pre .1 .1 .0))
+    let start = c .before .before .before .before .before .before .before .before .before in
+    (start .pre .1 .1 .1 .ready .interleaved, entries-room _ (start .pre .0 .system-room .soft-room .h-room) (start .pre .1 .1 .0))
 
 solve-requires : tie.Need-solve-requires
 solve-requires c κs =
-    let start = c .before .before .before .before .before .before .before .before .before .before .before in
+    let start = c .before .before .before .before .before .before .before .before .before .before .before .before .before in
     let back3 = c .before .before .before in (
-      copied-room _ _ _ _ _ _ _ _ _ (start .pre .0 .0) (start .pre .1 .1 .0) (start .pre .1 .1 .1) (back3 .entries .ensures),
-      (start .pre .1 .0, copied-engine _ _ _ _ _ _ _ _ _ (start .pre .0 .0) (start .pre .1 .1 .0) (start .pre .1 .1 .1) (back3 .entries .ensures)),
+      copied-room _ _ _ _ _ (start .pre .0 .system-room .soft-room .h-room) (start .pre .1 .1 .0) (start .pre .1 .1 .1) (back3 .entries .ensures),
+      (start .pre .1 .0, copied-engine _ _ _ _ _ (start .pre .0 .system-room .soft-room .h-room) (start .pre .1 .1 .0) (start .pre .1 .1 .1) (back3 .entries .ensures)),
     )
-
-enum-told : tie.Need-enum-told
-enum-told c = search needs
-
-enum-told-2 : tie.Need-enum-told-2
-enum-told-2 c = search needs
-
-same-length : tie.Need-same-length
-same-length c = search needs
 
 returns : tie.Need-returns
 returns c =
-    let start = c .before .before .before .before .before .before .before .before .before .before .before .before .before .before .before .before in
-    let back11 = c .before .before .before .before .before .before .before .before .before .before .before in
     let back8 = c .before .before .before .before .before .before .before .before in
-    leaves-linear _ _ _ _ _ _ _ _ _ (start .pre .0 .0) (start .pre .1 .1 .0) (start .pre .1 .1 .1) (back8 .entries .ensures) _
-    (linear-refused _ _ _ _ _ _ _ (copied-room _ _ _ _ _ _ _ _ _ (start .pre .0 .0) (start .pre .1 .1 .0) (start .pre .1 .1 .1) (back8 .entries .ensures), start .pre .0 .1) (back11 .linear-most .ensures)
+    let back11 = back8 .before .before .before in
+    let start = back11 .before .before .before .before .before .before .before in
+    leaves-linear _ _ _ _ _ (start .pre .0 .system-room .soft-room .h-room) (start .pre .1 .1 .0) (start .pre .1 .1 .1) (back8 .entries .ensures)
+    (linear-refused _ _ _ _ (copied-room _ _ _ _ _ (start .pre .0 .system-room .soft-room .h-room) (start .pre .1 .1 .0) (start .pre .1 .1 .1) (back8 .entries .ensures), below _ (start .pre .0)) (back11 .linear-most .ensures)
     (c .before .before .before .before .solve .ensures) (not-done (c .enum-told2 .given .1)))
 
 angles-from-requires : tie.Need-angles-from-requires
 angles-from-requires c κs =
-    let start = c .before .before .before .before .before .before .before .before .before .before .before .before .before .before .before .before .before in
-    omega (arith, apart, start .pre .0 .0 .vector-room .vectors-in)
-
-same-length-2 : tie.Need-same-length-2
-same-length-2 c = search needs
+    let start = c .before .before .before .before .before .before .before .before .before .before .before .before .before .before .before .before .before .before .before in
+    omega (arith, apart, start .pre .0 .system-room .soft-room .h-room .vector-room .vectors-in)
 
 returns-2 : tie.Need-returns-2
 returns-2 c =
-    let start = c .before .before .before .before .before .before .before .before .before .before .before .before .before .before .before .before .before .before .before .before in
-    let back15 = c .before .before .before .before .before .before .before .before .before .before .before .before .before .before .before in
-    let back12 = c .before .before .before .before .before .before .before .before .before .before .before .before in
     let back8 = c .before .before .before .before .before .before .before .before in
-    leaves-linear _ _ _ _ _ _ _ _ _ (start .pre .0 .0) (start .pre .1 .1 .0) (start .pre .1 .1 .1) (back12 .entries .ensures) _
-    (linear-angles _ _ _ _ _ _ _ (copied-room _ _ _ _ _ _ _ _ _ (start .pre .0 .0) (start .pre .1 .1 .0) (start .pre .1 .1 .1) (back12 .entries .ensures), start .pre .0 .1) (back15 .linear-most .ensures)
+    let back12 = back8 .before .before .before .before in
+    let back15 = back12 .before .before .before in
+    let start = back15 .before .before .before .before .before .before .before in
+    leaves-linear _ _ _ _ _ (start .pre .0 .system-room .soft-room .h-room) (start .pre .1 .1 .0) (start .pre .1 .1 .1) (back12 .entries .ensures)
+    (linear-angles _ _ _ _ (copied-room _ _ _ _ _ (start .pre .0 .system-room .soft-room .h-room) (start .pre .1 .1 .0) (start .pre .1 .1 .1) (back12 .entries .ensures), below _ (start .pre .0)) (back15 .linear-most .ensures)
     (back8 .solve .ensures) (c .before .before .before .before .enum-told .given .1) (c .before .before .angles-from .ensures))
 
 pub solve-system-spec : {M : Type 1} → statement M
 solve-system-spec =
     tie.close
-    (tie.spec
-    linear-most-requires
-    entries-requires
-    solve-requires
-    enum-told
-    enum-told-2
-    same-length
-    returns
-    angles-from-requires
-    same-length-2
-    returns-2)
+    (tie.spec (λ c κs. search needs) entries-requires solve-requires (λ c. search needs) (λ c. search needs) (λ c. search needs) returns
+    angles-from-requires (λ c. search needs) returns-2)

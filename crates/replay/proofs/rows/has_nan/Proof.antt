@@ -19,26 +19,16 @@ abbrev μ-loop : tie.MeasureT-loop
 loop-holds : tie.Need-loop-holds Inv-loop μ-loop
 loop-holds c = (omega arith, any-none _)
 
-add-word : tie.Need-add-word Inv-loop μ-loop
-add-word c = search needs
-
-word-requires : tie.Need-word-requires Inv-loop μ-loop
-word-requires c κs = search needs
-
-is-nan-pattern-requires : tie.Need-is-nan-pattern-requires Inv-loop μ-loop
-is-nan-pattern-requires c κs = search needs
-
 returns : tie.Need-returns Inv-loop μ-loop
-returns c = any-found (λ i. nanPattern (wordAt (c .before .before .before .before .before .before .args .row .now) (c .before .before .before .before .before .before .args .k + i))) _ (c .before .before .before .before .loop .i) (omega arith) ((rw (← c .before .before .word .ensures, ← c .before .is-nan-pattern .ensures) (c .if1 .taken)))
-
-add-i : tie.Need-add-i Inv-loop μ-loop
-add-i c = search needs
-
-loop-less : tie.Need-loop-less Inv-loop μ-loop
-loop-less c = search needs
+returns c =
+    let start = c .before .before .before .before .before .before in
+    any-found (λ i. nanPattern (wordAt (start .args .row .now) (start .args .k + i))) _ (c .before .before .before .before .loop .i) (omega arith) ((rw (← c .before .before .word .ensures, ← c .before .is-nan-pattern .ensures) (c .if1 .taken)))
 
 loop-again : tie.Need-loop-again Inv-loop μ-loop
-loop-again c = (omega arith, any-again (λ i. nanPattern (wordAt (c .before .before .before .before .before .before .args .row .now) (c .before .before .before .before .before .before .args .k + i))) (c .before .before .before .before .loop .i) (c .before .before .before .before .loop .inv .1) ((rw (← c .before .before .word .ensures, ← c .before .is-nan-pattern .ensures) (c .if1 .left))))
+loop-again c =
+    let back4 = c .before .before .before .before in
+    let start = back4 .before .before in
+    (omega arith, any-again (λ i. nanPattern (wordAt (start .args .row .now) (start .args .k + i))) (back4 .loop .i) (back4 .loop .inv .1) ((rw (← c .before .before .word .ensures, ← c .before .is-nan-pattern .ensures) (c .if1 .left))))
 
 returns-2 : tie.Need-returns-2 Inv-loop μ-loop
 returns-2 c = any-done (λ i. nanPattern (wordAt (c .before .before .before .args .row .now) (c .before .before .before .args .k + i))) _ (c .before .loop .i) (omega arith) (omega arith) (c .before .loop .inv .1)
@@ -46,15 +36,5 @@ returns-2 c = any-done (λ i. nanPattern (wordAt (c .before .before .before .arg
 pub has-nan-spec : {M : Type 1} → statement M
 has-nan-spec =
     tie.close
-    (tie.spec
-    Inv-loop
-    μ-loop
-    loop-holds
-    add-word
-    word-requires
-    is-nan-pattern-requires
-    returns
-    add-i
-    loop-less
-    loop-again
-    returns-2)
+    (tie.spec Inv-loop μ-loop loop-holds (λ c. search needs) (λ c κs. search needs) (λ c κs. search needs) returns (λ c. search needs)
+    (λ c. search needs) loop-again returns-2)

@@ -21,23 +21,15 @@ abbrev μ-loop : tie.MeasureT-loop
 loop-holds : tie.Need-loop-holds Inv-loop μ-loop
 loop-holds c = (omega arith, any-none _)
 
-add-word : tie.Need-add-word Inv-loop μ-loop
-add-word c = search needs
-
-word-requires : tie.Need-word-requires Inv-loop μ-loop
-word-requires c κs = search needs
-
 returns : tie.Need-returns Inv-loop μ-loop
-returns c = any-found (λ i. eqb (wordAt (c .before .before .before .before .before .args .row .now) (c .before .before .before .before .before .args .k + i)) (c .before .before .before .before .before .args .w)) _ (c .before .before .before .loop .i) (omega arith) (eq-eqb _ _ (sym (c .before .word .ensures) ∙ c .if1 .taken))
-
-add-i : tie.Need-add-i Inv-loop μ-loop
-add-i c = search needs
-
-loop-less : tie.Need-loop-less Inv-loop μ-loop
-loop-less c = search needs
+returns c =
+    let start = c .before .before .before .before .before in
+    any-found (λ i. eqb (wordAt (start .args .row .now) (start .args .k + i)) (start .args .w)) _ (c .before .before .before .loop .i) (omega arith) (eq-eqb _ _ (sym (c .before .word .ensures) ∙ c .if1 .taken))
 
 loop-again : tie.Need-loop-again Inv-loop μ-loop
-loop-again c = (omega arith, any-again (λ i. eqb (wordAt (c .before .before .before .before .before .args .row .now) (c .before .before .before .before .before .args .k + i)) (c .before .before .before .before .before .args .w)) (c .before .before .before .loop .i) (c .before .before .before .loop .inv .1) (ne-eqb _ _ (λ e. c .if1 .left (c .before .word .ensures ∙ e))))
+loop-again c =
+    let start = c .before .before .before .before .before in
+    (omega arith, any-again (λ i. eqb (wordAt (start .args .row .now) (start .args .k + i)) (start .args .w)) (c .before .before .before .loop .i) (c .before .before .before .loop .inv .1) (ne-eqb _ _ (λ e. c .if1 .left (c .before .word .ensures ∙ e))))
 
 returns-2 : tie.Need-returns-2 Inv-loop μ-loop
 returns-2 c = any-done (λ i. eqb (wordAt (c .before .before .before .args .row .now) (c .before .before .before .args .k + i)) (c .before .before .before .args .w)) _ (c .before .loop .i) (omega arith) (omega arith) (c .before .loop .inv .1)
@@ -45,14 +37,5 @@ returns-2 c = any-done (λ i. eqb (wordAt (c .before .before .before .args .row 
 pub has-word-spec : {M : Type 1} → statement M
 has-word-spec =
     tie.close
-    (tie.spec
-    Inv-loop
-    μ-loop
-    loop-holds
-    add-word
-    word-requires
-    returns
-    add-i
-    loop-less
-    loop-again
+    (tie.spec Inv-loop μ-loop loop-holds (λ c. search needs) (λ c κs. search needs) returns (λ c. search needs) (λ c. search needs) loop-again
     returns-2)

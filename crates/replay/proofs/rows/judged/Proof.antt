@@ -3,17 +3,8 @@ use borrow.Author.Needs.{needs}
 use Rattle.replay.proofs.rows.judged.Statement.{statement}
 use Rattle.replay.proofs.rows.judged.Tie as tie
 
-sub-left : tie.Need-sub-left
-sub-left c = search needs
-
-wrapping-add-u64-requires : tie.Need-wrapping-add-u64-requires
-wrapping-add-u64-requires c κs = search needs
-
 returns : tie.Need-returns
 returns c = (simp (c .before .before .wrapping-add-u64 .ensures, c .before .if1 .taken) (search needs), search needs)
-
-wrapping-add-u64-requires-2 : tie.Need-wrapping-add-u64-requires-2
-wrapping-add-u64-requires-2 c κs = search needs
 
 returns-2 : tie.Need-returns-2
 returns-2 c = (simp (c .before .wrapping-add-u642 .ensures, c .before .before .before .wrapping-add-u64 .ensures, c .before .before .if1 .left) (search needs), search needs)
@@ -21,4 +12,4 @@ returns-2 c = (simp (c .before .wrapping-add-u642 .ensures, c .before .before .b
 pub judged-spec : {M : Type 1} → statement M
 judged-spec =
     tie.close
-    (tie.spec sub-left wrapping-add-u64-requires returns wrapping-add-u64-requires-2 returns-2)
+    (tie.spec (λ c. search needs) (λ c κs. search needs) returns (λ c κs. search needs) returns-2)

@@ -7,24 +7,6 @@ use lib.Seq.{length-take-le}
 use Rattle.replay.proofs.rows.next.Statement.{statement}
 use Rattle.replay.proofs.rows.next.Tie as tie
 
-mul-end : tie.Need-mul-end
-mul-end c = search needs
-
-sub-read-full : tie.Need-sub-read-full
-sub-read-full c = search needs
-
-part-read-full-start : tie.Need-part-read-full-start
-part-read-full-start c = search needs
-
-part-read-full-end : tie.Need-part-read-full-end
-part-read-full-end c = search needs
-
-read-full-requires : tie.Need-read-full-requires
-read-full-requires c κs = search needs
-
-same-length : tie.Need-same-length
-same-length c = search needs
-
 returns : tie.Need-returns
 returns c = (
   (
@@ -37,11 +19,4 @@ returns c = (
 pub next-spec : {M : Type 1} → statement M
 next-spec =
     tie.close
-    (tie.spec
-    mul-end
-    sub-read-full
-    part-read-full-start
-    part-read-full-end
-    read-full-requires
-    same-length
-    returns)
+    (tie.spec (λ c. search needs) (λ c. search needs) (λ c. search needs) (λ c. search needs) (λ c κs. search needs) (λ c. search needs) returns)

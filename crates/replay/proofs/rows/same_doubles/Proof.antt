@@ -23,32 +23,17 @@ returns c = same-unlike sameAs _ _ (c .if1 .taken)
 loop-holds : tie.Need-loop-holds Inv-loop μ-loop
 loop-holds c = (omega arith, (search needs, same-none sameAs _ _))
 
-mul-same : tie.Need-mul-same Inv-loop μ-loop
-mul-same c = search needs
-
-shared-slice-read-same : tie.Need-shared-slice-read-same Inv-loop μ-loop
-shared-slice-read-same c = search needs
-
-mul-same-2 : tie.Need-mul-same-2 Inv-loop μ-loop
-mul-same-2 c = search needs
-
-shared-slice-read-same-2 : tie.Need-shared-slice-read-same-2 Inv-loop μ-loop
-shared-slice-read-same-2 c = search needs
-
-same-requires : tie.Need-same-requires Inv-loop μ-loop
-same-requires c κs = search needs
-
 returns-2 : tie.Need-returns-2 Inv-loop μ-loop
-returns-2 c = same-differs sameAs (c .before .before .before .before .before .before .before .before .before .args .a .now) (c .before .before .before .before .before .before .before .before .before .args .b .now) nan (c .before .before .before .before .before .loop .i) (omega arith) (omega arith) (c .before .before .before .before .before .loop .inv .1 .1) (sym (c .before .same .ensures) ∙ not-true _ (c .if2 .taken))
-
-add-i : tie.Need-add-i Inv-loop μ-loop
-add-i c = search needs
-
-loop-less : tie.Need-loop-less Inv-loop μ-loop
-loop-less c = search needs
+returns-2 c =
+    let back5 = c .before .before .before .before .before in
+    let start = back5 .before .before .before .before in
+    same-differs sameAs (start .args .a .now) (start .args .b .now) nan (back5 .loop .i) (omega arith) (omega arith) (back5 .loop .inv .1 .1) (sym (c .before .same .ensures) ∙ not-true _ (c .if2 .taken))
 
 loop-again : tie.Need-loop-again Inv-loop μ-loop
-loop-again c = (omega arith, (search needs, same-more sameAs (c .before .before .before .before .before .before .before .before .before .args .a .now) (c .before .before .before .before .before .before .before .before .before .args .b .now) nan (c .before .before .before .before .before .loop .i) (omega arith) (omega arith) (c .before .before .before .before .before .loop .inv .1 .1) (sym (c .before .same .ensures) ∙ not-false _ (c .if2 .left))))
+loop-again c =
+    let back5 = c .before .before .before .before .before in
+    let start = back5 .before .before .before .before in
+    (omega arith, (search needs, same-more sameAs (start .args .a .now) (start .args .b .now) nan (back5 .loop .i) (omega arith) (omega arith) (back5 .loop .inv .1 .1) (sym (c .before .same .ensures) ∙ not-false _ (c .if2 .left))))
 
 returns-3 : tie.Need-returns-3 Inv-loop μ-loop
 returns-3 c = same-done sameAs _ _ (c .before .loop .i) (omega arith) (omega arith) (c .before .loop .inv .1 .1)
@@ -56,18 +41,5 @@ returns-3 c = same-done sameAs _ _ (c .before .loop .i) (omega arith) (omega ari
 pub same-doubles-spec : {M : Type 1} → statement M
 same-doubles-spec =
     tie.close
-    (tie.spec
-    Inv-loop
-    μ-loop
-    returns
-    loop-holds
-    mul-same
-    shared-slice-read-same
-    mul-same-2
-    shared-slice-read-same-2
-    same-requires
-    returns-2
-    add-i
-    loop-less
-    loop-again
-    returns-3)
+    (tie.spec Inv-loop μ-loop returns loop-holds (λ c. search needs) (λ c. search needs) (λ c. search needs) (λ c. search needs)
+    (λ c κs. search needs) returns-2 (λ c. search needs) (λ c. search needs) loop-again returns-3)

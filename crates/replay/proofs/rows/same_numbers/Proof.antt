@@ -23,29 +23,17 @@ returns c = same-unlike eqb _ _ (c .if1 .taken)
 loop-holds : tie.Need-loop-holds Inv-loop μ-loop
 loop-holds c = (omega arith, (search needs, same-none eqb _ _))
 
-mul-if2 : tie.Need-mul-if2 Inv-loop μ-loop
-mul-if2 c = search needs
-
-shared-slice-read-if2 : tie.Need-shared-slice-read-if2 Inv-loop μ-loop
-shared-slice-read-if2 c = search needs
-
-mul-if2-2 : tie.Need-mul-if2-2 Inv-loop μ-loop
-mul-if2-2 c = search needs
-
-shared-slice-read-if2-2 : tie.Need-shared-slice-read-if2-2 Inv-loop μ-loop
-shared-slice-read-if2-2 c = search needs
-
 returns-2 : tie.Need-returns-2 Inv-loop μ-loop
-returns-2 c = same-differs eqb (c .before .before .before .before .before .before .args .a .now) (c .before .before .before .before .before .before .args .b .now) 0 (c .before .before .before .before .loop .i) (omega arith) (omega arith) (c .before .before .before .before .loop .inv .1 .1) (ne-eqb _ _ (c .if2 .taken))
-
-add-i : tie.Need-add-i Inv-loop μ-loop
-add-i c = search needs
-
-loop-less : tie.Need-loop-less Inv-loop μ-loop
-loop-less c = search needs
+returns-2 c =
+    let back4 = c .before .before .before .before in
+    let start = back4 .before .before in
+    same-differs eqb (start .args .a .now) (start .args .b .now) 0 (back4 .loop .i) (omega arith) (omega arith) (back4 .loop .inv .1 .1) (ne-eqb _ _ (c .if2 .taken))
 
 loop-again : tie.Need-loop-again Inv-loop μ-loop
-loop-again c = (omega arith, (search needs, same-more eqb (c .before .before .before .before .before .before .args .a .now) (c .before .before .before .before .before .before .args .b .now) 0 (c .before .before .before .before .loop .i) (omega arith) (omega arith) (c .before .before .before .before .loop .inv .1 .1) (eq-eqb _ _ (c .if2 .left))))
+loop-again c =
+    let back4 = c .before .before .before .before in
+    let start = back4 .before .before in
+    (omega arith, (search needs, same-more eqb (start .args .a .now) (start .args .b .now) 0 (back4 .loop .i) (omega arith) (omega arith) (back4 .loop .inv .1 .1) (eq-eqb _ _ (c .if2 .left))))
 
 returns-3 : tie.Need-returns-3 Inv-loop μ-loop
 returns-3 c = same-done eqb _ _ (c .before .loop .i) (omega arith) (omega arith) (c .before .loop .inv .1 .1)
@@ -53,17 +41,5 @@ returns-3 c = same-done eqb _ _ (c .before .loop .i) (omega arith) (omega arith)
 pub same-numbers-spec : {M : Type 1} → statement M
 same-numbers-spec =
     tie.close
-    (tie.spec
-    Inv-loop
-    μ-loop
-    returns
-    loop-holds
-    mul-if2
-    shared-slice-read-if2
-    mul-if2-2
-    shared-slice-read-if2-2
-    returns-2
-    add-i
-    loop-less
-    loop-again
-    returns-3)
+    (tie.spec Inv-loop μ-loop returns loop-holds (λ c. search needs) (λ c. search needs) (λ c. search needs) (λ c. search needs) returns-2
+    (λ c. search needs) (λ c. search needs) loop-again returns-3)

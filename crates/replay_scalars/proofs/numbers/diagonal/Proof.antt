@@ -3,43 +3,22 @@ use borrow.Author.Needs.{needs}
 use Rattle.replay_scalars.proofs.numbers.diagonal.Statement.{statement}
 use Rattle.replay_scalars.proofs.numbers.diagonal.Tie as tie
 
-pair-requires : tie.Need-pair-requires
-pair-requires c κs = search needs
-
-pair-requires-2 : tie.Need-pair-requires-2
-pair-requires-2 c κs = search needs
-
-pair-requires-3 : tie.Need-pair-requires-3
-pair-requires-3 c κs = search needs
-
-double-requires : tie.Need-double-requires
-double-requires c κs = search needs
-
-double-requires-2 : tie.Need-double-requires-2
-double-requires-2 c κs = search needs
-
-dirichlet-diagonal-requires : tie.Need-dirichlet-diagonal-requires
-dirichlet-diagonal-requires c κs = search needs
-
-double-requires-3 : tie.Need-double-requires-3
-double-requires-3 c κs = search needs
-
-same-requires : tie.Need-same-requires
-same-requires c κs = search needs
-
 returns : tie.Need-returns
-returns c = simp (c .same .ensures, c .before .double3 .ensures, c .before .before .dirichlet-diagonal .ensures, c .before .before .before .double2 .ensures, c .before .before .before .before .double .ensures, c .before .before .before .before .before .pair3 .ensures, c .before .before .before .before .before .before .pair2 .ensures, c .before .before .before .before .before .before .before .pair .ensures)
+returns c =
+    let back7 = c .before .before .before .before .before .before .before in
+    simp (
+      c .same .ensures,
+      c .before .double3 .ensures,
+      c .before .before .dirichlet-diagonal .ensures,
+      c .before .before .before .double2 .ensures,
+      c .before .before .before .before .double .ensures,
+      c .before .before .before .before .before .pair3 .ensures,
+      c .before .before .before .before .before .before .pair2 .ensures,
+      back7 .pair .ensures,
+    )
 
 pub diagonal-spec : {M : Type 1} → statement M
 diagonal-spec =
     tie.close
-    (tie.spec
-    pair-requires
-    pair-requires-2
-    pair-requires-3
-    double-requires
-    double-requires-2
-    dirichlet-diagonal-requires
-    double-requires-3
-    same-requires
-    returns)
+    (tie.spec (λ c κs. search needs) (λ c κs. search needs) (λ c κs. search needs) (λ c κs. search needs) (λ c κs. search needs)
+    (λ c κs. search needs) (λ c κs. search needs) (λ c κs. search needs) returns)

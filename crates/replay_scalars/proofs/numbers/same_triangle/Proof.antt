@@ -3,26 +3,18 @@ use borrow.Author.Needs.{needs}
 use Rattle.replay_scalars.proofs.numbers.same_triangle.Statement.{statement}
 use Rattle.replay_scalars.proofs.numbers.same_triangle.Tie as tie
 
-triangle-gradient-requires : tie.Need-triangle-gradient-requires
-triangle-gradient-requires c κs = search needs
-
-double-requires : tie.Need-double-requires
-double-requires c κs = search needs
-
-same-requires : tie.Need-same-requires
-same-requires c κs = search needs
-
-double-requires-2 : tie.Need-double-requires-2
-double-requires-2 c κs = search needs
-
-double-requires-3 : tie.Need-double-requires-3
-double-requires-3 c κs = search needs
-
-same-pair-requires : tie.Need-same-pair-requires
-same-pair-requires c κs = search needs
-
 returns : tie.Need-returns
-returns c = simp (← c .before .before .before .before .before .double .ensures, ← c .before .before .double2 .ensures, ← c .before .double3 .ensures, ← c .before .before .before .before .before .before .triangle-gradient .ensures, ← c .before .before .before .before .same .ensures, c .before .before .before .if1 .taken, c .same-pair .ensures)
+returns c =
+    simp (
+      ← c .before .before .before .before .before .double .ensures,
+      ← c .before .before .double2 .ensures,
+      ← c .before .double3 .ensures,
+      ←
+          c .before .before .before .before .before .before .triangle-gradient .ensures,
+      ← c .before .before .before .before .same .ensures,
+      c .before .before .before .if1 .taken,
+      c .same-pair .ensures,
+    )
 
 returns-2 : tie.Need-returns-2
 returns-2 c = simp (← c .before .before .double .ensures, ← c .before .same .ensures, c .if1 .left)
@@ -30,12 +22,5 @@ returns-2 c = simp (← c .before .before .double .ensures, ← c .before .same 
 pub same-triangle-spec : {M : Type 1} → statement M
 same-triangle-spec =
     tie.close
-    (tie.spec
-    triangle-gradient-requires
-    double-requires
-    same-requires
-    double-requires-2
-    double-requires-3
-    same-pair-requires
-    returns
-    returns-2)
+    (tie.spec (λ c κs. search needs) (λ c κs. search needs) (λ c κs. search needs) (λ c κs. search needs) (λ c κs. search needs)
+    (λ c κs. search needs) returns returns-2)

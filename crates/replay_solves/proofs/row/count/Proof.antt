@@ -4,15 +4,11 @@ use Rattle.replay_solves.specs.Row.{countAt}
 use Rattle.replay_solves.proofs.row.count.Statement.{statement}
 use Rattle.replay_solves.proofs.row.count.Tie as tie
 
-quarter-requires : tie.Need-quarter-requires
-quarter-requires c κs = search needs
-
-at-most-requires : tie.Need-at-most-requires
-at-most-requires c κs = search needs
-
 returns : tie.Need-returns
 unfolding countAt
 returns c = (simp (c .at-most .ensures .0, c .before .quarter .ensures), search needs)
 
 pub count-spec : {M : Type 1} → statement M
-count-spec = tie.close (tie.spec quarter-requires at-most-requires returns)
+count-spec =
+    tie.close
+    (tie.spec (λ c κs. search needs) (λ c κs. search needs) returns)

@@ -4,9 +4,6 @@ use borrow.Author.Tests.{eq-eqb, ne-eqb}
 use Rattle.replay_solves.proofs.row.quarter.Statement.{statement}
 use Rattle.replay_solves.proofs.row.quarter.Tie as tie
 
-word-requires : tie.Need-word-requires
-word-requires c κs = search needs
-
 returns : tie.Need-returns
 returns c = simp (eq-eqb _ _ (c .if1 .taken), c .before .word .ensures)
 
@@ -20,4 +17,6 @@ returns-4 : tie.Need-returns-4
 returns-4 c = simp (ne-eqb _ _ (c .if3 .left), ne-eqb _ _ (c .before .if2 .left), ne-eqb _ _ (c .before .before .if1 .left), c .before .before .before .word .ensures)
 
 pub quarter-spec : {M : Type 1} → statement M
-quarter-spec = tie.close (tie.spec word-requires returns returns-2 returns-3 returns-4)
+quarter-spec =
+    tie.close
+    (tie.spec (λ c κs. search needs) returns returns-2 returns-3 returns-4)
