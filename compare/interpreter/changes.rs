@@ -1,7 +1,7 @@
 //! One-token changes of the definitions: an operator, a comparison, a number, a field, the order of two arguments, a function left out, two
 //! branches exchanged; and a sum or product grouped otherwise. Each is run on the recorded rows until one notices. A row on which the
-//! changed definition gives at every call what the definition itself gives cannot notice, and is not run; the first 3,000 calls of a row
-//! are looked at.
+//! changed definition gives at every call what the definition itself gives cannot notice, and is not run; at most 3,000 calls of a row
+//! are looked at. Both ways of running have a limit on their calls, so that a change that never ends is left behind.
 
 use crate::{
     parse::{Clause, Term},
@@ -349,6 +349,10 @@ pub struct Tally {
 /// A change whose definition gives other values on so many rows, none of which notices, is run on no more.
 const ROWS: usize = 400;
 
+/// A changed definition may make a row this many times as long, and this many calls beside; more counts as noticed.
+const LONGER: u64 = 10;
+const SPARE: u64 = 1_000_000;
+
 /// Changes `from` on, at most `most`, of these every `step`-th, each on every so many rows.
 pub fn run(root: &Path, folders: &[&Path], every: usize, from: usize, most: usize, step: usize) -> Tally {
     let mut solver = Solver::new(root, true);
@@ -375,7 +379,7 @@ pub fn run(root: &Path, folders: &[&Path], every: usize, from: usize, most: usiz
     };
     let mut times = vec![0; changes.len()];
     for (k, (calls, row)) in rows.iter().enumerate() {
-        solver.machine.compared = vec![0; changes.len()];
+        solver.machine.compared = vec![(0, 0); changes.len()];
         solver.machine.told_apart = times.iter().map(|t| *t >= ROWS).collect();
         solver.try_row(row);
         let told_apart = std::mem::take(&mut solver.machine.told_apart);
@@ -389,7 +393,7 @@ pub fn run(root: &Path, folders: &[&Path], every: usize, from: usize, most: usiz
             times[number] += 1;
             solver.machine.others = vec![vec![]; others.len()];
             let original = solver.machine.replace(d, compiled);
-            solver.machine.most = 100 * calls + 1_000_000;
+            solver.machine.most = LONGER * calls + SPARE;
             let why = solver.try_row(row);
             solver.machine.most = u64::MAX;
             solver.machine.replace(d, original);
@@ -405,7 +409,7 @@ pub fn run(root: &Path, folders: &[&Path], every: usize, from: usize, most: usiz
         for others in &mut solver.machine.others {
             others.retain(|o| !gone.contains(&o.0));
         }
-        if k % 1000 == 999 || (k % 100 == 99 && k + 4000 > rows.len()) {
+        if k % 1000 == 999 || (k % 10 == 9 && k + 100 > rows.len()) {
             eprintln!(
                 "{} of {} rows: {} of {} noticed",
                 k + 1,

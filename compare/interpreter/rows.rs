@@ -177,7 +177,7 @@ impl Solver {
         same_fields(
             "the record Lent",
             record("Lent"),
-            &["coarse", "fine", "work", "numbers"],
+            &["coarse", "fine", "work", "words"],
         );
         same_fields(
             "the struct Options",
@@ -294,10 +294,10 @@ impl Solver {
             ("coarse", marks(lent[0])),
             ("fine", marks(lent[1])),
             ("work", marks(lent[2])),
-            ("numbers", list(vec![Value::Nat(MARK_NUMBER); lent[3]])),
+            ("words", list(vec![Value::Nat(MARK_NUMBER); lent[3]])),
         ]);
         let names = [
-            "outcome", "lent", "coarse", "fine", "work", "numbers", "flagged", "cut", "number", "reason", "pass",
+            "outcome", "lent", "coarse", "fine", "work", "words", "flagged", "cut", "number", "reason", "pass",
             "place", "other",
         ]
         .map(|name| self.program.field(name));

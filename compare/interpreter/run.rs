@@ -406,10 +406,10 @@ enum Kept {
 /// No list is longer: a changed definition may ask for one of any length.
 const LONGEST: u64 = 1_000_000;
 
-/// Other code for a definition may make so many calls where it is compared.
-const BESIDE: u64 = 2_000_000;
+/// Other code for a definition may make this many calls in all while it is compared on one row.
+const BESIDE: u64 = 100_000;
 
-/// Other code for a definition is compared with it at so many calls of a row.
+/// Other code for a definition is compared with it at no more calls of a row than this.
 const COMPARED: u32 = 3000;
 
 /// No more definitions may be entered and not left: the stack has room for them.
@@ -427,9 +427,10 @@ pub struct Machine {
     pub most: u64,
     /// Other code for definitions, each with its number: at each call its value is compared with the definition's own.
     pub others: Vec<Vec<(usize, &'static Compiled)>>,
-    /// Which of them gave another value, or stopped, at some call; and at how many calls each was compared.
+    /// Which of them gave another value, or did not end within `BESIDE` calls; at how many calls each was compared, and the calls that it
+    /// made there.
     pub told_apart: Vec<bool>,
-    pub compared: Vec<u32>,
+    pub compared: Vec<(u32, u64)>,
     /// Whether no other code is tried now.
     quiet: bool,
     /// How many definitions are entered and not left.
@@ -657,16 +658,18 @@ impl Machine {
         self.quiet = true;
         for k in 0..self.others[definition].len() {
             let (number, other) = self.others[definition][k];
-            if self.told_apart[number] || self.compared[number] >= COMPARED {
+            let (compared, spent) = self.compared[number];
+            if self.told_apart[number] || compared >= COMPARED {
                 continue;
             }
-            self.compared[number] += 1;
             self.stack.truncate(base);
             self.depth = depth;
-            self.most = self.calls.saturating_add(BESIDE);
+            self.most = self.calls.saturating_add(BESIDE - spent);
+            let before = self.calls;
             self.stack.extend(arguments.iter().cloned());
             let given = catch_unwind(AssertUnwindSafe(|| self.enter(other, base)));
             self.told_apart[number] = !given.is_ok_and(|given| same(&given, &value));
+            self.compared[number] = (compared + 1, BESIDE.min(spent + self.calls - before));
         }
         self.stack.truncate(base);
         self.quiet = false;
