@@ -1,6 +1,6 @@
 /* Document 01's table through C: its base floor, and its example of each of the 24 rows, changed from that floor. Then what lengths
- * and answers libgodf.a tells, and what a call leaves where it is not to write. Prints how many answers differ. */
-#include "../include/godf.h"
+ * and answers libgodf.a tells, what a call leaves where it is not to write, and the struct call of godf_floor.h. Prints how many answers differ. */
+#include "../include/godf_floor.h"
 #include <math.h>
 #include <stdio.h>
 #include <string.h>
@@ -76,6 +76,30 @@ static int left(int wiped, size_t angles, size_t fine_angles) {
         if (numbers[i] != (wiped && i < number_count ? 0 : 777)) return 0;
     }
     return 1;
+}
+
+/* The struct call gives the bits of the call before it in any floating-point mode, and puts that mode back. */
+static void struct_call(void) {
+    godf_floor floor = {points, triangles, sizes, point_numbers / 3, corners / 3};
+    double before[ROOM], fine_before[ROOM];
+    memcpy(before, coarse, sizeof before);
+    memcpy(fine_before, fine, sizeof fine_before);
+    godf_report told = report;
+    for (int i = 0; i < ROOM; i++) coarse[i] = fine[i] = MARK;
+    godf_memory memory = {coarse, fine, work, numbers, coarse_count, fine_count, work_count, number_count};
+#if defined(__x86_64__)
+    const unsigned flags = 0x3f, odd = GODF_MXCSR | 0x8040u | 0x4000u; /* FTZ, DAZ, round up */
+    _mm_setcsr(odd);
+#endif
+    uint64_t number = godf_solve_floor(&floor, NULL, &options, iterations, &memory, &report);
+#if defined(__x86_64__)
+    unsigned after = _mm_getcsr();
+    _mm_setcsr(GODF_MXCSR);
+    expect("the struct call's mode", (after & ~flags) == odd);
+#endif
+    expect("the struct call", number == told.number && memcmp(&told, &report, sizeof told) == 0 && memcmp(before, coarse, sizeof before) == 0
+        && memcmp(fine_before, fine, sizeof fine_before) == 0);
+    expect("the struct call's field", godf_field(&floor, &memory, &report) == (report.flagged ? fine : coarse));
 }
 
 static void refused(const char *what, uint64_t number, uint64_t place, uint64_t other, uint64_t pass, uint64_t reason) {
@@ -170,6 +194,7 @@ int main(void) {
     work_count = godf_work_f64(3, 1, 0.1);
     number_count = godf_work_u32(3, 1, 0.1);
     expect("the example", solve() == 0 && report.flagged == 1 && report.cut == 3 && left(1, 3, 6) && fine[5] != MARK);
+    struct_call();
     size_t count = 9;
     uint32_t which = godf_answer(coarse, 3, fine, 6, 3, report.flagged, &count);
     expect("the answer, refined", which == 1 && count == 3);
@@ -180,6 +205,23 @@ int main(void) {
     expect("lengths", godf_fine_count(16384, 32768, 0) == 0 && godf_fine_count(16384, 32768, 1e-9) == 114688
         && godf_work_f64(16384, 32768, 1e-9) == 64 * 114688 + 32 * 131072 && godf_work_u32(3, 1, NAN) == 16 * 3 + 32);
     expect("lengths over the limits", godf_fine_count(16385, 1, 1) == 0 && godf_work_f64(1, 32769, 0) == 0 && godf_work_u32(16385, 1, 0) == 0);
+    /* two points that no triangle uses are left out, in place and beside; the corner that is none stays */
+    double five[] = {9, 9, 9, 0, 1, 2, 8, 8, 8, 3, 4, 5, 6, 7, 8}, five_sizes[] = {1, 2, 3, 4, 5}, kept[15], kept_sizes[5];
+    uint32_t of_five[] = {4, 1, 3, 1, 3, 5}, renumbered[6], places[5];
+    const uint32_t want_corners[] = {2, 0, 1, 0, 1, 5}, want_places[] = {UINT32_MAX, 0, UINT32_MAX, 1, 2};
+    const double want_points[] = {0, 1, 2, 3, 4, 5, 6, 7, 8}, want_sizes[] = {2, 4, 5};
+    godf_floor shared = {five, of_five, five_sizes, 5, 2};
+    expect("compacted", godf_compact(&shared, kept, kept_sizes, renumbered, places) == 3 && memcmp(kept, want_points, sizeof want_points) == 0
+        && memcmp(kept_sizes, want_sizes, sizeof want_sizes) == 0 && memcmp(renumbered, want_corners, sizeof want_corners) == 0
+        && memcmp(places, want_places, sizeof want_places) == 0);
+    expect("compacted in place", godf_compact(&shared, five, five_sizes, of_five, places) == 3 && memcmp(five, want_points, sizeof want_points) == 0
+        && memcmp(five_sizes, want_sizes, sizeof want_sizes) == 0 && memcmp(of_five, want_corners, sizeof want_corners) == 0);
+    double block[ROOM];
+    godf_memory memory = godf_memory_in(block, 3, 1, 0.1);
+    expect("one block", godf_memory_bytes(3, 1, 0.1) == (3 + 6 + godf_work_f64(3, 1, 0.1)) * sizeof(double) + godf_work_u32(3, 1, 0.1) * sizeof(uint32_t)
+        && (char *)(memory.numbers + memory.number_count) == (char *)block + godf_memory_bytes(3, 1, 0.1) && memory.work == block + 9);
+    expect("no block over the limits", godf_memory_bytes(16385, 1, 0) == 0 && godf_memory_in(block, 16385, 1, 0).coarse_count == 0);
+    expect("the version", godf_version() == GODF_VERSION);
     printf("examples %d compared, %d differ\n", tried, differ);
     return differ != 0;
 }

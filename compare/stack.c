@@ -1,6 +1,6 @@
 /* How much stack the calls of libgodf.a take: each is made on the largest floor, 16,384 points and 32,768 triangles, in a thread of its own whose stack of
  * 256 KB is painted before it starts; what is not painted any more at its end was used, by the call, by this file's function and by the thread's own
- * set-up, which a thread that does nothing measures. Fails where a call takes more than 64 KB. */
+ * set-up, which a thread that does nothing measures. Fails where a call takes more than 16 KB, as include/godf.h promises. */
 #define _POSIX_C_SOURCE 200809L
 #include "../include/godf.h"
 #include <pthread.h>
@@ -13,7 +13,7 @@
 #define T 32768
 #define EDGES (3 * T)
 #define STACK (256 * 1024)
-#define MOST (64 * 1024)
+#define MOST (16 * 1024)
 #define PAINT 0xa5
 
 static double points[3 * N], sizes[N], angles[N], coarse[N], fine[N + 3 * T], *work;
@@ -82,7 +82,7 @@ static void answer(void) {
     told = godf_answer(coarse, N, fine, N + 3 * T, N, 1, &count);
 }
 
-static void lengths(void) { sum += (double)(godf_fine_count(N, T, 1) + godf_work_f64(N, T, 1) + godf_work_u32(N, T, 1)); }
+static void lengths(void) { sum += (double)(godf_version() + godf_fine_count(N, T, 1) + godf_work_f64(N, T, 1) + godf_work_u32(N, T, 1)); }
 
 static void probe(void) {
     double angle;
@@ -129,7 +129,7 @@ int main(void) {
         const char *name;
         void (*call)(void);
     } calls[] = {{"godf_refine", refine},       {"godf_solve, tangent", solve}, {"godf_solve, guided", solve_smooth}, {"godf_answer", answer},
-                 {"lengths", lengths},          {"godf_interp_angle", probe},   {"godf_count_singularities", singularities}, {"leaves", leaves},
+                 {"version and lengths", lengths},       {"godf_interp_angle", probe},   {"godf_count_singularities", singularities}, {"leaves", leaves},
                  {"godf_vertex_lists", vertex_lists}, {"godf_vertex_product", vertex_product}};
     make_floor();
     make_matrix();

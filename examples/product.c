@@ -1,7 +1,7 @@
 /* A matrix product spread over threads: the lists are built once, then every thread takes a run of vertices and writes its own part of
  * the result. The bits are those of one thread.
  *
- *   gcc -std=c99 -Wall -Iinclude examples/product.c target/staticlib/libgodf.a -pthread -lm -o target/product && target/product
+ *   gcc -std=c99 -Wall -Iinclude examples/product.c dist/libgodf.a -pthread -lm -o product && ./product
  */
 #include "godf.h"
 
