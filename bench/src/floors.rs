@@ -158,7 +158,7 @@ pub fn turns(n: usize) -> Vec<f64> {
 /// Triangles of two sides each in one of 64 of 65,536 buckets, where a bucket is the upper digits of a multiple of both ends.
 fn crowded() -> Vec<[u32; 3]> {
     let slot =
-        |a: u32, b: u32| u64::from(a.wrapping_mul(1640531527).wrapping_add(b.wrapping_mul(1172981867))) * 65536 >> 32;
+        |a: u32, b: u32| (u64::from(a.wrapping_mul(1640531527).wrapping_add(b.wrapping_mul(1172981867))) * 65536) >> 32;
     let mut tris = vec![];
     for a in 0..16384 {
         let near: Vec<u32> = (a + 1..16384).filter(|&b| slot(a, b) < 64).collect();

@@ -1,5 +1,6 @@
 //! Times ours beside the reference, over its platform's own functions, on the same floors and in one run (bench/run).
 
+mod dropin;
 mod linear;
 
 use bench::{
@@ -187,7 +188,7 @@ fn solve(asked: &Asked) {
 
 type Layer = (&'static str, fn(&Asked));
 
-const LAYERS: [Layer; 7] = [
+const LAYERS: [Layer; 9] = [
     ("refinement", refinement),
     ("linear", linear::linear),
     ("probe", probe),
@@ -195,6 +196,8 @@ const LAYERS: [Layer; 7] = [
     ("setup", setup),
     ("pass", pass),
     ("solve", solve),
+    ("dropin-solve", dropin::solve),
+    ("dropin-probe", dropin::probe),
 ];
 
 /// Where the command names none.

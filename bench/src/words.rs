@@ -12,7 +12,7 @@ fn stop(message: String) -> ! {
 pub struct Asked {
     pub rounds: usize,
     pub kinds: Vec<Kind>,
-    pub sides: Vec<usize>,
+    sides: Vec<usize>,
     layers: Vec<String>,
 }
 
@@ -44,9 +44,6 @@ impl Asked {
         if asked.kinds.is_empty() {
             asked.kinds.extend(Kind::ALL);
         }
-        if asked.sides.is_empty() {
-            asked.sides.extend(SIDES);
-        }
         asked
     }
 
@@ -56,8 +53,14 @@ impl Asked {
 
     /// Every kind and side, kind by kind.
     pub fn floors(&self) -> impl Iterator<Item = (Kind, usize)> + '_ {
-        let sides = |&kind: &Kind| self.sides.iter().map(move |&side| (kind, side));
-        self.kinds.iter().flat_map(sides)
+        self.floors_or(&SIDES)
+    }
+
+    /// Every kind and side, with these sides where none is named.
+    pub fn floors_or<'a>(&'a self, sides: &'a [usize]) -> impl Iterator<Item = (Kind, usize)> + 'a {
+        let sides = if self.sides.is_empty() { sides } else { &self.sides };
+        let floors = move |&kind: &Kind| sides.iter().map(move |&side| (kind, side));
+        self.kinds.iter().flat_map(floors)
     }
 
     /// Every call on these floors, with its kind and the rest of its name. Refined calls have a threshold that flags some triangles, the

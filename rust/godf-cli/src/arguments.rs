@@ -3,28 +3,18 @@
 use crate::files::STANDARD;
 use godf::{BoundaryMode, Options};
 
-pub const HELP: &str = "\
-godf: cross fields on triangle floors, by a proved solver
+/// ./godf prints the same file.
+pub const HELP: &str = include_str!("../help.txt");
 
-  godf solve FLOOR [OPTIONS] [OUTPUTS]            the field of a floor
-  godf refine FLOOR --adaptive RADIANS [OUTPUTS]  split where the field turns
-  godf probe FLOOR X Y [OPTIONS]                  the field's angle at a point
-  godf singularities FLOOR [OPTIONS]              where quads meet in 3s and 5s
-  godf demo disk|plate|yard [OPTIONS] [OUTPUTS]   a floor made on the spot
-
-FLOOR is a file, or - for standard input: a line `POINTS TRIANGLES`, a line
-`x y z size` or `x y z size angle` for each point, a line of three corners, from
-0, for each triangle; # begins a comment. Angles are the target of --guidance in
-solve. Elsewhere they are the field; without them the field is solved first.
-
-OPTIONS  --boundary none|tangent|weak=WEIGHT  --adaptive RADIANS (0: no refining)
-         --holomorphic S (-1 to 1)  --accurate  --guidance WEIGHT
-         --anisotropy RATIO  --anisotropy-angle RADIANS
-         --iterations N (100)       --points N (of demo: about so many)
-OUTPUTS  --svg FILE (a picture)  --angles FILE  --floor FILE (with angles, and
-         refined where the solve refines it)  - is standard output
-STATUS   0 done  1 refused, and by which row  2 wrong use, or a file that fails
-";
+/// Options of a solve, which mean nothing where a field is given. `--guidance` is none of them: with it there is a solve.
+const SOLVE_OPTIONS: [&str; 6] = [
+    "--boundary",
+    "--holomorphic",
+    "--accurate",
+    "--anisotropy",
+    "--anisotropy-angle",
+    "--iterations",
+];
 
 #[derive(Clone, Copy, Debug, PartialEq, Eq)]
 pub enum Demo {
@@ -44,9 +34,22 @@ pub enum Command {
     Demo(Demo),
 }
 
+impl Command {
+    /// The name of the floor that is read.
+    pub fn floor(&self) -> Option<&str> {
+        match self {
+            Self::Help | Self::Version | Self::Demo(_) => None,
+            Self::Solve { floor }
+            | Self::Refine { floor }
+            | Self::Probe { floor, .. }
+            | Self::Singularities { floor } => Some(floor),
+        }
+    }
+}
+
 #[derive(Clone, Debug, Default, PartialEq)]
 pub struct Arguments {
-    /// What was said of the options; a demo has its own where nothing was.
+    /// The options as they were given; a demo has its own where none was.
     pub boundary: Option<BoundaryMode>,
     pub adaptive: Option<f64>,
     pub options: Options,
@@ -56,17 +59,24 @@ pub struct Arguments {
     pub svg: Option<String>,
     pub angles: Option<String>,
     pub floor: Option<String>,
+    /// The names of all options given.
+    given: Vec<String>,
 }
 
 impl Arguments {
+    /// A solve option that was given, if any.
+    pub fn solve_option(&self) -> Option<&str> {
+        let mut given = self.given.iter().map(String::as_str);
+        given.find(|option| SOLVE_OPTIONS.contains(option))
+    }
+
     pub fn outputs(&self) -> impl Iterator<Item = &String> {
         [&self.svg, &self.angles, &self.floor].into_iter().flatten()
     }
 }
 
 fn number<T: std::str::FromStr>(option: &str, word: &str, what: &str) -> Result<T, String> {
-    word.parse()
-        .map_err(|_| format!("{option} wants {what}, and not `{word}`"))
+    word.parse().map_err(|_| format!("{option} needs {what}, not `{word}`"))
 }
 
 fn boundary(word: &str) -> Result<BoundaryMode, String> {
@@ -74,15 +84,23 @@ fn boundary(word: &str) -> Result<BoundaryMode, String> {
         None if word == "none" => Ok(BoundaryMode::None),
         None if word == "tangent" => Ok(BoundaryMode::Tangent),
         Some(("weak", weight)) => number("--boundary weak=", weight, "a weight").map(BoundaryMode::Weak),
-        _ => Err(format!(
-            "--boundary wants none, tangent or weak=WEIGHT, and not `{word}`"
-        )),
+        _ => Err(format!("--boundary needs none, tangent or weak=WEIGHT, not `{word}`")),
     }
 }
 
+/// The name of an output file.
+fn file(option: &str, word: String) -> Result<Option<String>, String> {
+    if word.is_empty() {
+        return Err(format!("{option} needs a file name"));
+    }
+    Ok(Some(word))
+}
+
+const UNKNOWN_OPTION: &str = "unknown option";
+
 impl Arguments {
-    /// Takes an option with its value.
-    fn take(&mut self, option: &str, word: String) -> Result<(), String> {
+    /// Sets an option to its value.
+    fn set(&mut self, option: &str, word: String) -> Result<(), String> {
         let radians = "a number of radians";
         match option {
             "--boundary" => self.boundary = Some(boundary(&word)?),
@@ -93,23 +111,26 @@ impl Arguments {
             "--guidance" => self.guidance = Some(number(option, &word, "a weight")?),
             "--iterations" => self.iterations = Some(number(option, &word, "a count")?),
             "--points" => self.points = Some(number(option, &word, "a count")?),
-            "--svg" => self.svg = Some(word),
-            "--angles" => self.angles = Some(word),
-            "--floor" => self.floor = Some(word),
-            _ => return Err(format!("there is no option {option}")),
+            "--svg" => self.svg = file(option, word)?,
+            "--angles" => self.angles = file(option, word)?,
+            "--floor" => self.floor = file(option, word)?,
+            _ => return Err(format!("{UNKNOWN_OPTION} {option}: `godf --help` lists them")),
         }
         Ok(())
     }
 }
 
-/// Which options a command takes, beside those of a solve.
-fn allowed(command: &Command, arguments: &Arguments) -> Result<(), String> {
+/// Refuses options that do not apply to the command, and outputs that get in each other's way.
+fn check(command: &Command, arguments: &Arguments) -> Result<(), String> {
     let writes = matches!(
         command,
         Command::Solve { .. } | Command::Refine { .. } | Command::Demo(_)
     );
     if !writes && arguments.outputs().next().is_some() {
-        return Err("--svg, --angles and --floor are of solve, refine and demo".to_string());
+        return Err("--svg, --angles and --floor apply only to solve, refine and demo".to_string());
+    }
+    if !writes && arguments.adaptive.is_some() {
+        return Err("--adaptive applies only to solve, refine and demo".to_string());
     }
     if arguments.outputs().filter(|name| *name == STANDARD).count() > 1 {
         return Err("only one output can be standard output".to_string());
@@ -120,25 +141,34 @@ fn allowed(command: &Command, arguments: &Arguments) -> Result<(), String> {
         return Err("two outputs have the same name".to_string());
     }
     if !matches!(command, Command::Demo(_)) && arguments.points.is_some() {
-        return Err("--points is of demo".to_string());
+        return Err("--points applies only to demo".to_string());
+    }
+    let has = |option: &str| arguments.given.iter().any(|given| given == option);
+    if has("--anisotropy-angle") && !has("--anisotropy") {
+        return Err("--anisotropy-angle applies only with --anisotropy".to_string());
     }
     if matches!(command, Command::Refine { .. }) && arguments.adaptive.is_none() {
-        return Err("refine wants --adaptive RADIANS, by how much a field may turn on a triangle".to_string());
+        return Err("refine needs --adaptive RADIANS, by how much a field may turn on a triangle".to_string());
     }
     Ok(())
 }
 
+fn unexpected(word: &str) -> String {
+    format!("unexpected argument `{word}`")
+}
+
 fn command(words: &[String]) -> Result<Command, String> {
     let Some((name, rest)) = words.split_first() else {
-        return Err("what is to be done? `godf --help` has the commands".to_string());
+        return Err("missing command: `godf --help` lists them".to_string());
     };
     let floor = |command: fn(String) -> Command| match rest {
         [floor] => Ok(command(floor.clone())),
-        [] => Err(format!("which floor? `godf {name} FLOOR`, or - for standard input")),
-        [_, word, ..] => Err(format!("`{word}` is one word too many")),
+        [] => Err(format!("missing floor: `godf {name} FLOOR`, or - for standard input")),
+        [_, word, ..] => Err(unexpected(word)),
     };
     match name.as_str() {
-        "help" => Ok(Command::Help),
+        "help" if rest.is_empty() => Ok(Command::Help),
+        "help" => Err(unexpected(&rest[0])),
         "solve" => floor(|floor| Command::Solve { floor }),
         "refine" => floor(|floor| Command::Refine { floor }),
         "singularities" => floor(|floor| Command::Singularities { floor }),
@@ -150,25 +180,32 @@ fn command(words: &[String]) -> Result<Command, String> {
                     number("probe", y, "a number for Y")?,
                 ],
             }),
-            _ => Err("which floor, and where? `godf probe FLOOR X Y`".to_string()),
+            [_, _, _, word, ..] => Err(unexpected(word)),
+            _ => Err("missing floor or place: `godf probe FLOOR X Y`".to_string()),
         },
         "demo" => match rest {
             [demo] => match demo.as_str() {
                 "disk" => Ok(Command::Demo(Demo::Disk)),
                 "plate" => Ok(Command::Demo(Demo::Plate)),
                 "yard" => Ok(Command::Demo(Demo::Yard)),
-                _ => Err(format!("there is no demo `{demo}`: there are disk, plate and yard")),
+                _ => Err(format!("unknown demo `{demo}`: there are disk, plate and yard")),
             },
-            _ => Err("which demo? `godf demo disk`, plate or yard".to_string()),
+            [] => Err("missing demo: `godf demo disk`, plate or yard".to_string()),
+            [_, word, ..] => Err(unexpected(word)),
         },
-        _ => Err(format!("there is no command `{name}`: `godf --help` has them")),
+        _ => Err(format!("unknown command `{name}`: `godf --help` lists them")),
     }
 }
 
-/// Reads a command line, without the program's name.
+/// Whether a word is an option: it starts with - and is neither a number nor the name of standard input and output.
+fn is_option(word: &str) -> bool {
+    word.starts_with('-') && word != STANDARD && word.parse::<f64>().is_err()
+}
+
+/// Reads a command line, without the program's name. After -- no word is an option.
 pub fn parse(line: impl IntoIterator<Item = String>) -> Result<(Command, Arguments), String> {
-    let mut line = line.into_iter();
-    let (mut words, mut arguments, mut seen) = (vec![], Arguments::default(), vec![]);
+    let mut line = line.into_iter().peekable();
+    let (mut words, mut arguments) = (vec![], Arguments::default());
     while let Some(word) = line.next() {
         if word == "--help" || word == "-h" {
             return Ok((Command::Help, arguments));
@@ -176,7 +213,11 @@ pub fn parse(line: impl IntoIterator<Item = String>) -> Result<(Command, Argumen
         if word == "--version" {
             return Ok((Command::Version, arguments));
         }
-        if !word.starts_with('-') || word == STANDARD || word.parse::<f64>().is_ok() {
+        if word == "--" {
+            words.extend(line);
+            break;
+        }
+        if !is_option(&word) {
             words.push(word);
             continue;
         }
@@ -184,7 +225,7 @@ pub fn parse(line: impl IntoIterator<Item = String>) -> Result<(Command, Argumen
             Some((option, value)) => (option.replace('_', "-"), Some(value.to_string())),
             None => (word.replace('_', "-"), None),
         };
-        if seen.contains(&option) {
+        if arguments.given.contains(&option) {
             return Err(format!("{option} is given twice"));
         }
         if option == "--accurate" {
@@ -192,22 +233,19 @@ pub fn parse(line: impl IntoIterator<Item = String>) -> Result<(Command, Argumen
                 return Err("--accurate takes no value".to_string());
             }
             arguments.options.accurate = true;
+        } else if let Some(value) = value.or_else(|| line.next_if(|next| !is_option(next))) {
+            arguments.set(&option, value)?;
         } else {
-            let value = value.or_else(|| line.next());
-            // an unknown option is told before its missing value
-            let value = value.map_or_else(
-                || match Arguments::default().take(&option, String::new()) {
-                    Err(what) if what.starts_with("there is no option") => Err(what),
-                    _ => Err(format!("{option} wants a value")),
-                },
-                Ok,
-            )?;
-            arguments.take(&option, value)?;
+            // an unknown option is reported as such, whatever follows it
+            return match Arguments::default().set(&option, String::new()) {
+                Err(what) if what.starts_with(UNKNOWN_OPTION) => Err(what),
+                _ => Err(format!("missing value for {option}")),
+            };
         }
-        seen.push(option);
+        arguments.given.push(option);
     }
     let command = command(&words)?;
-    allowed(&command, &arguments)?;
+    check(&command, &arguments)?;
     Ok((command, arguments))
 }
 
@@ -233,13 +271,11 @@ mod tests {
             }
         );
         assert_eq!((a.boundary, a.adaptive), (Some(BoundaryMode::Weak(2.5)), Some(0.2)));
-        let options = Options {
-            accurate: true,
-            holomorphic: -0.5,
-            anisotropy: 4.0,
-            anisotropy_angle: 0.4,
-            ..Options::default()
-        };
+        let options = Options::new()
+            .accurate(true)
+            .holomorphic(-0.5)
+            .anisotropy(4.0)
+            .anisotropy_angle(0.4);
         assert_eq!((a.options, a.guidance, a.iterations), (options, Some(3.0), Some(7)));
         let (command, _) = parsed("probe - -1.5 2e3").unwrap();
         assert_eq!(
@@ -254,35 +290,77 @@ mod tests {
     #[test]
     fn wrong_use() {
         for (line, part) in [
-            ("", "what is to be done"),
-            ("solve", "which floor?"),
-            ("solve a b", "`b` is one word too many"),
-            ("slove a", "no command `slove`"),
-            ("solve a --colour red", "no option --colour"),
-            ("solve a --colour", "no option --colour"),
-            ("solve a --svg", "--svg wants a value"),
+            ("", "missing command"),
+            ("solve", "missing floor"),
+            ("solve a b", "unexpected argument `b`"),
+            ("help me", "unexpected argument `me`"),
+            ("slove a", "unknown command `slove`"),
+            ("solve a --colour red", "unknown option --colour"),
+            ("solve a --colour", "unknown option --colour"),
+            ("solve a -x", "unknown option -x"),
+            ("solve a --svg", "missing value for --svg"),
+            ("solve a --svg --accurate", "missing value for --svg"),
+            ("solve a --svg -x", "missing value for --svg"),
+            ("solve a --svg --", "missing value for --svg"),
+            ("solve a --svg=", "--svg needs a file name"),
             (
                 "solve a --adaptive wide",
-                "--adaptive wants a number of radians, and not `wide`",
+                "--adaptive needs a number of radians, not `wide`",
             ),
             (
                 "solve a --boundary weak",
-                "--boundary wants none, tangent or weak=WEIGHT",
+                "--boundary needs none, tangent or weak=WEIGHT",
             ),
             ("solve a --svg b --svg c", "--svg is given twice"),
             ("solve a --svg b --angles b", "two outputs have the same name"),
             ("solve a --svg - --angles -", "only one output"),
-            ("solve a --points 5", "--points is of demo"),
+            ("solve a --points 5", "--points applies only to demo"),
+            ("probe a 1 2 --adaptive 0.1", "--adaptive applies only to solve"),
+            ("singularities a --adaptive nan", "--adaptive applies only to solve"),
+            (
+                "solve a --anisotropy-angle 1",
+                "--anisotropy-angle applies only with --anisotropy",
+            ),
             ("solve a --accurate=1", "--accurate takes no value"),
-            ("probe a 1", "which floor, and where?"),
-            ("probe a 1 y", "a number for Y, and not `y`"),
-            ("probe a 1 2 --svg b", "are of solve, refine and demo"),
-            ("refine a", "refine wants --adaptive"),
-            ("demo", "which demo?"),
-            ("demo moon", "no demo `moon`"),
+            ("probe a 1", "missing floor or place"),
+            ("probe a 1 y", "a number for Y, not `y`"),
+            ("probe a 1 2 3", "unexpected argument `3`"),
+            ("probe a 1 2 --svg b", "apply only to solve, refine and demo"),
+            ("refine a", "refine needs --adaptive"),
+            ("demo", "missing demo"),
+            ("demo moon", "unknown demo `moon`"),
+            ("demo disk plate", "unexpected argument `plate`"),
         ] {
-            let told = parsed(line).expect_err(line);
-            assert!(told.contains(part), "{line}: {told}");
+            let message = parsed(line).expect_err(line);
+            assert!(message.contains(part), "{line}: {message}");
+        }
+    }
+
+    #[test]
+    fn words_that_start_with_a_dash() {
+        let floor = |line| match parsed(line) {
+            Ok((Command::Solve { floor }, arguments)) => (floor, arguments.svg),
+            other => panic!("{line}: {other:?}"),
+        };
+        assert_eq!(floor("solve -- --my-floor"), ("--my-floor".to_string(), None));
+        assert_eq!(floor("solve --svg a -- -"), ("-".to_string(), Some("a".to_string())));
+        assert_eq!(floor("solve a --svg=--b"), ("a".to_string(), Some("--b".to_string())));
+        assert_eq!(floor("solve a --svg -"), ("a".to_string(), Some("-".to_string())));
+    }
+
+    #[test]
+    fn options_of_a_solve_are_known() {
+        let option = |line: &str| parsed(line).expect("arguments").1.solve_option().map(str::to_string);
+        assert_eq!(option("probe a 1 2 --guidance 3"), None);
+        for given in [
+            "--boundary none",
+            "--holomorphic 0",
+            "--accurate",
+            "--anisotropy 1",
+            "--iterations 100",
+        ] {
+            let name = given.split(' ').next().map(str::to_string);
+            assert_eq!(option(&format!("probe a 1 2 {given}")), name);
         }
     }
 

@@ -50,7 +50,7 @@ fn plate(p: Point) -> f64 {
     rounded(p, [0.0; 2], [1.5, 0.95], 0.4).max(-circle(p, HOLE.0, HOLE.1))
 }
 
-/// What stands in the yard.
+/// The buildings in the yard.
 fn buildings(p: Point) -> f64 {
     rounded(p, [-1.35, -0.55], [0.62, 0.38], 0.12)
         .min(rounded(p, [0.75, 0.85], [0.34, 0.6], 0.12))
@@ -334,7 +334,7 @@ fn onto(shape: fn(Point) -> f64, p: Point) -> Point {
 }
 
 impl Scene {
-    /// The floor, of at most so many points and nearly as many.
+    /// The floor, with at most `asked` points and nearly as many.
     pub fn floor(&self, asked: usize) -> OwnedFloor {
         let make = |step: f64| {
             let mut lattice = Lattice::over(self, step);
@@ -364,7 +364,8 @@ impl Scene {
             sizes: points.iter().map(|&p| (self.size)(p)).collect(),
             points: points.iter().map(|p| [p[0], p[1], 0.0]).collect(),
             triangles: triangles.iter().map(|t| t.map(|v| v as u32)).collect(),
-            angles: None,
+            name: self.name.to_string(),
+            ..OwnedFloor::default()
         }
     }
 }

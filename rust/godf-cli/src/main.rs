@@ -3,6 +3,8 @@
 mod arguments;
 mod demo;
 mod files;
+mod parts;
+mod refused;
 mod stages;
 mod svg;
 mod text;
@@ -10,6 +12,7 @@ mod text;
 use arguments::{Arguments, Command, Demo};
 use files::Outputs;
 use godf::{BoundaryMode, Floor, Guidance, Options, Probe, Refined, Refusal, Singularity, Valence, Workspace};
+use refused::described;
 use stages::Stages;
 use std::{ffi::OsString, fmt::Write, process::ExitCode};
 use svg::Picture;
@@ -22,16 +25,9 @@ const WRITING: &str = "writing";
 
 /// Why a command ends early.
 enum Stop {
-    Refused(Refusal),
-    /// An answer that is none: the probe has no angle.
-    None(String),
+    /// The floor is refused, or the probe has no angle.
+    Refused(String),
     Use(String),
-}
-
-impl From<Refusal> for Stop {
-    fn from(refusal: Refusal) -> Self {
-        Self::Refused(refusal)
-    }
 }
 
 impl From<String> for Stop {
@@ -70,13 +66,13 @@ fn refinement(flagged: usize, cut: usize, refined: Floor) -> String {
     format!("refined: {flagged} flagged, {cut} cut: {}\n", counts(refined))
 }
 
-/// What was asked of a solve, with a demo's own wishes where nothing was said.
+/// The options given, and these where none was.
 fn options(arguments: &Arguments, boundary: BoundaryMode, adaptive: f64) -> Options {
-    Options {
-        boundary: arguments.boundary.unwrap_or(boundary),
-        adaptive: arguments.adaptive.unwrap_or(adaptive),
-        ..arguments.options
-    }
+    let boundary = arguments.boundary.unwrap_or(boundary);
+    arguments
+        .options
+        .boundary(boundary)
+        .adaptive(arguments.adaptive.unwrap_or(adaptive))
 }
 
 fn solve(stages: &mut Stages, given: &OwnedFloor, options: &Options, arguments: &Arguments) -> Result<Solved, Stop> {
@@ -88,13 +84,13 @@ fn solve(stages: &mut Stages, given: &OwnedFloor, options: &Options, arguments: 
         }),
         (Some(_), None) => {
             return Err(Stop::Use(
-                "--guidance wants a floor with angles, which are its target".to_string(),
+                "--guidance needs a floor with angles, which are its target".to_string(),
             ))
         }
     };
     let floor = given.floor();
     let iterations = arguments.iterations.unwrap_or(ITERATIONS);
-    stages.run("solving", &format!("solving {}", counts(floor)), || {
+    let run = || {
         let mut workspace = Workspace::new();
         let field = workspace.solve(floor, options, guidance.as_ref(), iterations)?;
         let refined = field.refined_floor(floor)?;
@@ -107,29 +103,33 @@ fn solve(stages: &mut Stages, given: &OwnedFloor, options: &Options, arguments: 
             refined: refined.zip(field.refined_angles().map(<[f64]>::to_vec)),
             flagged,
         })
-    })
+    };
+    let solved = stages.run("solving", &format!("solving {}", counts(floor)), run);
+    solved.map_err(|refusal| Stop::Refused(described(refusal, given)))
 }
 
 fn read(stages: &mut Stages, name: &str) -> Result<OwnedFloor, Stop> {
     let shown = files::shown(name);
-    let read = || text::read(&files::read(name)?).map_err(|what| format!("{shown}: {what}"));
+    let read = || text::read(shown, &files::read(name)?);
     Ok(stages.run("reading", &format!("reading {shown}"), read)?)
 }
 
-/// The floor's own angles, or those of a solve without refining.
+/// The floor's own angles, or those of a solve without refining. Options of a solve that is not made are refused.
 fn field(stages: &mut Stages, given: &OwnedFloor, arguments: &Arguments) -> Result<Vec<f64>, Stop> {
     if let (Some(angles), None) = (&given.angles, arguments.guidance) {
-        return Ok(angles.clone());
+        return match arguments.solve_option() {
+            Some(option) => Err(Stop::Use(format!(
+                "{} has angles, which are the field: {option} would be ignored",
+                given.name
+            ))),
+            None => Ok(angles.clone()),
+        };
     }
-    let options = options(arguments, BoundaryMode::None, 0.0);
-    let options = Options {
-        adaptive: 0.0,
-        ..options
-    };
+    let options = options(arguments, BoundaryMode::None, 0.0).adaptive(0.0);
     Ok(solve(stages, given, &options, arguments)?.angles)
 }
 
-fn said(options: &Options, arguments: &Arguments) -> String {
+fn summed_up(options: &Options, arguments: &Arguments) -> String {
     let mut words = match options.boundary {
         BoundaryMode::None => "no boundary mode".to_string(),
         BoundaryMode::Tangent => "boundary tangent".to_string(),
@@ -158,13 +158,13 @@ fn said(options: &Options, arguments: &Arguments) -> String {
 }
 
 impl Outputs {
-    /// Makes a text and writes it, to be put in its place with the others.
+    /// Makes a text and writes it; it is put in its place with the others.
     fn add(&mut self, stages: &mut Stages, name: &str, text: impl FnOnce() -> String) -> Result<(), Stop> {
         Ok(stages.run(WRITING, &format!("{WRITING} {name}"), || self.stage(name, text()))?)
     }
 }
 
-/// Puts in its place what was written, and then tells the summary: to standard output, or to standard error where an output went there.
+/// Puts the outputs in their places and then prints the summary: to standard output, or to standard error if an output went there.
 fn write(stages: &mut Stages, outputs: Outputs, arguments: &Arguments, mut summary: String) -> Result<(), Stop> {
     let names = stages.run(WRITING, WRITING, || outputs.finish())?;
     if !names.is_empty() {
@@ -172,7 +172,7 @@ fn write(stages: &mut Stages, outputs: Outputs, arguments: &Arguments, mut summa
     }
     let _ = writeln!(summary, "time: {}", stages.times());
     if arguments.outputs().any(|name| name == files::STANDARD) {
-        eprint!("{summary}");
+        files::print_error(&summary);
     } else {
         files::print(&summary)?;
     }
@@ -204,7 +204,7 @@ fn solve_and_write(
         .refined
         .as_ref()
         .map_or(&[][..], |(refined, _)| &refined.cut_sides);
-    let mut summary = format!("{name}: {}; {}\n", counts(floor), said(options, arguments));
+    let mut summary = format!("{name}: {}; {}\n", counts(floor), summed_up(options, arguments));
     if options.adaptive > 0.0 {
         summary += &refinement(solved.flagged.len(), cut.len(), last);
     }
@@ -213,7 +213,7 @@ fn solve_and_write(
     if let Some(to) = &arguments.svg {
         let picture = Picture {
             title: name,
-            subtitle: &format!("{}; {}", counts(last), said(options, arguments)),
+            subtitle: &format!("{}; {}", counts(last), summed_up(options, arguments)),
             floor: last,
             angles,
             singularities: &singularities,
@@ -237,10 +237,12 @@ fn refine_and_write(stages: &mut Stages, name: &str, given: &OwnedFloor, argumen
     let floor = given.floor();
     let threshold = arguments.adaptive.unwrap_or(0.0);
     let angles = field(stages, given, arguments)?;
-    let (refined, flagged) = stages.run("refining", &format!("refining {}", counts(floor)), || {
+    let run = || {
         let refined = godf::refine(floor, &angles, threshold)?;
-        Ok::<_, Refusal>((refined, godf::flagged(&angles, floor.triangles, threshold)?))
-    })?;
+        Ok((refined, godf::flagged(&angles, floor.triangles, threshold)?))
+    };
+    let done = stages.run("refining", &format!("refining {}", counts(floor)), run);
+    let (refined, flagged) = done.map_err(|refusal: Refusal| Stop::Refused(described(refusal, given)))?;
     let summary = format!(
         "{name}: {}\n{}",
         counts(floor),
@@ -283,11 +285,11 @@ fn probe(angles: &[f64], floor: Floor, at: [f64; 2]) -> Result<(), Stop> {
     let [x, y] = at;
     match godf::probe(angles, floor.points, floor.triangles, at) {
         Probe::Angle(angle) => Ok(files::print(&format!("{angle:?}\n"))?),
-        Probe::NoAngle => Err(Stop::None(format!(
-            "no angle at {x} {y}: no triangle holds the point, the field vanishes there, or an angle is not finite"
+        Probe::NoAngle => Err(Stop::Refused(format!(
+            "no angle at {x} {y}: no triangle contains the point, the field vanishes there, or an angle is not finite"
         ))),
-        Probe::TooLarge => Err(Stop::None(
-            "no angle: an angle of the field is above 131,072 in size".to_string(),
+        _ => Err(Stop::Refused(
+            "no angle: the absolute value of an angle of the field is above 131,072".to_string(),
         )),
     }
 }
@@ -310,7 +312,7 @@ fn demo(stages: &mut Stages, demo: Demo, arguments: &Arguments) -> Result<(), St
     let asked = arguments.points.unwrap_or(scene.points);
     if !(demo::LEAST_ASKED..=demo::MOST_ASKED).contains(&asked) {
         let (least, most) = (grouped(demo::LEAST_ASKED), grouped(demo::MOST_ASKED));
-        return Err(Stop::Use(format!("--points wants a count from {least} to {most}")));
+        return Err(Stop::Use(format!("--points needs a count from {least} to {most}")));
     }
     let floor = stages.run(
         "making",
@@ -332,9 +334,16 @@ fn title(name: &str) -> &str {
 
 fn run() -> Result<(), Stop> {
     let words: Result<Vec<String>, _> = std::env::args_os().skip(1).map(OsString::into_string).collect();
-    let words = words.map_err(|word| format!("`{}` is not a text", word.to_string_lossy()))?;
+    let words = words.map_err(|word| format!("`{}` is not valid UTF-8", word.to_string_lossy()))?;
+    if words.is_empty() {
+        files::print_error(arguments::HELP);
+    }
     let (command, arguments) = arguments::parse(words)?;
     arguments.outputs().try_for_each(|name| files::check(name))?;
+    if let Some(floor) = command.floor() {
+        let mut outputs = [&arguments.svg, &arguments.angles].into_iter().flatten();
+        outputs.try_for_each(|output| files::check_apart(output, floor))?;
+    }
     let stages = &mut Stages::default();
     match command {
         Command::Help => Ok(files::print(arguments::HELP)?),
@@ -363,10 +372,9 @@ fn run() -> Result<(), Stop> {
 fn main() -> ExitCode {
     let (what, status) = match run() {
         Ok(()) => return ExitCode::SUCCESS,
-        Err(Stop::Refused(refusal)) => (format!("refused by row {}: {refusal}", refusal.number), REFUSED),
-        Err(Stop::None(what)) => (what, REFUSED),
+        Err(Stop::Refused(what)) => (what, REFUSED),
         Err(Stop::Use(what)) => (what, WRONG_USE),
     };
-    eprintln!("godf: {what}");
+    files::print_error(&format!("godf: {what}\n"));
     ExitCode::from(status)
 }

@@ -1,4 +1,4 @@
-//! The stages of a command: how long each took, and a line on standard error while one lasts.
+//! The stages of a command: how long each took, and progress on standard error while one runs.
 
 use std::{
     io::{self, IsTerminal, Write},
@@ -10,11 +10,11 @@ use std::{
 #[derive(Default)]
 pub struct Stages(Vec<(&'static str, Duration)>);
 
-/// Says every second that a stage lasts, on one line of a terminal; elsewhere a line after 2, 4, 8, .. seconds.
-fn tell(what: &str, ended: &Receiver<()>) {
+/// Prints how long a stage has run: every second on one line of a terminal, otherwise a line after 2, 4, 8, .. seconds.
+fn report(what: &str, ended: &Receiver<()>) {
     let terminal = io::stderr().is_terminal();
     let begun = Instant::now();
-    let (mut told, mut next) = (false, if terminal { 1 } else { 2 });
+    let (mut printed, mut next) = (false, if terminal { 1 } else { 2 });
     loop {
         let wait = Duration::from_secs(next).saturating_sub(begun.elapsed());
         if ended.recv_timeout(wait) != Err(RecvTimeoutError::Timeout) {
@@ -26,25 +26,25 @@ fn tell(what: &str, ended: &Receiver<()>) {
         } else {
             writeln!(err, "godf: {what}: {next} s")
         };
-        told = true;
+        printed = true;
         next = if terminal { next + 1 } else { 2 * next };
     }
-    if terminal && told {
+    if terminal && printed {
         let _ = write!(io::stderr(), "\r\x1b[K");
     }
 }
 
 impl Stages {
-    /// Runs a stage, or more of it; `what` is said of it while it lasts.
+    /// Runs a stage, or more of it; `what` is printed while it runs.
     pub fn run<T>(&mut self, name: &'static str, what: &str, stage: impl FnOnce() -> T) -> T {
         let begun = Instant::now();
         let answer = thread::scope(|scope| {
             let (end, ended) = mpsc::channel();
-            // without a thread to spare nothing is said
-            let teller = thread::Builder::new().spawn_scoped(scope, move || tell(what, &ended));
+            // if no thread can be started, nothing is printed
+            let reporter = thread::Builder::new().spawn_scoped(scope, move || report(what, &ended));
             let answer = stage();
             drop(end);
-            drop(teller);
+            drop(reporter);
             answer
         });
         let time = begun.elapsed();

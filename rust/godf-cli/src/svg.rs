@@ -24,7 +24,7 @@ pub struct Picture<'a> {
     pub cut: &'a [[u32; 2]],
 }
 
-/// Above so many points crosses are thinned to about as many.
+/// Above this number of points, crosses are thinned to about this number.
 const MOST_CROSSES: usize = 1000;
 /// How many tints there are between an angle of 0 and of a quarter turn.
 const TINTS: usize = 36;
@@ -230,32 +230,23 @@ fn regular(corners: usize, [x, y]: [f64; 2], radius: f64) -> String {
     path + "z"
 }
 
-/// A red triangle with a plus where quads meet in threes, a blue pentagon with a minus where they meet in fives.
+/// A red triangle where three quads meet, a blue pentagon where five do: outlines, so that the crosses inside stay visible.
 fn marker(valence: Valence, at: [f64; 2], radius: f64) -> String {
-    let [x, y] = at.map(whole);
-    let arm = whole(0.36 * radius);
-    let (shape, colour, sign) = match valence {
-        Valence::Three => (
-            regular(3, at, 1.25 * radius),
-            RED,
-            format!("M{} {y}h{}M{x} {}v{}", x - arm, 2 * arm, y - arm, 2 * arm),
-        ),
-        Valence::Five => (
-            regular(5, at, 1.1 * radius),
-            BLUE,
-            format!("M{} {y}h{}", x - arm, 2 * arm),
-        ),
+    let (shape, colour) = match valence {
+        Valence::Three => (regular(3, at, 1.25 * radius), RED),
+        Valence::Five => (regular(5, at, 1.1 * radius), BLUE),
     };
-    let width = whole(0.2 * radius).max(1);
+    let width = whole(0.22 * radius).max(1);
+    let casing = 2 * width;
     format!(
-        "<path fill=\"{colour}\" stroke=\"#fff\" stroke-width=\"{width}\" stroke-linejoin=\"round\" d=\"{shape}\"/>\
-         <path stroke=\"#fff\" stroke-width=\"{width}\" d=\"{sign}\"/>\n"
+        "<path stroke=\"#fff\" stroke-width=\"{casing}\" stroke-linejoin=\"round\" d=\"{shape}\"/>\
+         <path stroke=\"{colour}\" stroke-width=\"{width}\" stroke-linejoin=\"round\" d=\"{shape}\"/>\n"
     )
 }
 
 fn marks(picture: &Picture, at: &[[f64; 2]]) -> String {
     let mut svg = String::new();
-    let radius = if picture.singularities.len() > 100 { 55.0 } else { 100.0 };
+    let radius = if picture.singularities.len() > 100 { 70.0 } else { 140.0 };
     for s in picture.singularities {
         let corners = picture.floor.triangles[s.triangle].map(|v| at[v as usize]);
         let middle = [0, 1].map(|i| corners.iter().map(|p| p[i]).sum::<f64>() / 3.0);
@@ -299,6 +290,35 @@ fn refinement(picture: &Picture, frame: &Frame, room: f64) -> (String, String) {
     (hatched, lines)
 }
 
+/// All tints from 0 to 90 degrees, with a tick and its number every 45.
+fn tint_strip() -> String {
+    const WIDTH: i64 = 520;
+    const STEPS: i64 = 26;
+    let mut strip = String::new();
+    for k in 0..STEPS {
+        let colour = tint((k as f64 + 0.5) / STEPS as f64 * FRAC_PI_2);
+        let step = WIDTH / STEPS;
+        let _ = write!(
+            strip,
+            "<path fill=\"{colour}\" d=\"M{} 0h{}v90h-{}z\"/>",
+            step * k,
+            step + 1,
+            step + 1
+        );
+    }
+    let (mut ticks, mut numbers) = (format!("M0 0h{WIDTH}v90h-{WIDTH}z"), String::new());
+    for degrees in [0, 45, 90] {
+        let x = WIDTH * degrees / 90;
+        let _ = write!(ticks, "M{x} 90v30");
+        let _ = write!(numbers, "<text x=\"{x}\" y=\"222\">{degrees}\u{b0}</text>");
+    }
+    strip
+        + &format!(
+            "<path stroke=\"{SOFT}\" stroke-width=\"6\" d=\"{ticks}\"/>\
+         <g font-size=\"105\" text-anchor=\"middle\" fill=\"{SOFT}\">{numbers}</g>"
+        )
+}
+
 /// One entry of the legend: a drawing in a box of 520 by 200 units, and words.
 struct Entry {
     icon: String,
@@ -319,13 +339,7 @@ fn entries(picture: &Picture, drawn: usize) -> Vec<Entry> {
         format!("<path stroke=\"{INK}\" stroke-width=\"14\" stroke-linecap=\"round\" d=\"{arms}\"/>"),
         words,
     )];
-    let mut strip = String::new();
-    for k in 0..26 {
-        let colour = tint((f64::from(k) + 0.5) / 26.0 * FRAC_PI_2);
-        let _ = write!(strip, "<path fill=\"{colour}\" d=\"M{} 30h21v140h-21z\"/>", 20 * k);
-    }
-    strip += &format!("<path stroke=\"{SOFT}\" stroke-width=\"6\" d=\"M0 30h520v140h-520z\"/>");
-    entries.push(entry(strip, "tint: its angle, 0\u{b0} to 90\u{b0}".to_string()));
+    entries.push(entry(tint_strip(), "tint: its angle".to_string()));
     let of = |valence| picture.singularities.iter().filter(|s| s.valence == valence).count();
     for (valence, meet) in [(Valence::Three, "three"), (Valence::Five, "five")] {
         let words = format!("singularities where {meet} quads meet: {}", grouped(of(valence)));
@@ -391,12 +405,13 @@ pub fn draw(picture: &Picture) -> String {
     svg += &hatched;
     svg += &cut;
     svg += &mesh(&sides.rim, &at, INK, 14.0);
+    svg += &marks(picture, &at);
+    // above everything else, so that nothing hides a cross
     let width = whole((0.075 * room).clamp(6.0, 14.0));
     let _ = writeln!(
         svg,
         "<path stroke=\"{INK}\" stroke-width=\"{width}\" stroke-linecap=\"round\" d=\"{arms}\"/>"
     );
-    svg += &marks(picture, &at);
     for (k, Entry { icon, words }) in entries.iter().enumerate() {
         let (x, y) = (MARGIN + (k % 2) as f64 * 4600.0, foot + LEGEND_ROW * (k / 2) as f64);
         let _ = writeln!(
@@ -489,11 +504,21 @@ mod tests {
     }
 
     #[test]
-    fn signs_by_shape_and_colour() {
+    fn the_tints_have_numbers() {
+        let points = [[0.0; 3], [1.0, 0.0, 0.0], [0.0, 1.0, 0.0]];
+        let svg = drawn(&points, &[[0, 1, 2]], &[0.0; 3]);
+        for (x, degrees) in [(0, 0), (260, 45), (520, 90)] {
+            assert!(svg.contains(&format!("M{x} 90v30")), "a tick at {degrees}");
+            assert!(svg.contains(&format!("<text x=\"{x}\" y=\"222\">{degrees}\u{b0}</text>")));
+        }
+    }
+
+    #[test]
+    fn markers_by_shape_and_colour() {
         let points = [[0.0; 3], [1.0, 0.0, 0.0], [0.0, 1.0, 0.0], [1.0, 1.0, 0.0]];
         let svg = drawn(&points, &[[0, 1, 2], [1, 0, 2]], &[0.0, 0.5, 1.0, 0.0]);
         for (colour, corners) in [(RED, 3), (BLUE, 5)] {
-            let mark = format!("<path fill=\"{colour}\" stroke=\"#fff\"");
+            let mark = format!("<path stroke=\"{colour}\"");
             let shape = svg
                 .split(&mark)
                 .nth(1)
@@ -502,6 +527,15 @@ mod tests {
                 .nth(1)
                 .expect("a path");
             assert_eq!(shape.split('z').next().unwrap().matches('l').count() + 1, corners);
+        }
+        // nothing but the legend comes after the crosses, and no marker is filled
+        let crosses = svg.rfind(&format!("\n<path stroke=\"{INK}\"")).expect("crosses");
+        let legend = svg.find("<g transform").expect("a legend");
+        let after = &svg[crosses + 1..legend];
+        assert_eq!((after.lines().count(), after.matches("<path").count()), (1, 1));
+        for colour in [RED, BLUE] {
+            let fill = format!("fill=\"{colour}\"");
+            assert!(svg.split(&fill).skip(1).all(|rest| rest.starts_with(" fill-opacity")));
         }
         assert!(svg.contains("three quads meet: 1") && svg.contains("five quads meet: 1"));
         assert!(svg.contains("<title>a &lt;b&gt; &amp; c</title>"));

@@ -13,7 +13,7 @@ pub struct Options {
     pub adaptive: f64,
 }
 
-/// What a solve tells.
+/// The report of a solve.
 #[repr(C)]
 #[derive(Default)]
 pub struct Report {
@@ -27,6 +27,7 @@ pub struct Report {
 }
 
 extern "C" {
+    pub fn godf_version() -> u32;
     pub fn godf_solve(
         points: *const f64,
         point_numbers: usize,

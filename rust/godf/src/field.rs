@@ -2,18 +2,19 @@
 
 use crate::{ffi, mode::in_default_mode};
 
-/// What a field has at a place.
+/// The answer of a probe.
 #[derive(Clone, Copy, Debug, PartialEq)]
+#[non_exhaustive]
 pub enum Probe {
-    /// The cross angle in radians, from 0 up to pi/2.
+    /// The cross angle in radians, in [0, pi/2).
     Angle(f64),
-    /// Angles and points are not as many, an angle is not finite, no triangle holds the place, or the direction vanishes there.
+    /// `angles.len() != points.len()`, an angle is not finite, no triangle contains the place, or the direction vanishes there.
     NoAngle,
-    /// An angle given is above 131,072 in size.
+    /// The absolute value of an angle is above 131,072.
     TooLarge,
 }
 
-/// The angle of a field at `at`, interpolated in the first triangle that holds it. `angles` has the field's angle at each point.
+/// The angle of a field at `at`, interpolated in the first triangle that contains it. `angles` has the field's angle at each point.
 ///
 /// ```
 /// use godf::{probe, Probe};
@@ -55,7 +56,7 @@ pub enum Valence {
     Five,
 }
 
-/// A triangle round which a field turns by a charge that is not 0.
+/// A triangle around which a field turns, with a charge other than 0.
 #[derive(Clone, Copy, Debug, PartialEq, Eq, Hash)]
 pub struct Singularity {
     /// The triangle's number.
@@ -64,8 +65,8 @@ pub struct Singularity {
     pub valence: Valence,
 }
 
-/// How many triangles have a charge above 0 (quads meet in threes) and below 0 (in fives). Triangles with a corner that has no angle, or
-/// one that is not finite, are passed over.
+/// How many triangles have a charge above 0 (three quads meet) and below 0 (five quads meet). Triangles with a corner that has no angle,
+/// or one that is not finite, are skipped.
 pub fn count_singularities(angles: &[f64], triangles: &[[u32; 3]]) -> (usize, usize) {
     let corners = triangles.as_flattened();
     let (mut valence_3, mut valence_5) = (0, 0);

@@ -1,14 +1,14 @@
 //! The floating-point mode that the library is proved for: round to nearest, ties to even, subnormal numbers as they are, no traps.
 //!
 //! Engines often run with flush-to-zero and denormals-are-zero set. On x86-64 the mode is the register MXCSR: it is saved, set and
-//! restored around every call, its flags too, so that a call is not seen in it. On other targets the mode is left as it is found, and a
-//! caller that has changed it must put it back before a call.
+//! restored around every call, with its flags, so that a call leaves no trace in it. On other targets the mode is not changed, and a caller
+//! that has changed it must restore it before a call.
 
 /// MXCSR as a program starts with it: all exceptions masked, round to nearest, no flushing.
 #[cfg(target_arch = "x86_64")]
 const DEFAULT: u32 = 0x1f80;
 
-/// The mode found, put back when this is dropped.
+/// The caller's mode, restored when this is dropped.
 #[cfg(target_arch = "x86_64")]
 struct Found(u32);
 
@@ -36,7 +36,7 @@ fn load(mode: u32) {
     unsafe { core::arch::asm!("ldmxcsr [{}]", in(reg) &mode, options(nostack, preserves_flags)) };
 }
 
-/// Makes a call in the library's mode.
+/// Runs a call in the library's mode.
 pub fn in_default_mode<T>(call: impl FnOnce() -> T) -> T {
     #[cfg(target_arch = "x86_64")]
     let _found = Found::replace();

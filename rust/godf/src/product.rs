@@ -7,7 +7,7 @@ use crate::{ffi, mode::in_default_mode};
 pub struct Matrix<'a> {
     /// The diagonal, which is real: a number for each vertex.
     pub diagonal: &'a [f64],
-    /// The entry of each edge, in row `from` and column `to`; its conjugate stands in row `to` and column `from`.
+    /// The entry of each edge, in row `from` and column `to`; its conjugate is in row `to` and column `from`.
     pub off: &'a [[f64; 2]],
     /// One end of each edge.
     pub from: &'a [u32],
@@ -15,13 +15,13 @@ pub struct Matrix<'a> {
     pub to: &'a [u32],
 }
 
-/// The lists of the edges at each vertex, by which [`vertex_product`] goes. They depend on the edges alone: build them once.
+/// The lists of the edges at each vertex, for [`vertex_product`]. They depend only on the edges: build them once.
 ///
-/// The first numbers, one more than vertices, say how many entries stand before each vertex's list, and how many there are in all. Then
-/// come the lists, one behind the other; each has the numbers of the edges that have an end at its vertex, rising.
+/// With n vertices, the first n + 1 numbers are the offset of each vertex's list and the number of all entries. Then come the lists; each
+/// has the numbers of the edges that have an end at its vertex, in increasing order.
 ///
-/// None where `from` and `to` differ in length, an end is no vertex, the two ends of an edge are the same vertex, or there are 2^31 edges
-/// or more.
+/// `None` if `from` and `to` differ in length, an end is no vertex, the two ends of an edge are the same vertex, or there are 2^31 edges or
+/// more.
 ///
 /// ```
 /// let lists = godf::vertex_lists(4, &[0, 2, 1], &[1, 1, 0]).expect("edges between different vertices");
@@ -48,8 +48,8 @@ pub fn vertex_lists(vertices: usize, from: &[u32], to: &[u32]) -> Option<Vec<u32
 
 /// The product of a matrix and the vector `x` at one vertex, by the matrix's [`vertex_lists`].
 ///
-/// It starts with the diagonal term and adds the terms of the vertex's edges in the order of their numbers, each operation rounded once.
-/// The solver's own product has the same bits, so that the vertices can be spread over threads in any way:
+/// It starts with the diagonal term and adds the terms of the vertex's edges in the order of their numbers; each operation is rounded once.
+/// The solver's own product has the same bits, so vertices can be spread over threads in any way:
 ///
 /// ```
 /// use godf::{vertex_lists, vertex_product, Matrix};
@@ -65,8 +65,8 @@ pub fn vertex_lists(vertices: usize, from: &[u32], to: &[u32]) -> Option<Vec<u32
 /// assert_eq!(at(2), None);
 /// ```
 ///
-/// None where the vertex is not on the diagonal or not in `x`, or where the lists lead outside the lists, the edges or `x`. Lists of other
-/// edges give that, or a sum of other terms.
+/// `None` if the vertex is not on the diagonal or not in `x`, or if the lists point outside the lists, the edges or `x`. Lists of other
+/// edges give `None` or a sum of other terms.
 pub fn vertex_product(matrix: Matrix, lists: &[u32], x: &[[f64; 2]], vertex: usize) -> Option<[f64; 2]> {
     let off = matrix.off.as_flattened();
     let x = x.as_flattened();

@@ -4,7 +4,7 @@ use crate::{
     ffi,
     floor::Floor,
     mode::in_default_mode,
-    refusal::{Place, Refusal, Told},
+    refusal::{Place, Refusal, Reported},
     solve::{MOST_POINTS, MOST_TRIANGLES},
 };
 
@@ -17,7 +17,7 @@ pub struct Refined {
     pub triangles: Vec<[u32; 3]>,
     /// The size at each point; of a new point the mean of the two ends of its side.
     pub sizes: Vec<f64>,
-    /// The ends of each cut side, the lower first, in the order first met.
+    /// The ends of each cut side, the lower first, in first-seen order.
     pub cut_sides: Vec<[u32; 2]>,
     /// On how many triangles the field turns by more than the threshold.
     pub flagged: usize,
@@ -33,8 +33,8 @@ impl Refined {
         }
     }
 
-    /// Refines into this floor, whose memory is used again: it allocates nothing where it has room for all points and triangles that a
-    /// floor of this size could get. Refused, it is left empty.
+    /// Refines into this floor and reuses its memory: it allocates nothing if it has room for all points and triangles that a floor of
+    /// this size could get. On a refusal it is left empty.
     pub fn refine(&mut self, floor: Floor, angles: &[f64], threshold: f64) -> Result<(), Refusal> {
         let (n, t) = (floor.points.len(), floor.triangles.len());
         // a floor that is too large is refused before the result slices are looked at
@@ -91,17 +91,17 @@ impl Refined {
         if number == 0 {
             return Ok(());
         }
-        let told = Told {
+        let reported = Reported {
             number,
             place,
-            ..Told::default()
+            ..Reported::default()
         };
-        Err(Refusal::of(&told, n))
+        Err(Refusal::of(&reported, n))
     }
 }
 
 /// Splits the triangles on which the field `angles` turns by more than `threshold` radians, and their neighbours along the cut sides, so
-/// that no side is cracked.
+/// that no side has a crack.
 ///
 /// ```
 /// let floor = godf::Floor {
@@ -123,7 +123,7 @@ pub fn refine(floor: Floor, angles: &[f64], threshold: f64) -> Result<Refined, R
 
 /// The numbers of the triangles on which the field turns by more than the threshold, which [`refine`] counts.
 ///
-/// The library's refinement tells them, of triangles that are set apart: such a triangle is cut exactly if it is flagged.
+/// They come from the library's refinement of the same triangles without shared points: there a triangle is cut exactly if it is flagged.
 pub fn flagged(angles: &[f64], triangles: &[[u32; 3]], threshold: f64) -> Result<Vec<usize>, Refusal> {
     let apart = |place| Refusal {
         number: 8,

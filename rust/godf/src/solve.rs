@@ -1,4 +1,4 @@
-//! A whole solve: in slices that the caller lends, or in a workspace that grows as it is used.
+//! A whole solve: in the caller's slices, or in a workspace that grows as needed.
 
 use crate::{
     ffi,
@@ -6,7 +6,7 @@ use crate::{
     mode::in_default_mode,
     options::{Guidance, Options},
     refine::{refine, Refined},
-    refusal::{Refusal, Told},
+    refusal::{Refusal, Reported},
 };
 
 /// The most points of a floor that is solved or refined.
@@ -14,16 +14,16 @@ pub const MOST_POINTS: usize = 16_384;
 /// The most triangles of a floor that is solved or refined.
 pub const MOST_TRIANGLES: usize = 32_768;
 
-/// How many triangles the first pass's field turned too far on, and how many sides were cut for it. Both are 0 where the threshold is 0.
+/// On how many triangles the first pass's field turned too far, and how many sides were cut for it. Both are 0 with threshold 0.
 #[derive(Clone, Copy, Debug, Default, PartialEq, Eq)]
 pub struct Counts {
     /// Triangles on which the field turned by more than the threshold.
     pub flagged: usize,
-    /// Sides of these, each counted once: as many new points as the refined floor has.
+    /// Sides of these triangles, each counted once: the number of new points.
     pub cut: usize,
 }
 
-/// The least lengths of the slices that a solve is lent.
+/// The least lengths of the slices that a solve needs.
 ///
 /// ```
 /// use godf::Lengths;
@@ -43,7 +43,7 @@ pub struct Lengths {
 }
 
 impl Lengths {
-    /// For a floor of so many points and triangles and a threshold, by the library's own functions.
+    /// For a floor of this many points and triangles and a threshold, by the library's own functions.
     pub fn of(points: usize, triangles: usize, threshold: f64) -> Self {
         // SAFETY: plain numbers
         let [fine, work, numbers] = in_default_mode(|| unsafe {
@@ -62,10 +62,10 @@ impl Lengths {
     }
 }
 
-/// Slices lent to a solve, for a caller with memory of its own; [`Workspace`] has its own.
+/// Slices for a solve, for a caller with memory of its own; [`Workspace`] has its own.
 ///
-/// Longer slices than [`Lengths`] says are allowed. All of `work` and `numbers` is scratch: what they hold before a call does not matter,
-/// and a call that gets as far as its first pass leaves zeros in all of both.
+/// Use exactly the lengths of [`Lengths`]. Longer slices are allowed, but `work` and `numbers` are scratch that a call clears as a whole:
+/// what they hold before a call does not matter, and a call that reaches its first pass leaves zeros in all of both.
 #[derive(Debug)]
 pub struct Lent<'a> {
     /// For the first pass's angles.
@@ -79,8 +79,8 @@ pub struct Lent<'a> {
 }
 
 impl Lent<'_> {
-    /// Solves, and allocates nothing. Accepted, the front of `coarse` has the first pass's angles and, where a triangle was flagged, the
-    /// front of `fine` those of the whole refined floor; the rest of both stays. Refused, both stay as they are.
+    /// Solves, and allocates nothing. On success the front of `coarse` has the first pass's angles and, if a triangle was flagged, the
+    /// front of `fine` those of the whole refined floor; the rest of both is unchanged. On a refusal both are unchanged.
     pub fn solve(
         &mut self,
         floor: Floor,
@@ -93,7 +93,7 @@ impl Lent<'_> {
         let (weight, angles) = guidance.map_or((0.0, &[][..]), |g| (g.weight, &g.angle));
         let numbers = options.numbers();
         let mut report = ffi::Report::default();
-        // SAFETY: each pointer goes with the length of its own slice; the lent ones are borrowed for writing
+        // SAFETY: each pointer goes with the length of its own slice; those of `self` are borrowed for writing
         let number = in_default_mode(|| unsafe {
             ffi::godf_solve(
                 points.as_ptr(),
@@ -120,14 +120,14 @@ impl Lent<'_> {
             )
         });
         if number != 0 {
-            let told = Told {
+            let reported = Reported {
                 number,
                 place: report.place,
                 other: report.other,
                 reason: report.reason,
                 pass: report.pass,
             };
-            return Err(Refusal::of(&told, floor.points.len()));
+            return Err(Refusal::of(&reported, floor.points.len()));
         }
         Ok(Counts {
             flagged: report.flagged as usize,
@@ -136,8 +136,8 @@ impl Lent<'_> {
     }
 }
 
-/// The answer of an accepted solve on so many points: the first angles of `fine` where a triangle was flagged, else of `coarse`. Empty
-/// where that slice is shorter.
+/// The answer of a successful solve of a floor with `points` points: the first angles of `fine` if a triangle was flagged, otherwise of
+/// `coarse`. Empty if that slice is shorter.
 pub fn answer<'a>(coarse: &'a [f64], fine: &'a [f64], points: usize, flagged: usize) -> &'a [f64] {
     let mut count = 0;
     // SAFETY: each pointer goes with the length of its own slice
@@ -155,7 +155,7 @@ pub fn answer<'a>(coarse: &'a [f64], fine: &'a [f64], points: usize, flagged: us
     &(if of_fine == 0 { coarse } else { fine })[..count]
 }
 
-/// Memory for solves, used again from call to call: a solve whose floor is not larger than one before allocates nothing.
+/// Memory for solves, reused from call to call: a solve whose floor is not larger than an earlier one allocates nothing.
 ///
 /// ```
 /// use godf::{BoundaryMode, Floor, Options, Workspace};
@@ -164,7 +164,7 @@ pub fn answer<'a>(coarse: &'a [f64], fine: &'a [f64], points: usize, flagged: us
 ///     triangles: &[[0, 1, 4], [1, 2, 4], [2, 3, 4], [3, 0, 4]],
 ///     sizes: &[1.0; 5],
 /// };
-/// let options = Options { boundary: BoundaryMode::Tangent, ..Options::default() };
+/// let options = Options::new().boundary(BoundaryMode::Tangent);
 /// let mut workspace = Workspace::new();
 /// for _ in 0..2 {
 ///     let field = workspace.solve(floor, &options, None, 100)?;
@@ -181,12 +181,28 @@ pub struct Workspace {
     numbers: Vec<u32>,
 }
 
-/// The first so many places of a vector, which grows where it is shorter.
+/// The first `length` elements. A shorter vector is replaced: what it holds does not matter.
 fn front<T: Copy + Default>(of: &mut Vec<T>, length: usize) -> &mut [T] {
     if of.len() < length {
-        of.resize(length, T::default());
+        *of = Vec::new();
+        *of = vec![T::default(); length];
     }
     &mut of[..length]
+}
+
+/// Gives memory back, down to `length` elements.
+fn shorten<T>(of: &mut Vec<T>, length: usize) {
+    of.truncate(length);
+    of.shrink_to_fit();
+}
+
+/// The lengths for a floor; 0 for one that is too large, which a solve refuses before it looks at the slices.
+fn needed(points: usize, triangles: usize, threshold: f64) -> Lengths {
+    if points > MOST_POINTS || triangles > MOST_TRIANGLES {
+        Lengths::default()
+    } else {
+        Lengths::of(points, triangles, threshold)
+    }
 }
 
 impl Workspace {
@@ -195,20 +211,28 @@ impl Workspace {
         Self::default()
     }
 
-    /// A workspace for floors of up to so many points and triangles, solved with this threshold.
+    /// A workspace for floors of up to this many points and triangles, solved with this threshold.
     pub fn with_capacity(points: usize, triangles: usize, threshold: f64) -> Self {
         let mut workspace = Self::new();
         workspace.lend(points, triangles, threshold);
         workspace
     }
 
-    /// Slices of the least lengths; none for a floor that is too large, which the solve refuses first of all.
+    /// Gives memory back, except what floors of up to this many points and triangles need with this threshold. `shrink(0, 0, 0.0)` gives
+    /// all of it back.
+    ///
+    /// The largest floor takes 22 MB with threshold 0 and 117 MB with a threshold above 0.
+    pub fn shrink(&mut self, points: usize, triangles: usize, threshold: f64) {
+        let lengths = needed(points, triangles, threshold);
+        shorten(&mut self.coarse, lengths.coarse);
+        shorten(&mut self.fine, lengths.fine);
+        shorten(&mut self.work, lengths.work);
+        shorten(&mut self.numbers, lengths.numbers);
+    }
+
+    /// Slices of exactly the lengths needed: a call clears all the work that it is given.
     fn lend(&mut self, points: usize, triangles: usize, threshold: f64) -> Lent<'_> {
-        let lengths = if points > MOST_POINTS || triangles > MOST_TRIANGLES {
-            Lengths::default()
-        } else {
-            Lengths::of(points, triangles, threshold)
-        };
+        let lengths = needed(points, triangles, threshold);
         Lent {
             coarse: front(&mut self.coarse, lengths.coarse),
             fine: front(&mut self.fine, lengths.fine),
@@ -217,10 +241,10 @@ impl Workspace {
         }
     }
 
-    /// The field of a floor: a cross angle for each point, in radians from 0 up to pi/2.
+    /// The field of a floor: a cross angle for each point, in radians in [0, pi/2).
     ///
-    /// `iterations` bounds the turns of the inverse iteration, which is taken where neither boundary, guidance nor anisotropy acts;
-    /// otherwise it need only be above 0.
+    /// `iterations` limits the inverse iteration, which is used where neither boundary, guidance nor anisotropy acts; otherwise any number
+    /// above 0 will do.
     pub fn solve(
         &mut self,
         floor: Floor,
@@ -254,7 +278,7 @@ pub struct Field<'a> {
 }
 
 impl<'a> Field<'a> {
-    /// The angle at each point of the floor: the second pass's where the floor was refined.
+    /// The angle at each point of the floor: the second pass's if the floor was refined.
     pub fn angles(&self) -> &'a [f64] {
         answer(self.coarse, self.fine, self.coarse.len(), self.counts.flagged)
     }
@@ -264,7 +288,7 @@ impl<'a> Field<'a> {
         self.coarse
     }
 
-    /// The angles at all points of the refined floor, its new points last; none where no triangle was flagged.
+    /// The angles at all points of the refined floor, its new points last; `None` if no triangle was flagged.
     pub fn refined_angles(&self) -> Option<&'a [f64]> {
         (self.counts.flagged > 0).then_some(self.fine)
     }
@@ -274,8 +298,8 @@ impl<'a> Field<'a> {
         self.counts
     }
 
-    /// The refined floor that the second pass was made on; none where no triangle was flagged. `floor` is the floor that was solved:
-    /// another one may be refused, or get another refinement.
+    /// The refined floor of the second pass; `None` if no triangle was flagged. `floor` is the floor that was solved: another one may be
+    /// refused, or get another refinement.
     ///
     /// ```
     /// use godf::{Floor, Guidance, Options, Workspace};
@@ -285,7 +309,7 @@ impl<'a> Field<'a> {
     ///     sizes: &[1.0; 3],
     /// };
     /// let guidance = Guidance { weight: 100.0, angle: vec![0.0, 0.3, 0.6] };
-    /// let options = Options { adaptive: 0.1, ..Options::default() };
+    /// let options = Options::new().adaptive(0.1);
     /// let mut workspace = Workspace::new();
     /// let field = workspace.solve(floor, &options, Some(&guidance), 100)?;
     /// let refined = field.refined_floor(floor)?.expect("a triangle that is flagged");

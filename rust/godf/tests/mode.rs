@@ -3,9 +3,8 @@
 
 mod common;
 
-use common::{calls, floor_of, guidance_of, options_of};
-use godf::{Floor, Lengths, Probe, Workspace};
-use oracle::outcome::same_angles;
+use common::{calls, same_angles};
+use godf::{simons_godf, Floor, Lengths, Probe, Workspace};
 use std::{arch::asm, hint::black_box};
 
 /// Flush-to-zero, denormals-are-zero, round towards zero, one flag raised, all exceptions masked.
@@ -52,10 +51,9 @@ fn solves() {
     let mut workspace = Workspace::new();
     let mut fields = 0;
     for (i, call) in calls(3, 300).enumerate() {
-        let (floor, options, guidance) = (floor_of(&call), options_of(&call.case), guidance_of(&call.case));
         let mut solve = || {
             workspace
-                .solve(floor, &options, guidance.as_ref(), call.iterations())
+                .solve(call.floor(), &call.options, call.guidance.as_ref(), call.iterations)
                 .map(|f| (f.angles().to_vec(), f.counts()))
         };
         let (plain, changed) = (solve(), hostile(solve));
@@ -89,6 +87,10 @@ fn the_other_calls() {
     let probe = || godf::probe(&angles, floor.points, floor.triangles, [0.1, 0.2]);
     assert_eq!(probe(), hostile(probe));
     assert!(matches!(probe(), Probe::Angle(_)));
+    let corners = [[0, 1, 3], [0, 2, 1]];
+    let probe = || simons_godf::interp_angle(&angles, floor.points, &corners, [0.1, 0.2]);
+    assert_eq!(probe().to_bits(), hostile(probe).to_bits());
+    assert!(probe().is_finite());
     let count = || godf::count_singularities(&[0.0, 0.5, 0.0, 1.0], floor.triangles);
     assert_eq!(count(), hostile(count));
     assert_eq!(count(), (1, 0));
