@@ -346,8 +346,8 @@ pub struct Tally {
     pub unnoticed: Vec<(usize, String)>,
 }
 
-/// A change whose definition gives other values on so many rows, none of which notices, is run on no more.
-const ROWS: usize = 400;
+/// A change that was run for so many calls on early rows, none of which noticed, is run on no more of them; and likewise on the others.
+const MOST: u64 = 20_000_000;
 
 /// A changed definition may make a row this many times as long, and this many calls beside; more counts as noticed.
 const LONGER: u64 = 10;
@@ -356,14 +356,14 @@ const SPARE: u64 = 1_000_000;
 /// Changes `from` on, at most `most`, of these every `step`-th, each on every so many rows.
 pub fn run(root: &Path, folders: &[&Path], every: usize, from: usize, most: usize, step: usize) -> Tally {
     let mut solver = Solver::new(root, true);
-    // the cheapest first
+    // the early ones first, and the cheapest first
     let mut rows: Vec<(u64, Row)> = vec![];
     for row in Row::all(folders, every) {
         let why = solver.try_row(&row);
         assert!(why.is_empty(), "a row differs before any change: {why}");
         rows.push((solver.machine.calls, row));
     }
-    rows.sort_by_key(|row| row.0);
+    rows.sort_by_key(|(calls, row)| (!row.early, *calls));
     let changes = all(&solver.program);
     let mut code = vec![None; changes.len()];
     for (number, (d, _, clauses)) in changes.iter().enumerate().skip(from).take(most).step_by(step) {
@@ -378,15 +378,19 @@ pub fn run(root: &Path, folders: &[&Path], every: usize, from: usize, most: usiz
         ..Tally::default()
     };
     let mut times = vec![0; changes.len()];
+    let mut spent = vec![0; changes.len()];
     for (k, (calls, row)) in rows.iter().enumerate() {
+        if k > 0 && rows[k - 1].1.early && !row.early {
+            spent.fill(0);
+        }
         solver.machine.compared = vec![(0, 0); changes.len()];
-        solver.machine.told_apart = times.iter().map(|t| *t >= ROWS).collect();
+        solver.machine.told_apart = spent.iter().map(|s| *s >= MOST).collect();
         solver.try_row(row);
         let told_apart = std::mem::take(&mut solver.machine.told_apart);
         let others = std::mem::take(&mut solver.machine.others);
         let mut gone = BTreeSet::new();
         for &(number, compiled) in others.iter().flatten() {
-            if !told_apart[number] || times[number] >= ROWS {
+            if !told_apart[number] || spent[number] >= MOST {
                 continue;
             }
             let d = changes[number].0;
@@ -395,6 +399,7 @@ pub fn run(root: &Path, folders: &[&Path], every: usize, from: usize, most: usiz
             let original = solver.machine.replace(d, compiled);
             solver.machine.most = LONGER * calls + SPARE;
             let why = solver.try_row(row);
+            spent[number] += solver.machine.calls;
             solver.machine.most = u64::MAX;
             solver.machine.replace(d, original);
             if !why.is_empty() {

@@ -82,11 +82,14 @@ pub struct Solver {
 /// A recorded row, with the name of its kind.
 pub struct Row {
     pub name: &'static str,
+    /// Whether it is among the first of its list, or one of every so many.
+    pub early: bool,
     words: Vec<u64>,
 }
 
-/// So many rows at the front of a list are taken in any case.
+/// So many rows at the front of a list, among them those whose outcome is known, and every so many of the others are early ones.
 const FIRST: usize = 120;
+const SELDOM: usize = 40;
 
 /// The kinds of leaves and scalars, with the list of each and how many words a row has.
 const KINDS: [(&str, &str, usize); 11] = [
@@ -104,15 +107,16 @@ const KINDS: [(&str, &str, usize); 11] = [
 ];
 
 impl Row {
-    /// The rows of the lists in these folders: the first of each list, among them those whose outcome is known, and every so many of the rest.
+    /// The rows of the lists in these folders: the early ones, and every so many of the others; none of these where that is 0.
     pub fn all(folders: &[&Path], every: usize) -> Vec<Row> {
         let mut rows = vec![];
         let mut put = |name: &'static str, all: Vec<Vec<u64>>| {
-            let some = all
-                .into_iter()
-                .enumerate()
-                .filter(|(k, _)| *k < FIRST || k % every == 0);
-            rows.extend(some.map(|(_, words)| Row { name, words }));
+            for (k, words) in all.into_iter().enumerate() {
+                let early = k < FIRST || k % SELDOM == 0;
+                if early || (every > 0 && k % every == 0) {
+                    rows.push(Row { name, early, words });
+                }
+            }
         };
         for (name, file, width) in KINDS {
             for path in folders.iter().map(|f| f.join(file)).filter(|p| p.exists()) {

@@ -9,7 +9,7 @@ use Rattle.mesh.specs.Mesh.{All}
 use Rattle.mesh.proofs.Whole.{all-distinct}
 use Rattle.floor.specs.Floor.{Floor, pointCount}
 use Rattle.float.specs.Double.{notPositive}
-use Rattle.pass_shift.specs.declared.Traces.{Traces}
+use Rattle.pass_assembly.specs.declared.shift.Traces.{Traces}
 use Rattle.refusals.specs.Refusal.{gaveUp}
 use Rattle.pass_options.specs.declared.Options.{Options}
 use Rattle.pass_options.specs.Options.{Guidance}

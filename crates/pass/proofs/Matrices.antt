@@ -15,16 +15,15 @@ use Rattle.floor.specs.Floor.{Floor, pointCount, triangleCount}
 use Rattle.linear_hermitian.specs.Hermitian.{Matrix}
 use Rattle.linear_hermitian.specs.Work.{matrix, shiftMatrix, ShiftRoom}
 use Rattle.pass_assembly.specs.Assembly as assembly
-use Rattle.pass_assembly.specs.Work.{assembledTo, Indexed}
+use Rattle.pass_assembly.specs.Work.{assembledTo, Indexed, TraceRoom}
 use Rattle.pass_assembly.specs.Work as work
 use Rattle.pass_assembly.proofs.Lists as lists
 use Rattle.pass_assembly.proofs.Matrices.{assembled-length, assembled-below, assembled-above}
-use Rattle.pass_shift.specs.declared.Traces.{Traces}
-use Rattle.pass_shift.specs.Shift.{tracesOf, shiftOf, shiftedEnergy}
-use Rattle.pass_shift.specs.Work.{TraceRoom}
+use Rattle.pass_assembly.specs.declared.shift.Traces.{Traces}
+use Rattle.pass_assembly.specs.Shift.{tracesOf, shiftOf, shiftedEnergy}
 use Rattle.pass_terms.specs.declared.Mode.{Mode}
 use Rattle.linear_hermitian.proofs.Elsewhere.{shift-else-real, mass-shifted}
-use Rattle.pass_shift.proofs.Energy.{energy-shifted}
+use Rattle.pass_assembly.proofs.Energy.{energy-shifted}
 use Rattle.pass_options.specs.declared.Options.{Options}
 use Rattle.pass_layout.specs.declared.Layout.{Layout}
 use Rattle.pass_layout.specs.Layout.{Ordered}

@@ -15,9 +15,9 @@ use Rattle.refusals.specs.declared.Refusal.{Refusal}
 use Rattle.refusals.specs.declared.Stage.{Stage}
 use Rattle.refusals.specs.declared.Stage.the-variants.{Done, Refused}
 use Rattle.refusals.specs.Refusal.{gaveUp}
-use Rattle.pass_shift.specs.declared.Traces.{Traces}
-use Rattle.pass_shift.specs.Shift.{shiftOf}
-use Rattle.pass_shift.specs.Work.{tracesStage}
+use Rattle.pass_assembly.specs.declared.shift.Traces.{Traces}
+use Rattle.pass_assembly.specs.Shift.{shiftOf}
+use Rattle.pass_assembly.specs.Work.{tracesStage}
 use Rattle.pass_options.specs.declared.Options.{Options}
 use Rattle.pass_options.specs.Pass.{Passed, faulty, stageOf}
 use Rattle.pass_layout.specs.declared.Layout.{Layout}

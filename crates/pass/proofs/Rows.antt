@@ -18,7 +18,7 @@ use Rattle.linear_conjugate_gradient.specs.Found.{Found, vector, gave}
 use Rattle.pass_field.specs.Field.{Angles, angles, endless, fieldOf}
 use Rattle.refusals.specs.declared.Refusal.{Refusal}
 use Rattle.refusals.specs.Refusal.{rowAt, gaveUp}
-use Rattle.pass_shift.specs.declared.Traces.{Traces}
+use Rattle.pass_assembly.specs.declared.shift.Traces.{Traces}
 use Rattle.pass_soft.specs.Soft.{Term, System}
 use Rattle.pass_options.specs.declared.Options.{Options}
 use Rattle.pass_options.specs.declared.BoundaryMode.{BoundaryMode}

@@ -8,8 +8,8 @@ use Rattle.linear_hermitian.specs.Hermitian.{Matrix}
 use Rattle.pass_terms.specs.declared.Mode.{Mode}
 use Rattle.pass_assembly.specs.Assembly as assembly
 use Rattle.pass_assembly.specs.Lists.{assembledOf}
-use Rattle.pass_shift.specs.declared.Traces.{Traces}
-use Rattle.pass_shift.specs.Shift.{tracesOf, shiftedEnergy}
+use Rattle.pass_assembly.specs.declared.shift.Traces.{Traces}
+use Rattle.pass_assembly.specs.Shift.{tracesOf, shiftedEnergy}
 use Rattle.float.specs.Double.{notPositive}
 use Rattle.refusals.specs.Refusal.{gaveUp}
 use Rattle.pass_options.specs.declared.Options.{Options}

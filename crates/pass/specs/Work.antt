@@ -8,8 +8,8 @@ use Rattle.linear_cells.specs.Region.{region}
 use Rattle.pass_terms.specs.declared.Mode.{Mode}
 use Rattle.pass_assembly.specs.declared.AssemblyPlan.{AssemblyPlan}
 use Rattle.pass_assembly.specs.Work.{assembledTo}
-use Rattle.pass_shift.specs.declared.Traces.{Traces}
-use Rattle.pass_shift.specs.Shift.{tracesOf}
+use Rattle.pass_assembly.specs.declared.shift.Traces.{Traces}
+use Rattle.pass_assembly.specs.Shift.{tracesOf}
 use Rattle.pass_options.specs.declared.Options.{Options}
 use Rattle.pass_options.specs.Options.{Guidance, guidanceOf}
 use Rattle.pass_options.specs.Pass.{Passed}

@@ -1,12 +1,12 @@
 // One pass: the Rust's solve_mesh, from a floor in the work slices to the angles of its field, or a refusal by rows 19 to 24.
 // specs/Pass.antt says what it finds, as one function of lists, and specs/Work.antt where it reads and writes.
 use pass_assembly::AssemblyPlan;
+use pass_assembly::shift::Traces;
 use pass_branches::Search;
 use pass_layout::Base;
 use pass_layout::Layout;
 use pass_options::Options;
 use pass_setup::Setup;
-use pass_shift::Traces;
 use pass_terms::Mode;
 use refusals::Stage;
 ghost use mathlib.Core.Path.{_≡_};
@@ -15,7 +15,7 @@ ghost use lib.ListN.{length};
 ghost use Rattle.edges.specs.Numbering.{Below};
 ghost use Rattle.pass_assembly.specs.Work.{Indexed};
 ghost use Rattle.linear_hermitian.specs.Work.{shiftMatrix, ShiftRoom};
-ghost use Rattle.pass_shift.specs.Shift.{shiftOf};
+ghost use Rattle.pass_assembly.specs.Shift.{shiftOf};
 ghost use Rattle.pass_layout.specs.Layout.{Fits, Ordered, layoutOf};
 ghost use Rattle.pass_layout.specs.Matrices.{massAt, energyAt};
 ghost use Rattle.pass_layout.specs.Work.{floorIn};
@@ -53,7 +53,7 @@ fn build(work: &mut [f64], words: &[u32], l: Layout, edges: usize, m: Mode) -> T
     let mass = pass_layout::mass_at(l, edges);
     let energy = pass_layout::energy_at(l, edges);
     pass_assembly::assemble(work, words, plan_at(l), mass, energy, m);
-    pass_shift::traces_of(work, mass, energy)
+    pass_assembly::shift::traces_of(work, mass, energy)
 }
 
 // The energy matrix gets its shift.
@@ -63,7 +63,7 @@ fn shift_energy(work: &mut [f64], l: Layout, edges: usize, t: Traces)
 {
     let mass = pass_layout::mass_at(l, edges);
     let energy = pass_layout::energy_at(l, edges);
-    pass_shift::shift_energy(work, energy, mass, t);
+    pass_assembly::shift::shift_energy(work, energy, mass, t);
 }
 
 // The rest of a pass, once its floor is set up.
@@ -85,7 +85,7 @@ fn field_over(
         holomorphic: o.holomorphic,
     };
     let t = build(work, words, l, edges, mode);
-    let s = pass_shift::check(t);
+    let s = pass_assembly::shift::check(t);
     let Stage::Done = s else {
         return s;
     };

@@ -1,11 +1,11 @@
--- How the work slices hold a floor and the two matrices, what the functions require of them, and the iterations of the loop on lists. Definitions only.
+-- How the work slices hold a floor and the two matrices, what the functions require of them, and the iterations of the loop on lists; what the traces' check answers. Definitions only.
 use Prim.Native.Nat.{ℕ, _+_, _*_, _≤_, _<_}
 use mathlib.Core.Path.{_≡_}
 use mathlib.Core.Bool.{cond}
 use mathlib.Core.List.{List, [], _∷_}
 use lib.ListN.{getD, set, replicate}
 use lib.Ieee.{Float, nan}
-use Rattle.float.specs.Double.{lit, _⊕_}
+use Rattle.float.specs.Double.{lit, notPositive, _⊕_}
 use Rattle.complex.specs.declared.Complex.{Complex}
 use Rattle.complex.specs.Complex.{cnan, cadd}
 use Rattle.edges.specs.Numbering.{Below}
@@ -20,8 +20,12 @@ use Rattle.linear_cells.specs.Region.{tab, region, put}
 use Rattle.linear_cells.specs.Cell.{getC, flat, regionC, putC}
 use Rattle.linear_cells.specs.Spans.{Span, span, laid, Ranged}
 use Rattle.linear_hermitian.specs.declared.Hermitian.{Hermitian}
+use Rattle.refusals.specs.declared.Stage.{Stage}
+use Rattle.refusals.specs.declared.Stage.the-variants.{Done, Refused}
+use Rattle.refusals.specs.Refusal.{gaveUp}
 use Rattle.pass_assembly.specs.declared.Triple.{Triple}
 use Rattle.pass_assembly.specs.declared.AssemblyPlan.{AssemblyPlan}
+use Rattle.pass_assembly.specs.declared.shift.Traces.{Traces}
 use Rattle.pass_assembly.specs.Assembly.{Assembled, thrice, termsOn, massDiagonalTo, massOffTo, energyDiagonalTo, energyOffTo}
 
 -- ---- the floor
@@ -164,3 +168,13 @@ triangleAdded m u l mass energy t w =
 -- a matrix of zeros
 unfoldable pub cleared : Hermitian → List Float → List Float
 cleared h w = put (put w (h .diagonal) (replicate (h .size) (lit 0))) (h .off) (replicate (2 * h .edges) (lit 0))
+
+-- ---- the traces
+
+-- what `check` answers: reason 1, and then reason 2
+unfoldable pub tracesStage : Traces → Stage
+tracesStage t = cond (notPositive (t .energy)) (Refused (gaveUp 1 0)) (cond (notPositive (t .mass)) (Refused (gaveUp 2 0)) Done)
+
+pub record TraceRoom (len : ℕ) (mass energy : Hermitian) : Type 0 where
+  pub mass-in : mass .diagonal + mass .size ≤ len
+  pub energy-in : energy .diagonal + energy .size ≤ len

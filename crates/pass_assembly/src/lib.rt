@@ -1,5 +1,7 @@
 // The mass and the energy matrix of a pass, summed over its triangles in regions of the work slice. specs/Assembly.antt says what the sums are, and
 // specs/Work.antt how the slices hold them.
+pub mod shift;
+
 use complex::Complex;
 use linear_cells::load;
 use linear_cells::load_real;

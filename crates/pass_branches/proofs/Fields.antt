@@ -20,7 +20,7 @@ use Rattle.pass_systems.specs.Systems.{plain, softSystem, penalty, weakSystem, 
 use Rattle.linear_conjugate_gradient.specs.Found.{Found, vector, gave}
 use Rattle.pass_solution.specs.Solution.{solutionOf, linearMost}
 use Rattle.pass_solution.proofs.Lengths.{Long, solution-long}
-use Rattle.pass_start.specs.Start.{rampedBy, startOf}
+use Rattle.pass_inverse_iteration.specs.Start.{rampedBy, startOf}
 use Rattle.pass_inverse_iteration.specs.Inverse.{inverseOf}
 use Rattle.pass_inverse_iteration.proofs.Lengths.{inverse-long}
 use Rattle.pass_field.specs.Field.{Angles, angles, endless, fieldOf}

@@ -15,7 +15,7 @@ use Rattle.pass_soft.specs.Soft.{Term, System, termOf, guidedTargets, alignedTa
 use Rattle.pass_systems.specs.Systems.{softSystem, weakSystem, tangentSystem}
 use Rattle.linear_conjugate_gradient.specs.Found.{Found, vector, gave}
 use Rattle.pass_solution.specs.Solution.{solutionOf, linearMost}
-use Rattle.pass_start.specs.Start.{startOf}
+use Rattle.pass_inverse_iteration.specs.Start.{startOf}
 use Rattle.pass_inverse_iteration.specs.Inverse.{inverseOf}
 use Rattle.pass_field.specs.Field.{Angles, angles, endless, fieldOf}
 use Rattle.floor.specs.Floor.{Floor, pointCount, valueAt}

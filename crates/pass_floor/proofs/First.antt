@@ -12,7 +12,7 @@ use Rattle.linear_cells.proofs.Changes.{region-one}
 use Rattle.mesh.specs.Points.{midpoints, morePoints, midSizes, moreSizes}
 use Rattle.edges.specs.Table.{pairs, cutsIn}
 use Rattle.edges.specs.Numbering.{Below}
-use Rattle.refine_floor.specs.Guidance.{midAngles, moreAngles}
+use Rattle.refinement.specs.Guidance.{midAngles, moreAngles}
 use Rattle.refinement.proofs.Triangles.{tris-held}
 use Rattle.edges.specs.declared.Table.{Table}
 use Rattle.refusals.specs.declared.Stage.{Stage}

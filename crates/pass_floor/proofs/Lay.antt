@@ -16,11 +16,11 @@ use Rattle.mesh.specs.Mesh.{Side, side}
 use Rattle.mesh.specs.Points.{xOf, yOf, midSize, midSizes, morePoints, moreSizes}
 use Rattle.mesh.proofs.Points.{points-length}
 use Rattle.edges.specs.Numbering.{trisFrom}
-use Rattle.refine_floor.specs.Guidance.{midAngleOn, midAngles, moreAngles}
+use Rattle.refinement.specs.Guidance.{midAngleOn, midAngles, moreAngles}
 use Rattle.edges.specs.declared.Table.{Table}
-use Rattle.pass_inputs.specs.declared.Mean.the-variants.{Half, Angle}
-use Rattle.pass_inputs.specs.Planes.{coordinateAt, coordinatePlane, meanOf, meanOn, valuePlane}
-use Rattle.pass_inputs.proofs.Points.{cuts-length, length-plane}
+use Rattle.pass_floor.specs.declared.inputs.Mean.the-variants.{Half, Angle}
+use Rattle.pass_floor.specs.Planes.{coordinateAt, coordinatePlane, meanOf, meanOn, valuePlane}
+use Rattle.pass_floor.proofs.Points.{cuts-length, length-plane}
 use Rattle.refusals.specs.declared.Stage.{Stage}
 use Rattle.pass_layout.specs.declared.Base.{Base}
 use Rattle.pass_layout.specs.declared.Layout.{Layout}

@@ -11,9 +11,9 @@ use Rattle.mesh.specs.Points.{morePoints, moreSizes}
 use Rattle.edges.specs.declared.Table.{Table}
 use Rattle.edges.specs.Table.{endOf, cutsIn}
 use Rattle.edges.specs.Numbering.{trisFrom}
-use Rattle.refine_floor.specs.Guidance.{moreAngles}
-use Rattle.pass_inputs.specs.declared.Mean.the-variants.{Half, Angle}
-use Rattle.pass_inputs.specs.Planes.{coordinatePlane, valuePlane}
+use Rattle.refinement.specs.Guidance.{moreAngles}
+use Rattle.pass_floor.specs.declared.inputs.Mean.the-variants.{Half, Angle}
+use Rattle.pass_floor.specs.Planes.{coordinatePlane, valuePlane}
 use Rattle.pass_layout.specs.declared.Base.{Base}
 use Rattle.pass_layout.specs.declared.Layout.{Layout}
 use Rattle.pass_layout.specs.Layout.{realsOf, wordsOf, Fits}

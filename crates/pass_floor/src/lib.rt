@@ -1,8 +1,10 @@
 // A pass over a floor that is given in lent slices: its points, sizes and guidance are laid out in the work slice, the midpoints of cut sides behind the points,
 // and passed over. Both passes of a solve are made so; the first has no cut sides. specs/Lay.antt says what is laid out, and what is found.
+mod inputs;
+
 use edges::Table;
+use inputs::Mean;
 use pass::Asked;
-use pass_inputs::Mean;
 use pass_layout::Base;
 use pass_layout::Layout;
 use pass_options::Options;
@@ -27,9 +29,9 @@ fn lay_points(
     requires { ⌜ LayRoom (length (now points)) (length (now sizes)) table (length (now words)) l (length (now work)) ⌝ }
     ensures { λ _. ⌜ now (work .exit) ≡ pointsLaid (now (points .entry)) (now (sizes .entry)) (cutsIn table (now (words .entry))) l (now (work .entry)) ⌝ }
 {
-    pass_inputs::put_plane(points, words, table, 0, work, l.x);
-    pass_inputs::put_plane(points, words, table, 1, work, l.y);
-    pass_inputs::put_values(sizes, words, table, Mean::Half, work, l.sizes);
+    inputs::put_plane(points, words, table, 0, work, l.x);
+    inputs::put_plane(points, words, table, 1, work, l.y);
+    inputs::put_values(sizes, words, table, Mean::Half, work, l.sizes);
 }
 
 // The plane of the guidance, where there is any.
@@ -45,7 +47,7 @@ fn lay_guidance(
     ensures { λ _. ⌜ now (work .exit) ≡ guidanceLaid guided (now (guidance .entry)) (cutsIn table (now (words .entry))) l (now (work .entry)) ⌝ }
 {
     if guided {
-        pass_inputs::put_values(guidance, words, table, Mean::Angle, work, l.guidance);
+        inputs::put_values(guidance, words, table, Mean::Angle, work, l.guidance);
     }
 }
 

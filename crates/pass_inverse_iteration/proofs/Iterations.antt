@@ -25,7 +25,7 @@ use Rattle.linear_conjugate_gradient.proofs.Lays.{Sized, read-sized, lay-read, 
 use Rattle.refusals.specs.declared.Stage.{Stage}
 use Rattle.refusals.specs.declared.Stage.the-variants.{Done, Refused}
 use Rattle.refusals.specs.Refusal.{gaveUp}
-use Rattle.pass_start.specs.Start.{rampedBy, startOf}
+use Rattle.pass_inverse_iteration.specs.Start.{rampedBy, startOf}
 use Rattle.linear_conjugate_gradient.specs.Found.{Found, vector, gave}
 use Rattle.linear_conjugate_gradient.specs.Method.{massSquared, normalizedOf}
 use Rattle.pass_solution.specs.Solution.{onward, solutionOf, innerMost}

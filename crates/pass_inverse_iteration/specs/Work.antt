@@ -16,7 +16,7 @@ use Rattle.linear_conjugate_gradient.specs.Work.{read, lay, SolverRoom}
 use Rattle.refusals.specs.declared.Stage.{Stage}
 use Rattle.refusals.specs.declared.Stage.the-variants.{Refused}
 use Rattle.refusals.specs.Refusal.{gaveUp}
-use Rattle.pass_start.specs.Start.{startOf}
+use Rattle.pass_inverse_iteration.specs.Start.{startOf}
 use Rattle.linear_conjugate_gradient.specs.Found.{Found, vector}
 use Rattle.pass_solution.specs.Work.{foundStage, Framed, Answers}
 use Rattle.pass_inverse_iteration.specs.declared.Limits.{Limits}

@@ -1,4 +1,6 @@
 // Inverse iteration for the smallest eigenpair of the shifted pencil, in regions of one lent slice: the Rust's steps. The iterate stands at the solver's x.
+mod start;
+
 use linear_conjugate_gradient::Vectors;
 use linear_hermitian::Hermitian;
 use linear_packing::Packing;
@@ -172,7 +174,7 @@ fn begin(work: &mut [f64], p: PencilPlan, from: &[u32], to: &[u32], o: Outer) ->
     requires { ⌜ Graph (p .mass) (now from) (now to) ⌝ }
     ensures { λ r. ⌜ Starts (now (work .entry)) (now (work .exit)) p (now (from .entry)) (now (to .entry)) o r ⌝ }
 {
-    pass_start::start(work, o.x, o.y, p.vectors.x, p.mass.size);
+    start::start(work, o.x, o.y, p.vectors.x, p.mass.size);
     pass_solution::normalize(work, p.mass, p.vectors, from, to)
 }
 

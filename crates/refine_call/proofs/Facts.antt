@@ -28,7 +28,7 @@ use Rattle.refinement.proofs.Runs.{front}
 use Rattle.refinement.proofs.Triangles.{tris-length, corners-length}
 use Rattle.refinement.proofs.Parts.{refined-most}
 use Rattle.mesh.proofs.Points.{points-length, sizes-length}
-use Rattle.refine_floor.specs.Stored.{Stored}
+use Rattle.refinement.specs.Stored.{Stored}
 use Rattle.refine_call.specs.Marks.{markedBy, MarksRoom, Marked}
 use Rattle.refine_call.proofs.Splitting.{front-same}
 use Rattle.refine_call.specs.declared.Counts.{Counts}

@@ -15,10 +15,10 @@ use Rattle.refinement.specs.Floor.{tris, cornersOf}
 use Rattle.refinement.proofs.Runs.{front}
 use Rattle.refinement.proofs.Parts.{one-less-one-more}
 use Rattle.refinement.proofs.Triangles.{corners-length, corners-append}
-use Rattle.refine_floor.specs.Stored.{Stored}
+use Rattle.refinement.specs.Stored.{Stored}
 use Rattle.refine_call.specs.Marks.{markedBy, splitAt, splitTo, MarksAt, MarksTo}
 use Rattle.refine_call.proofs.Marking.{count-of}
-use Rattle.refine_floor.proofs.Parts.{one-more}
+use Rattle.refinement.proofs.Stands.{one-more}
 
 -- ---- two runs, the second stored first
 

@@ -12,7 +12,7 @@ use Rattle.mesh.specs.Points.{morePoints, moreSizes}
 use Rattle.edges.specs.TwoSlices.{sidesAt, HeldInTwo}
 use Rattle.refinement.specs.declared.Cut.{Cut}
 use Rattle.refinement.specs.Floor.{Refined, trisOf, cornersOf, endsOf, over}
-use Rattle.refine_floor.specs.Stored.{Stored}
+use Rattle.refinement.specs.Stored.{Stored}
 use Rattle.refine_call.specs.Marks.{markedBy, CutsAt}
 use Rattle.refine_call.specs.declared.Counts.{Counts}
 use Rattle.refine_call.specs.Call.{countsOf}

@@ -13,7 +13,7 @@ ghost use Rattle.edges.specs.Table.{oneMore, oneLess};
 ghost use Rattle.edges.specs.TwoSlices.{sidesAt, HeldInTwo};
 ghost use Rattle.refinement.specs.Flag.{flaggedTri};
 ghost use Rattle.refinement.specs.Floor.{triAt, tris, cornersOf};
-ghost use Rattle.refine_floor.specs.Stored.{Stored};
+ghost use Rattle.refinement.specs.Stored.{Stored};
 ghost use Rattle.refine_call.specs.Marks.{cutMark, markedBy, splitAt, splitTo, CutsAt, FlagsTo, MarksRoom, CutsStep, CutsTo, Marked};
 ghost use Rattle.refine_call.specs.Marks.{PiecesRoom, MarksStep, MarksTo};
 

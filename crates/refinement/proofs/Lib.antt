@@ -1,3 +1,4 @@
+pub mod Stands
 pub mod Runs
 pub mod Triangles
 pub mod Parts

@@ -1,3 +1,5 @@
+pub mod Guidance
+pub mod Stored
 pub mod Flag
 pub mod Floor
 pub mod Steps

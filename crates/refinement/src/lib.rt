@@ -1,16 +1,17 @@
 // Refinement of a floor, the Rust's refine_once step by step: which triangles are flagged, the cut sides in the order first met, and the pieces of each
 // triangle. Cut sides stand in a table of crate edges, in the slice `numbers`.
-// specs/Floor.antt has the whole as one definition; specs/Flag.antt says which triangles are flagged.
+// specs/Floor.antt has the whole as one definition; specs/Flag.antt says which triangles are flagged, specs/Guidance.antt what guidance a refined floor has.
 use edges::Table;
 ghost use mathlib.Core.Path.{_≡_};
 ghost use Prim.Native.Nat.{_+_, _*_, _<_, _≤_, _^_};
 ghost use lib.ListN.{length, take};
 ghost use lib.Seq.{sets};
-ghost use Rattle.mesh.specs.Mesh.{tri, mid, split, pieces};
+ghost use Rattle.mesh.specs.Mesh.{tri, mid, split, pieces, refined};
 ghost use Rattle.edges.specs.Table.{endOf, oneMore, oneLess, cutsIn};
 ghost use Rattle.refinement.specs.Flag.{turnAlong, variation, angle, flaggedTri};
-ghost use Rattle.refinement.specs.Floor.{triAt};
+ghost use Rattle.refinement.specs.Floor.{tris, triAt};
 ghost use Rattle.refinement.specs.Steps.{having, HeldIn, CutStep, CutTo, Rows};
+ghost use Rattle.refinement.specs.Stored.{Stored};
 
 // How far the field turns along a side, from the angles at its ends.
 pub fn turn_along(a: f64, b: f64) -> f64
@@ -220,4 +221,48 @@ pub fn put_rows(out: &mut [u32], at: usize, rows: [u32; 12], len: usize)
         out[at + j] = rows[j];
         j += 1;
     }
+}
+
+// ---- the triangles of a refined floor, behind the table of cut sides in one slice
+
+// The pieces of triangle i behind k others from `at` on, in the slice that has the table. How many there are then.
+fn refine_triangle_within(
+    triangles: &[u32],
+    i: usize,
+    points: usize,
+    numbers: &mut [u32],
+    table: Table,
+    at: usize,
+    k: usize,
+) -> usize
+    requires { ⌜ HeldIn table (now numbers) ⌝ }
+    requires { ⌜ (3 * i + 3 ≤ length (now triangles)) × ((points + table .sides < 2 ^ 32) × (at + 3 * k + 12 ≤ length (now numbers))) ⌝ }
+    ensures { λ r. ⌜ Stored (pieces (mid points (cutsIn table (now (numbers .entry)))) (triAt (now (triangles .entry)) i)) (now (numbers .entry)) (at + 3 * k) k (now (numbers .exit)) r ⌝ }
+{
+    let p = pieces_of(triangles, i, points, numbers, table);
+    let rows = p.rows;
+    put_rows(numbers, at + 3 * k, rows, 3 * p.count);
+    k + p.count
+}
+
+// The pieces of the first `count` triangles, in the slice that has the table, from `at` on. How many there are.
+pub fn refine_triangles_within(
+    triangles: &[u32],
+    count: usize,
+    points: usize,
+    numbers: &mut [u32],
+    table: Table,
+    at: usize,
+) -> usize
+    requires { ⌜ HeldIn table (now numbers) ⌝ }
+    requires { ⌜ ((3 * count ≤ length (now triangles)) × (points + table .sides < 2 ^ 32)) × ((endOf table ≤ at) × (at + 12 * count ≤ length (now numbers))) ⌝ }
+    ensures { λ r. ⌜ Stored (refined (mid points (cutsIn table (now (numbers .entry)))) (tris (now (triangles .entry)) count)) (now (numbers .entry)) at 0 (now (numbers .exit)) r ⌝ }
+{
+    let mut k = 0;
+    let mut i = 0;
+    while i < count {
+        k = refine_triangle_within(triangles, i, points, numbers, table, at, k);
+        i += 1;
+    }
+    k
 }

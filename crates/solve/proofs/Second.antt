@@ -25,8 +25,8 @@ use Rattle.refinement.specs.Flag.{flaggedTri}
 use Rattle.refinement.specs.Floor.{trisOf, cornersOf, refinementOf}
 use Rattle.refinement.proofs.Parts.{refined-most}
 use Rattle.refinement.proofs.Triangles.{tris-length}
-use Rattle.refine_floor.specs.Guidance.{moreAngles}
-use Rattle.refine_floor.specs.Stored.{Stored}
+use Rattle.refinement.specs.Guidance.{moreAngles}
+use Rattle.refinement.specs.Stored.{Stored}
 use Rattle.pass_layout.specs.declared.Base.{Base}
 use Rattle.pass_options.specs.declared.Options.{Options}
 use Rattle.pass_options.specs.Options.{guided, unguided, guidanceOf}

@@ -36,7 +36,7 @@ use Rattle.refinement.specs.Floor.{trisOf, refinementOf}
 use Rattle.refinement.specs.Claim.{Refinement}
 use Rattle.refinement.proofs.Claim.{refinement}
 use Rattle.refinement.proofs.Triangles.{tris-length}
-use Rattle.refine_floor.specs.Guidance.{midAngleOn, midAngles, moreAngles}
+use Rattle.refinement.specs.Guidance.{midAngleOn, midAngles, moreAngles}
 use Rattle.pass_options.specs.Table.{no-row, firstOf}
 use Rattle.pass_options.specs.Options.{Guidance, unguided, guided, anglesOf, badWeight, notFiniteAt, optionRows, guidanceRows}
 use Rattle.pass_options.specs.Pass.{field}

@@ -18,10 +18,10 @@ use Rattle.refinement.specs.Flag.{flaggedTri}
 use Rattle.refinement.specs.Floor.{Refined, refinementOf, trisOf, cornersOf, endsOf}
 use Rattle.refine_call.specs.declared.Answer.{Answer}
 use Rattle.refine_call.specs.Call.{short, checkRest, checkCall, answerOf, Called}
-use Rattle.text_lines.specs.Lines.{refusedLine, bytesFor, Holds}
+use Rattle.text_answer.specs.Lines.{refusedLine, bytesFor, Holds}
 use Rattle.refinement.proofs.Triangles.{tris-length, tris-of}
 use Rattle.refinement.proofs.Parts.{refined-most}
-use Rattle.text_lines.proofs.Lines.{sides-of}
+use Rattle.text_answer.proofs.Stores.{sides-of}
 use Rattle.text_answer.specs.Printed.{longest, written, isSound}
 use Rattle.text_answer.specs.Steps.{bytesOf, Sized}
 

@@ -1,3 +1,4 @@
+pub mod Stores
 mod Call
 pub mod Whole
 pub mod Listing

@@ -9,7 +9,7 @@ use Rattle.refinement.specs.Flag.{turnAlong, variation, flagged, flaggedTri}
 use Rattle.refinement.specs.Floor.{tris, refinementOf}
 use Rattle.text_columns.specs.Columns.{lead, inSix, columnsOf, lineOf, isLead, isDigit, afterBlank, afterMinus, step, scan}
 use Rattle.text_floor.specs.Text.{isLine, isCorners, every, isHead, isText, pointsUpTo, anglesUpTo, cornersUpTo}
-use Rattle.text_lines.specs.Lines.{triangleLines, sideLines, linesOf}
+use Rattle.text_answer.specs.Lines.{triangleLines, sideLines, linesOf}
 use Rattle.text_answer.specs.Listing.{given, expected}
 use Rattle.text_answer.specs.Printed.{accepted, printed}
 

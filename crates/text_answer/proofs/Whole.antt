@@ -19,8 +19,8 @@ use Rattle.text_floor.specs.Text.{isText, pointCount, triangleCount, pointsIn, 
 use Rattle.text_floor.proofs.Lines.{known, points-length, angles-length, corners-length}
 use Rattle.text_answer.specs.Printed.{longest, written, accepted, printed, isSound, filledBy, countBy}
 use Rattle.text_answer.specs.Steps.{bytesFrom}
-use Rattle.text_lines.specs.Lines.{refusedLine}
-use Rattle.text_lines.proofs.Lines.{lines-long}
+use Rattle.text_answer.specs.Lines.{refusedLine}
+use Rattle.text_answer.proofs.Stores.{lines-long}
 use Rattle.text_answer.proofs.Call.{few, check-is, bytes-by}
 
 -- ---- what was read

@@ -11,7 +11,7 @@ use Rattle.floor.specs.Checks.{notFiniteOrBelowZero, checkFloor}
 use Rattle.refinement.specs.Floor.{Refined, refinementOf, trisOf, over}
 use Rattle.refine_call.specs.Call.{countsOf}
 use Rattle.text_floor.specs.Text.{isText, pointsIn, anglesIn, cornersIn, sizesIn, thresholdIn}
-use Rattle.text_lines.specs.Lines.{linesOf, refusedLine}
+use Rattle.text_answer.specs.Lines.{linesOf, refusedLine}
 
 -- ---- what is printed
 

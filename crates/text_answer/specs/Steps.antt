@@ -8,7 +8,7 @@ use Rattle.floor.specs.declared.Check.{Check}
 use Rattle.floor.specs.declared.Check.the-variants.{Sound, Refused}
 use Rattle.refinement.specs.Floor.{Refined, refinementOf, trisOf}
 use Rattle.refine_call.specs.Call.{checkCall}
-use Rattle.text_lines.specs.Lines.{refusedLine}
+use Rattle.text_answer.specs.Lines.{refusedLine}
 use Rattle.text_answer.specs.Printed.{written, longest}
 
 abbrev pub bytesOf : Check → Refined → List ℕ

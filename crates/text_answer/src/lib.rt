@@ -1,11 +1,13 @@
 // The refinement program of document 01 as a function from the bytes read to the bytes printed: `answer` reads a text of columns,
 // refines its floor and writes the new triangles and the cut sides, or the line `refused`. specs/Printed.antt says what is printed.
+mod lines;
+
 ghost use mathlib.Core.Path.{_≡_};
 ghost use Prim.Native.Nat.{_*_, _/_, _≤_};
 ghost use lib.ListN.{length, take, replicate};
 ghost use lib.Seq.{sets};
 ghost use Rattle.float.specs.Double.{lit};
-ghost use Rattle.text_lines.specs.Lines.{Prints};
+ghost use Rattle.text_answer.specs.Lines.{Prints};
 ghost use Rattle.text_answer.specs.Printed.{printed, longest, filledBy, countBy};
 ghost use Rattle.text_answer.specs.Steps.{bytesFrom, Sized};
 use text_floor::Read;
@@ -43,7 +45,7 @@ fn answer_into(
         new_triangles,
         cut_ends,
     );
-    text_lines::write_answer(answer, new_triangles, cut_ends, out)
+    lines::write_answer(answer, new_triangles, cut_ends, out)
 }
 
 // The lines of a floor of at most 256 triangles.
@@ -127,7 +129,7 @@ fn answer_over(
         threshold,
     } = read
     else {
-        return text_lines::put_refused(out);
+        return lines::put_refused(out);
     };
     answer_front(points, corners, sizes, angles, n, t, threshold, out)
 }

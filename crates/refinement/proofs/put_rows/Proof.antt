@@ -1,4 +1,4 @@
--- `refinement::put_rows` meets its contract: the loop keeps what `Inv-loop` says, and what is left to do falls at each iteration; the laws are in crate runs, proofs/Runs.
+-- `refinement::put_rows` meets its contract: the loop keeps what `Inv-loop` says, and what is left to do falls at each iteration; the laws are in crate slices, proofs/Runs.
 use borrow.Author.Needs.{needs}
 use mathlib.Core.Path.{_≡_, refl, ap, _∙_}
 use native.Mathlib.Omega.{arith}

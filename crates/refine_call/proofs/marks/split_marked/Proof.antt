@@ -1,7 +1,7 @@
 -- `refine_call::marks::split_marked` meets its contract: the rows of its pieces, stored; the law is in proofs/Parts.
 use native.Mathlib.Omega.{arith}
 use borrow.Author.Needs.{needs}
-use Rattle.refine_floor.proofs.Parts.{pieces-put}
+use Rattle.refinement.proofs.Stands.{pieces-put}
 use Rattle.refine_call.proofs.marks.split_marked.Statement.{statement}
 use Rattle.refine_call.proofs.marks.split_marked.Tie as tie
 

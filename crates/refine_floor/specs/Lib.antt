@@ -1,2 +1,0 @@
-pub mod Guidance
-pub mod Stored
