@@ -7,7 +7,7 @@ use crate::{
     parse::{Clause, Term},
     program::Program,
     rows::{Row, Solver},
-    run::OTHER_TYPE,
+    run::{Apart, OTHER_TYPE},
     text::{result, types, Entity, Texts, Token},
 };
 use std::{collections::BTreeSet, path::Path};
@@ -338,12 +338,29 @@ fn all(program: &Program) -> Vec<(usize, Change, Vec<Clause>)> {
     changes
 }
 
-/// What came of the changes.
+/// What came of the changes. One that no row notices has its number, its name in compare/unnoticed.txt, and where it stands.
 #[derive(Default)]
 pub struct Tally {
     pub tried: usize,
     pub noticed: usize,
-    pub unnoticed: Vec<(usize, String)>,
+    pub unnoticed: Vec<(usize, String, String)>,
+}
+
+/// The name of every change: file, definition and what is changed; and which it is, where there are several of one kind in a definition.
+fn names(program: &Program, changes: &[(usize, Change, Vec<Clause>)]) -> Vec<String> {
+    let mut met: std::collections::BTreeMap<String, usize> = Default::default();
+    let name = |(d, change, _): &(usize, Change, Vec<Clause>)| {
+        let definition = &program.texts.definitions[*d];
+        let path = program.texts.files[definition.file].path.display();
+        let name = format!("{path} {}: {}", definition.name, change.what);
+        let before = met.entry(name.clone()).or_default();
+        *before += 1;
+        match *before {
+            1 => name,
+            many => format!("{name}, {many}"),
+        }
+    };
+    changes.iter().map(name).collect()
 }
 
 /// A change that was run for so many calls on early rows, none of which noticed, is run on no more of them; and likewise on the others.
@@ -365,6 +382,7 @@ pub fn run(root: &Path, folders: &[&Path], every: usize, from: usize, most: usiz
     }
     rows.sort_by_key(|(calls, row)| (!row.early, *calls));
     let changes = all(&solver.program);
+    let names = names(&solver.program, &changes);
     let mut code = vec![None; changes.len()];
     for (number, (d, _, clauses)) in changes.iter().enumerate().skip(from).take(most).step_by(step) {
         let (compiled, met) = solver.program.compile(*d, clauses);
@@ -377,24 +395,26 @@ pub fn run(root: &Path, folders: &[&Path], every: usize, from: usize, most: usiz
         tried: code.iter().flatten().count(),
         ..Tally::default()
     };
-    let mut times = vec![0; changes.len()];
+    // on how many rows each gave another value, and on how many it may have
+    let mut times = vec![[0; 2]; changes.len()];
     let mut spent = vec![0; changes.len()];
     for (k, (calls, row)) in rows.iter().enumerate() {
         if k > 0 && rows[k - 1].1.early && !row.early {
             spent.fill(0);
         }
         solver.machine.compared = vec![(0, 0); changes.len()];
-        solver.machine.told_apart = spent.iter().map(|s| *s >= MOST).collect();
+        let left_out = |s: &u64| if *s >= MOST { Apart::Unsettled } else { Apart::Same };
+        solver.machine.told_apart = spent.iter().map(left_out).collect();
         solver.try_row(row);
         let told_apart = std::mem::take(&mut solver.machine.told_apart);
         let others = std::mem::take(&mut solver.machine.others);
         let mut gone = BTreeSet::new();
         for &(number, compiled) in others.iter().flatten() {
-            if !told_apart[number] || spent[number] >= MOST {
+            if told_apart[number] == Apart::Same || spent[number] >= MOST {
                 continue;
             }
             let d = changes[number].0;
-            times[number] += 1;
+            times[number][usize::from(told_apart[number] == Apart::Unsettled)] += 1;
             solver.machine.others = vec![vec![]; others.len()];
             let original = solver.machine.replace(d, compiled);
             solver.machine.most = LONGER * calls + SPARE;
@@ -425,18 +445,16 @@ pub fn run(root: &Path, folders: &[&Path], every: usize, from: usize, most: usiz
         }
     }
     for &(number, _) in solver.machine.others.iter().flatten() {
-        let (d, change, _) = &changes[number];
-        let definition = &solver.program.texts.definitions[*d];
-        let path = solver.program.texts.files[definition.file].path.display();
-        let place = format!("{path}:{}:{}", change.line, change.column);
+        let change = &changes[number].1;
         let told = match times[number] {
-            0 => "no row has another value there".to_string(),
-            times => format!("another value there on {times} rows"),
+            [0, 0] => "no row has another value there".to_string(),
+            [0, rows] => format!("on {rows} rows not compared there"),
+            [rows, _] => format!("another value there on {rows} rows"),
         };
-        tally.unnoticed.push((
-            number,
-            format!("{place}: {}, in `{}`: {told}", change.what, definition.name),
-        ));
+        let place = format!("line {}, column {}", change.line, change.column);
+        tally
+            .unnoticed
+            .push((number, names[number].clone(), format!("{place}: {told}")));
     }
     tally
 }

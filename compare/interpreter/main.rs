@@ -25,7 +25,7 @@ mod run;
 mod text;
 
 use rows::{Row, Solver};
-use std::{env, path::Path, process::exit, thread};
+use std::{collections::BTreeMap, env, fs, path::Path, process::exit, thread};
 use text::Stop;
 
 /// Room for the deepest recursion: thousands of iterations of the linear solver, each inside of the one before.
@@ -87,12 +87,34 @@ fn changes(root: &Path, folders: &[&Path], every: usize, most: usize, from: usiz
     });
     let mut unnoticed: Vec<_> = tallies.iter().flat_map(|t| t.unnoticed.iter()).collect();
     unnoticed.sort();
-    for (number, change) in unnoticed {
-        println!("not noticed, {number}: {change}");
+    let reasons = reasons(root);
+    let mut kinds: BTreeMap<&str, usize> = BTreeMap::new();
+    for (_, name, place) in &unnoticed {
+        let reason = reasons.get(name).map_or("NO REASON GIVEN", String::as_str);
+        *kinds.entry(reason).or_default() += 1;
+        println!("not noticed: {name} ({place}): {reason}");
+    }
+    let stale: Vec<_> = reasons
+        .keys()
+        .filter(|name| from == 0 && most == usize::MAX && !unnoticed.iter().any(|u| u.1 == **name))
+        .collect();
+    for name in &stale {
+        println!("noticed, or no longer there, though compare/unnoticed.txt has it: {name}");
+    }
+    for (reason, many) in &kinds {
+        println!("{many} {reason}");
     }
     let sum = |of: &dyn Fn(&changes::Tally) -> usize| tallies.iter().map(of).sum::<usize>();
     println!("changes: {} tried, {} noticed", sum(&|t| t.tried), sum(&|t| t.noticed));
-    true
+    stale.is_empty() && !kinds.contains_key("NO REASON GIVEN")
+}
+
+/// The changes of compare/unnoticed.txt by their names, each with its reason.
+fn reasons(root: &Path) -> BTreeMap<String, String> {
+    let text = fs::read_to_string(root.join("compare/unnoticed.txt")).unwrap_or_default();
+    let lines = text.lines().filter(|l| !l.is_empty() && !l.starts_with('#'));
+    let parts = lines.filter_map(|l| l.split_once(' '));
+    parts.map(|(reason, name)| (name.to_string(), reason.to_string())).collect()
 }
 
 fn work(words: &[String]) -> bool {

@@ -49,6 +49,10 @@ fn floats(words: &[u64]) -> Value {
     list(words.iter().map(|w| Value::Float(f64::from_bits(*w))).collect())
 }
 
+fn numbers(words: &[u64]) -> Value {
+    list(words.iter().map(|w| Value::Nat(*w)).collect())
+}
+
 fn data(tag: u32, parts: Vec<Value>) -> Value {
     if parts.is_empty() {
         Value::Tag(tag)
@@ -92,7 +96,7 @@ const FIRST: usize = 120;
 const SELDOM: usize = 40;
 
 /// The kinds of leaves and scalars, with the list of each and how many words a row has.
-const KINDS: [(&str, &str, usize); 11] = [
+const KINDS: [(&str, &str, usize); 16] = [
     ("sin", "sincos", 3),
     ("cos", "sincos", 3),
     ("atan2", "atan2", 3),
@@ -104,6 +108,11 @@ const KINDS: [(&str, &str, usize); 11] = [
     ("weight", "weight", 2),
     ("geometry", "geometry", 15),
     ("transport", "transport", 15),
+    ("wrap", "wrap", 2),
+    ("guidance", "guidance", 3),
+    ("probe", "probe", 64),
+    ("singular", "singular", 32),
+    ("refinements", "refinements", 256),
 ];
 
 impl Row {
@@ -133,7 +142,7 @@ impl Row {
 }
 
 /// The definitions that recorded leaves and scalars are compared with: a name for it here, its crate, its file, its name.
-const LEAVES: [(&str, &str, &str, &str); 12] = [
+const LEAVES: [(&str, &str, &str, &str); 28] = [
     ("sin", "sine", "Sine", "sinOf"),
     ("cos", "sine", "Sine", "cosOf"),
     ("atan2", "arctangent", "Arc", "atan2Of"),
@@ -146,6 +155,22 @@ const LEAVES: [(&str, &str, &str, &str); 12] = [
     ("geometry", "geometry", "Triangle", "geometry"),
     ("gradient", "geometry", "Triangle", "gradient"),
     ("transport", "geometry", "Edge", "transportOf"),
+    ("wrap", "complex", "Angle", "wrapToPi"),
+    ("guidance", "complex", "Guidance", "midAngle"),
+    ("probe", "probe", "Probe", "probeOf"),
+    ("probe's number", "probe", "Probe", "number"),
+    ("probe's angle", "probe", "Probe", "angleOr"),
+    ("singular", "singularities", "Count", "singularities"),
+    ("singular's number", "singularities", "Count", "number"),
+    ("singular's threes", "singularities", "Count", "threes"),
+    ("singular's fives", "singularities", "Count", "fives"),
+    ("check", "refine_call", "Call", "checkCall"),
+    ("answer", "refine_call", "Call", "answerOf"),
+    ("left", "refine_call", "Call", "left"),
+    ("refined", "refinement", "Floor", "refinementOf"),
+    ("triangles", "refinement", "Floor", "trisOf"),
+    ("corners", "refinement", "Floor", "cornersOf"),
+    ("ends", "refinement", "Floor", "endsOf"),
 ];
 
 /// A record's fields must be these, so that a call is made whole.
@@ -270,7 +295,7 @@ impl Solver {
         let point_list = floats(take(points));
         let size_list = floats(take(sizes));
         let angle_list = floats(take(angles));
-        let corner_list = list(take(corners).iter().map(|v| Value::Nat(*v)).collect());
+        let corner_list = numbers(take(corners));
         let (coarse, fine) = (take(coarse), take(fine));
         let boundary = data(self.boundary[mode], if mode == 2 { vec![double(8)] } else { vec![] });
         let guidance = match guided {
@@ -298,7 +323,7 @@ impl Solver {
             ("coarse", marks(lent[0])),
             ("fine", marks(lent[1])),
             ("work", marks(lent[2])),
-            ("words", list(vec![Value::Nat(MARK_NUMBER); lent[3]])),
+            ("words", numbers(&vec![MARK_NUMBER; lent[3]])),
         ]);
         let names = [
             "outcome", "lent", "coarse", "fine", "work", "words", "flagged", "cut", "number", "reason", "pass",
@@ -396,7 +421,8 @@ impl Solver {
             "sin" => self.doubles(name, &r[..1]) == r[1..2],
             "cos" => self.doubles(name, &r[..1]) == r[2..3],
             "atan2" => self.doubles(name, &r[..2]) == r[2..3],
-            "sqrt" | "weight" => self.doubles(name, &r[..1]) == r[1..2],
+            "sqrt" | "weight" | "wrap" => self.doubles(name, &r[..1]) == r[1..2],
+            "guidance" => self.doubles(name, &r[..2]) == r[2..3],
             "mass" => self.doubles(name, &r[..1]) == r[1..3],
             "dirichlet" => self.doubles(name, &r[..4]) == r[4..6],
             "diagonal" => {
@@ -411,6 +437,9 @@ impl Solver {
             }
             "geometry" => self.geometry(r),
             "transport" => self.transport(r),
+            "probe" => self.probe(r),
+            "singular" => self.singular(r),
+            "refinements" => self.refinement(r),
             _ => unreachable!(),
         }
     }
@@ -457,6 +486,99 @@ impl Solver {
             return r[10] == 22;
         }
         r[10] == 0 && self.plain(&parts[0], &["re", "im"]) == r[11..13]
+    }
+
+    /// The row of a probe: number 4 stands for an angle, which the definition numbers 0.
+    fn probe(&mut self, r: &[u64]) -> bool {
+        let [angles, points, corners] = [(7, r[0]), (15, r[1]), (39, r[2])].map(|(at, many)| &r[at..at + many as usize]);
+        let at = self.pair(&r[3..5]);
+        let found = self.machine.run(
+            self.leaves["probe"],
+            vec![floats(angles), floats(points), numbers(corners), at],
+        );
+        let number = self.machine.run(self.leaves["probe's number"], vec![found.clone()]).nat();
+        let angle = self
+            .machine
+            .run(self.leaves["probe's angle"], vec![found, Value::Float(MARK)]);
+        let (told, held) = if r[5] == 4 { (0, r[6]) } else { (r[5], MARK.to_bits()) };
+        number == u128::from(told) && bits(angle.float()) == held
+    }
+
+    fn singular(&mut self, r: &[u64]) -> bool {
+        let [angles, corners] = [(5, r[0]), (13, r[1])].map(|(at, many)| &r[at..at + many as usize]);
+        let counted = self
+            .machine
+            .run(self.leaves["singular"], vec![floats(angles), numbers(corners)]);
+        let number = self
+            .machine
+            .run(self.leaves["singular's number"], vec![counted.clone()])
+            .nat();
+        let mut count = |name: &str| {
+            let held = Value::Nat(MARK_NUMBER);
+            self.machine.run(self.leaves[name], vec![counted.clone(), held]).nat()
+        };
+        let counts = [count("singular's threes"), count("singular's fives")];
+        let held = if r[2] == 0 { [r[3], r[4]] } else { [MARK_NUMBER; 2] };
+        number == u128::from(r[2]) && counts == held.map(u128::from)
+    }
+
+    /// A call of refinement on marked slices: its answer, and what they hold afterwards.
+    fn refinement(&mut self, r: &[u64]) -> bool {
+        let many = |k: usize| r[k] as usize;
+        let points = floats(&r[15..15 + many(0)]);
+        let corners = numbers(&r[55..55 + many(1)]);
+        let sizes = floats(&r[39..39 + many(2)]);
+        let angles = floats(&r[47..47 + many(3)]);
+        let lengths = [3, 5, 6, 7, 8].map(|k| Value::Nat(r[k]));
+        let [angle_count, lengths @ ..] = lengths;
+        let mut arguments = vec![points.clone(), corners.clone(), sizes.clone(), angle_count, double(r[4])];
+        arguments.extend(lengths);
+        let check = self.machine.run(self.leaves["check"], arguments);
+        let triangles = self.machine.run(self.leaves["triangles"], vec![corners]);
+        let refined = self
+            .machine
+            .run(self.leaves["refined"], vec![double(r[4]), angles, points, sizes, triangles]);
+        let answer = self
+            .machine
+            .run(self.leaves["answer"], vec![check.clone(), refined.clone()]);
+        let accepted = self.program.texts.variant("refine_call", "Answer", "Refinement");
+        let Value::Data(tag, parts) = answer else { return false };
+        let told: Vec<u128> = if tag == accepted {
+            let counts = ["points", "triangles", "flagged", "cut"].map(|name| self.part(&parts[0], name).nat());
+            [vec![0, 0], counts.to_vec()].concat()
+        } else {
+            [vec![parts[0].nat(), parts[1].nat()], vec![0; 4]].concat()
+        };
+        if told != r[9..15].iter().map(|w| u128::from(*w)).collect::<Vec<_>>() {
+            return false;
+        }
+        let [points, sizes, triangles, cut] = ["points", "sizes", "triangles", "cut"].map(|name| self.part(&refined, name));
+        let corners = self.machine.run(self.leaves["corners"], vec![triangles]);
+        let ends = self.machine.run(self.leaves["ends"], vec![cut]);
+        let made = if tag == accepted { [3 * r[11], r[11], 3 * r[12], 2 * r[14]] } else { [0; 4] };
+        let reals = [(points, 70, r[5], made[0]), (sizes, 139, r[6], made[1])];
+        let words = [(corners, 162, r[7], made[2]), (ends, 222, r[8], made[3])];
+        let as_recorded = |at: usize, lent: u64, made: u64, mark: u64| {
+            let mut slice = r[at..at + made as usize].to_vec();
+            slice.resize(lent.max(made) as usize, mark);
+            slice
+        };
+        reals.into_iter().all(|(new, at, lent, made)| {
+            let old = floats(&vec![MARK.to_bits(); lent as usize]);
+            let left = self.machine.run(self.leaves["left"], vec![check.clone(), new, old]);
+            patterns(&left) == as_recorded(at, lent, made, MARK.to_bits())
+        }) && words.into_iter().all(|(new, at, lent, made)| {
+            let old = numbers(&vec![MARK_NUMBER; lent as usize]);
+            let left = self.machine.run(self.leaves["left"], vec![check.clone(), new, old]);
+            let left: Vec<u128> = left.items().iter().map(Value::nat).collect();
+            left == as_recorded(at, lent, made, MARK_NUMBER).into_iter().map(u128::from).collect::<Vec<_>>()
+        })
+    }
+
+    /// A record's field.
+    fn part(&mut self, record: &Value, name: &str) -> Value {
+        let name = self.program.field(name);
+        self.machine.field(record, name)
     }
 
     fn shaped(&mut self) {

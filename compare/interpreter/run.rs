@@ -140,6 +140,7 @@ pub enum Primitive {
     ToBits,
     OfInt,
     ToUnsigned,
+    ToSigned,
     Size,
     Difference,
     Opposite,
@@ -155,7 +156,7 @@ use Primitive as P;
 pub const OTHER_TYPE: &str = "type: ";
 
 /// The library's functions.
-pub const LIBRARY: [(&str, Primitive, usize); 45] = [
+pub const LIBRARY: [(&str, Primitive, usize); 46] = [
     ("Prim.Native.Nat.suc", P::Suc, 1),
     ("Prim.Native.Nat._+_", P::Plus, 2),
     ("Prim.Native.Nat._-_", P::Minus, 2),
@@ -196,6 +197,7 @@ pub const LIBRARY: [(&str, Primitive, usize); 45] = [
     ("lib.Ieee.toBits", P::ToBits, 2),
     ("lib.Ieee.ofInt", P::OfInt, 2),
     ("lib.Ieee.toUnsigned", P::ToUnsigned, 2),
+    ("lib.Ieee.toSigned", P::ToSigned, 2),
     ("lib.Ieee.size", P::Size, 1),
     ("lib.Ieee.minus", P::Difference, 2),
     ("lib.IntN.negℤ", P::Opposite, 1),
@@ -344,20 +346,31 @@ impl Value {
     }
 }
 
-/// Whether two values are the same; functions only where they are one.
-fn same(a: &Value, b: &Value) -> bool {
-    let all = |a: &[Value], b: &[Value]| a.len() == b.len() && a.iter().zip(b).all(|(a, b)| same(a, b));
+/// Whether two values are the same. Two functions are where they are one; else it is not known.
+fn same(a: &Value, b: &Value) -> Apart {
+    let equal = |equal: bool| if equal { Apart::Same } else { Apart::Other };
+    let all = |a: &[Value], b: &[Value]| {
+        let parts: Vec<Apart> = a.iter().zip(b).map(|(a, b)| same(a, b)).collect();
+        if a.len() != b.len() || parts.contains(&Apart::Other) {
+            Apart::Other
+        } else if parts.contains(&Apart::Unsettled) {
+            Apart::Unsettled
+        } else {
+            Apart::Same
+        }
+    };
     match (a, b) {
-        (Value::Bool(a), Value::Bool(b)) => a == b,
-        (Value::Nat(a), Value::Nat(b)) => a == b,
-        (Value::Large(a), Value::Large(b)) => a == b,
-        (Value::Float(a), Value::Float(b)) => bits(*a) == bits(*b),
-        (Value::Format, Value::Format) => true,
-        (Value::Tag(a), Value::Tag(b)) => a == b,
-        (Value::Data(s, a), Value::Data(t, b)) | (Value::Record(s, a), Value::Record(t, b)) => s == t && all(a, b),
+        (Value::Bool(a), Value::Bool(b)) => equal(a == b),
+        (Value::Nat(a), Value::Nat(b)) => equal(a == b),
+        (Value::Large(a), Value::Large(b)) => equal(a == b),
+        (Value::Float(a), Value::Float(b)) => equal(bits(*a) == bits(*b)),
+        (Value::Format, Value::Format) => Apart::Same,
+        (Value::Tag(a), Value::Tag(b)) => equal(a == b),
+        (Value::Data(s, a), Value::Data(t, b)) | (Value::Record(s, a), Value::Record(t, b)) if s == t => all(a, b),
         (Value::List(..), Value::List(..)) => all(a.items(), b.items()),
-        (Value::Function(a), Value::Function(b)) => Rc::ptr_eq(a, b),
-        _ => false,
+        (Value::Function(a), Value::Function(b)) if Rc::ptr_eq(a, b) => Apart::Same,
+        (Value::Function(_), Value::Function(_)) => Apart::Unsettled,
+        _ => Apart::Other,
     }
 }
 
@@ -403,6 +416,18 @@ enum Kept {
     Never,
 }
 
+/// What is known of other code for a definition on a row.
+#[derive(Clone, Copy, Default, PartialEq)]
+pub enum Apart {
+    /// The same values at all calls that were compared.
+    #[default]
+    Same,
+    /// Another value at a call.
+    Other,
+    /// A call was not compared to its end.
+    Unsettled,
+}
+
 /// No list is longer: a changed definition may ask for one of any length.
 const LONGEST: u64 = 1_000_000;
 
@@ -427,9 +452,9 @@ pub struct Machine {
     pub most: u64,
     /// Other code for definitions, each with its number: at each call its value is compared with the definition's own.
     pub others: Vec<Vec<(usize, &'static Compiled)>>,
-    /// Which of them gave another value, or did not end within `BESIDE` calls; at how many calls each was compared, and the calls that it
-    /// made there.
-    pub told_apart: Vec<bool>,
+    /// Which of them gave another value, or may have: a value that has functions in it cannot be compared, and one that did not end within
+    /// `BESIDE` calls was not. At how many calls each was compared, and the calls that it made there.
+    pub told_apart: Vec<Apart>,
     pub compared: Vec<(u32, u64)>,
     /// Whether no other code is tried now.
     quiet: bool,
@@ -585,7 +610,7 @@ impl Machine {
         let code = self.slot(definition).code.get();
         if code.arity == 0 {
             for (number, _) in &self.others[definition] {
-                self.told_apart[*number] = true;
+                self.told_apart[*number] = Apart::Other;
             }
             if let Some(value) = &*self.slot(definition).constant.borrow() {
                 return value.clone();
@@ -659,7 +684,7 @@ impl Machine {
         for k in 0..self.others[definition].len() {
             let (number, other) = self.others[definition][k];
             let (compared, spent) = self.compared[number];
-            if self.told_apart[number] || compared >= COMPARED {
+            if self.told_apart[number] != Apart::Same || compared >= COMPARED {
                 continue;
             }
             self.stack.truncate(base);
@@ -668,7 +693,10 @@ impl Machine {
             let before = self.calls;
             self.stack.extend(arguments.iter().cloned());
             let given = catch_unwind(AssertUnwindSafe(|| self.enter(other, base)));
-            self.told_apart[number] = !given.is_ok_and(|given| same(&given, &value));
+            self.told_apart[number] = match given {
+                Ok(given) => same(&given, &value),
+                Err(_) => Apart::Unsettled,
+            };
             self.compared[number] = (compared + 1, BESIDE.min(spent + self.calls - before));
         }
         self.stack.truncate(base);
@@ -1068,6 +1096,13 @@ impl Machine {
                     .unwrap_or_else(|| over());
                 // `as` goes toward zero, to the nearest end of the range, and to 0 for NaN
                 nat((b.float() as u128).min(top - 1))
+            }
+            P::ToSigned => {
+                let top = 1i128
+                    .checked_shl(u32::try_from(a.nat()).unwrap_or_else(|_| over()))
+                    .unwrap_or_else(|| over());
+                let within = (b.float() as i128).clamp(-top, top - 1);
+                integer(i64::try_from(within).unwrap_or_else(|_| over()))
             }
             P::Difference => integer(
                 i64::try_from(a.nat() as i128 - b.nat() as i128)

@@ -408,12 +408,17 @@ impl Texts {
             if !bounded || item.is_empty() || item.contains(' ') || !rest[end..].starts_with('{') {
                 continue;
             }
-            let Some(close) = rest[end..].find('}') else { break };
+            let mut open = 0;
+            let close = rest[end..].find(|c| {
+                open += i32::from(c == '{') - i32::from(c == '}');
+                open == 0
+            });
+            let Some(close) = close else { break };
             let body = &rest[end + 1..end + close];
             let key = (name.to_string(), [prefix.clone(), vec![item]].concat().join("."));
             let mut depth = 0;
             let parts = body.split(|c| {
-                depth += i32::from("([<".contains(c)) - i32::from(")]>".contains(c));
+                depth += i32::from("([<{".contains(c)) - i32::from(")]>}".contains(c));
                 c == ',' && depth == 0
             });
             let parts: Vec<&str> = parts.map(str::trim).filter(|part| !part.is_empty()).collect();
@@ -426,8 +431,8 @@ impl Texts {
             } else {
                 let mut variants = HashMap::new();
                 for part in parts {
-                    let (variant, fields) = part.split_once('(').unwrap_or((part, ""));
-                    let fields = fields.trim_end().trim_end_matches(')');
+                    let (variant, fields) = part.split_once(['(', '{']).unwrap_or((part, ""));
+                    let fields = fields.trim_end().trim_end_matches([')', '}']);
                     let mut depth = 0;
                     let commas = |c| {
                         depth += i32::from("([<".contains(c)) - i32::from(")]>".contains(c));
@@ -435,7 +440,7 @@ impl Texts {
                     };
                     let types: Vec<String> = fields
                         .split(commas)
-                        .map(|f| f.trim().to_string())
+                        .map(|f| f.split_once(':').map_or(f, |(_, of)| of).trim().to_string())
                         .filter(|f| !f.is_empty())
                         .collect();
                     variants.insert(variant.trim().to_string(), self.constructors.len() as u32);

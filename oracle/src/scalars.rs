@@ -32,16 +32,23 @@ fn number(r: &mut Random) -> f64 {
     }
 }
 
+/// Holonomy, g11, g12 and g22 at which the series comes to another double where a term is grouped otherwise: `5 * (o2 / 1008)`, and
+/// `7 * (o4 / 51840)`.
+const GROUPED: [[f64; 4]; 2] = [
+    [0.0646490602788875, 0.0, 2.828700136026081, 0.0],
+    [0.05405729884985255, 0.0, 3.5484368891543774, 0.0],
+];
+
 fn integrals(of: &Reference, r: &mut Random, count: usize, folder: &Path) {
     let mut mass = List::new(folder, "mass", 3);
     let mut dirichlet = List::new(folder, "dirichlet", 6);
     let mut diagonal = List::new(folder, "diagonal", 10);
-    for _ in 0..count {
+    for k in 0..count {
         let o = omega(r);
         let z = (of.mass_integral)(o);
         mass.row(&words(&[o, z[0], z[1]]));
-        let o = omega(r);
-        let g = [number(r), number(r), number(r)];
+        let drawn = [omega(r), number(r), number(r), number(r)];
+        let [o, g @ ..] = GROUPED.get(k).copied().unwrap_or(drawn);
         let z = (of.dirichlet_integral)(o, g[0], g[1], g[2]);
         dirichlet.row(&words(&[o, g[0], g[1], g[2], z[0], z[1]]));
         let o = omega(r);

@@ -28,6 +28,19 @@ public class Record {
         0x404858EB, 0x404921FB,
     };
 
+    // Arguments at which a small change of fdlibm's text changes a result. Each was found by a search.
+    // sin and cos: the last place of S3, S4, C3, C4, pio2_1t, pio2_3; the word of qx; 17 for 16 lost digits; the switch 0x3fd33333 of k_cos;
+    // n below 33 for 32 before npio2_hw is asked; npio2_hw never asked, from above and from below
+    static final long[] aimed = {
+        0x3fe0dce4d27724b1L, 0x3fe73100c8b83a3eL, 0x3fe47659ad73357cL, 0x3fe79f59b99d453eL, 0x40bd5d0a9ed6e030L, 0x40f4f3c75128f204L,
+        0x3fdfa0664bf7eca7L, 0x40ea40698698a0c5L, 0x3fd333332826019cL, 0x404921fc44eedf7fL, 0x402c463b40c062beL, 0x403c46383125dfb0L,
+    };
+    // atan: the last place of aT[2] to aT[8]; the switches 0x3ff30000 and 0x3fdc0000
+    static final long[] aimedTangents = {
+        0x3fdbf682bf85e048L, 0x3fd6071c4f366628L, 0x3fdaf8d52a4d8da1L, 0x3fdb0573cddcdfabL, 0x3fdbf1a30b2508adL, 0x3fdbc3005488566fL,
+        0x3fdaf4192db138fdL, 0x3ff300004e5eb031L, 0x3fdc0000f6e35ab0L,
+    };
+
     // Document 01: NaN for infinities, NaN and sizes above 524,288.
     static void angle(double x) {
         boolean held = Math.abs(x) <= 524288.0;
@@ -54,6 +67,7 @@ public class Record {
         for (int k = 0; k < 1000; k++) angles(unit() * Math.PI);
         for (int k = 0; k < 1500; k++) angles(unit() * 524288.0);
         for (int k = 0; k < 1000; k++) angle(d(random.nextLong()));
+        for (long x : aimed) angles(d(x));
     }
 
     static void atan2() {
@@ -74,6 +88,7 @@ public class Record {
         for (int k = 0; k < 700; k++) quadrants(unit() * 1000, unit());
         for (int k = 0; k < 400; k++) quadrants(d(random.nextLong() & 0x000fffffffffffffL), d(random.nextLong() & 0x003fffffffffffffL));
         for (int k = 0; k < 5000; k++) pair(d(random.nextLong()), d(random.nextLong()));
+        for (long t : aimedTangents) quadrants(d(t), 1.0);
     }
 
     public static void main(String[] args) throws Exception {
