@@ -13,52 +13,48 @@ returns c = simp (← c .before .before .high-word .ensures, ← c .before .high
 returns-2 : tie.Need-returns-2
 unfolding atanRatio
 returns-2 c =
-    let back6 = c .before .before .before .before .before .before in
-    let back7 = back6 .before in
+    let tested = c .before .before .before .before .before in
+    let y = tested .before .high-word2 in
+    let x = tested .before .before .high-word in
     simp (
-      ← back7 .high-word .ensures,
-      ← back6 .high-word2 .ensures,
+      ← x .ensures,
+      ← y .ensures,
+      not-above (y .result) (x .result) (tested .if1 .left),
+      is-below (y .result) (x .result) (c .before .before .before .before .if2 .taken),
       ← c .before .before .before .sign-bit .ensures,
-      eq-eqb _ _
-          (c .before .before .if3 .taken),
+      eq-eqb _ _ (c .before .before .if3 .taken),
       ← c .before .abs .ensures,
       c .atan .ensures,
-      not-above (back6 .high-word2 .result)
-          (back7 .high-word .result) (c .before .before .before .before .before .if1 .left),
-      is-below (back6 .high-word2 .result)
-          (back7 .high-word .result) (c .before .before .before .before .if2 .taken),
     )
 
 returns-3 : tie.Need-returns-3
 unfolding atanRatio
 returns-3 c =
-    let back4 = c .before .before .before .before in
-    let back5 = back4 .before in
+    let tested = c .before .before .before in
+    let y = tested .before .high-word2 in
+    let x = tested .before .before .high-word in
     simp (
-      ← back5 .high-word .ensures,
-      ← back4 .high-word2 .ensures,
+      ← x .ensures,
+      ← y .ensures,
+      not-above (y .result) (x .result) (tested .if1 .left),
+      is-below (y .result) (x .result) (c .before .before .if2 .taken),
       ← c .before .sign-bit .ensures,
       ne-eqb _ _ (c .if3 .left),
-      not-above
-          (back4 .high-word2 .result) (back5 .high-word .result) (c .before .before .before .if1 .left),
-      is-below (back4 .high-word2 .result)
-          (back5 .high-word .result) (c .before .before .if2 .taken),
     )
 
 returns-4 : tie.Need-returns-4
 unfolding atanRatio
 returns-4 c =
-    let back4 = c .before .before .before .before in
-    let back5 = back4 .before in
+    let tested = c .before .before .before in
+    let y = tested .before .high-word2 in
+    let x = tested .before .before .high-word in
     simp (
-      ← back5 .high-word .ensures,
-      ← back4 .high-word2 .ensures,
+      ← x .ensures,
+      ← y .ensures,
+      not-above (y .result) (x .result) (tested .if1 .left),
+      not-below (y .result) (x .result) (c .before .before .if2 .left),
       ← c .before .abs2 .ensures,
       c .atan2 .ensures,
-      not-above
-          (back4 .high-word2 .result) (back5 .high-word .result) (c .before .before .before .if1 .left),
-      not-below (back4 .high-word2 .result)
-          (back5 .high-word .result) (c .before .before .if2 .left),
       and-false,
     )
 
