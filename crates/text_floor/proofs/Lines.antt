@@ -2,10 +2,10 @@
 use Prim.Native.Nat.{ℕ, zero, suc, _+_, _-_, _*_, _≤_, _<_}
 use native.Mathlib.Omega.{arith}
 use native.Mathlib.Numerals.{add-one}
-use mathlib.Core.Path.{_≡_, refl, sym, _∙_}
+use mathlib.Core.Path.{_≡_, refl, sym, ap, _∙_}
 use mathlib.Core.Bool.{Bool, true, false, not, _&&_}
 use mathlib.Core.List.{List, [], _∷_}
-use borrow.Author.Tests.{eqb-true, leb-true, ne-eqb}
+use borrow.Author.Tests.{eqb-true, le-leb, leb-true, ne-eqb}
 use lib.Dec.{eqb, leb}
 use lib.ListN.{length, length-append, length-take, take, drop, set}
 use lib.Seq.{sets}
@@ -30,6 +30,22 @@ not-true true e = let z : _≡_ {A = ℕ} 0 1 = cc in absurd (omega arith)
 pub not-false : (a : Bool) → not a ≡ false → a ≡ true
 not-false true e = refl
 not-false false e = let z : _≡_ {A = ℕ} 0 1 = cc in absurd (omega arith)
+
+-- what a chain of tests returns is their conjunction: a flag b of the code is the test t, or a number n is the m that is tested
+module _ {b r : Bool} (t s : Bool) (e : b ≡ t) where
+  pub stops : not b ≡ true → r ≡ false → r ≡ t && s
+  stops h q = rw (sym e ∙ not-true b h) q
+
+  pub goes : not b ≡ false → r ≡ s → r ≡ t && s
+  goes h q = rw (sym e ∙ not-false b h) q
+
+pub within : {n : ℕ} {r : Bool} (m k : ℕ) (s : Bool) → n ≡ m → n ≤ k → r ≡ s → r ≡ leb m k && s
+within m k s e h q = rw (le-leb m k (rw e at h)) q
+
+pub within-last : (n m k : ℕ) → n ≡ m → leb n k ≡ leb m k
+within-last n m k e = ap (λ i. leb i k) e
+
+pub ruleset tests = (stops, goes, within, within-last)
 
 and-no : (a : Bool) → (a && false) ≡ false
 and-no true = refl

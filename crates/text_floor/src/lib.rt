@@ -2,14 +2,14 @@
 // lent slices. specs/Text.antt says which bytes are a text and what floor it has; proofs/Strict.antt that no two texts have the same
 // numbers.
 ghost use mathlib.Core.Path.{_≡_};
-ghost use mathlib.Core.Bool.{true};
+ghost use mathlib.Core.Bool.{true, cond};
 ghost use mathlib.Core.List.{[], _∷_};
 ghost use Prim.Native.Nat.{_+_, _*_, _<_, _≤_};
 ghost use lib.ListN.{length};
 ghost use lib.Seq.{sets};
 ghost use Rattle.float.specs.Double.{lit};
 ghost use Rattle.text_columns.specs.Columns.{isNumber, isWhole, sizeOf, doubleOf};
-ghost use Rattle.text_floor.specs.Text.{columnAt, first, second, third, isLine, isCorners, every, pointCount, triangleCount, isHead, isText, radians, pointsUpTo, anglesUpTo, sizesAt, cornersUpTo, ReadTo};
+ghost use Rattle.text_floor.specs.Text.{columnAt, first, second, third, lineBy, every, pointCount, triangleCount, isHead, isText, radians, pointsUpTo, anglesUpTo, sizesAt, cornersUpTo, ReadTo};
 use text_columns::Scan;
 
 // What a text has: a floor of so many points and triangles, with a threshold; or it is of another form.
@@ -33,18 +33,16 @@ fn column_at(text: &[u8], a: usize) -> Scan
     text_columns::scan_column(&text[a..b])
 }
 
-fn number_at(text: &[u8], a: usize) -> bool
+// Whether the column is a number, and where `whole` says so one that is not below 0.
+fn fits_at(text: &[u8], a: usize, whole: bool) -> bool
     requires { ⌜ a + 6 ≤ length (now text) ⌝ }
-    ensures { λ r. ⌜ r ≡ isNumber (columnAt (now (text .entry)) a) ⌝ }
+    ensures { λ r. ⌜ r ≡ cond whole isWhole isNumber (columnAt (now (text .entry)) a) ⌝ }
 {
-    text_columns::is_number(column_at(text, a))
-}
-
-fn whole_at(text: &[u8], a: usize) -> bool
-    requires { ⌜ a + 6 ≤ length (now text) ⌝ }
-    ensures { λ r. ⌜ r ≡ isWhole (columnAt (now (text .entry)) a) ⌝ }
-{
-    text_columns::is_whole(column_at(text, a))
+    let x = column_at(text, a);
+    if whole {
+        return text_columns::is_whole(x);
+    }
+    text_columns::is_number(x)
 }
 
 fn size_at(text: &[u8], a: usize) -> usize
@@ -77,64 +75,32 @@ fn radians_at(text: &[u8], a: usize) -> f64
 
 // ---- whether it is a text
 
-// Whether line i is a line of numbers.
-fn is_line(text: &[u8], i: usize) -> bool
+// Whether line i has three such columns and a line feed.
+fn is_line(text: &[u8], i: usize, whole: bool) -> bool
     requires { ⌜ 19 * i + 19 ≤ length (now text) ⌝ }
-    ensures { λ r. ⌜ r ≡ isLine (now (text .entry)) i ⌝ }
+    ensures { λ r. ⌜ r ≡ lineBy (cond whole isWhole isNumber) (now (text .entry)) i ⌝ }
 {
     let a = 19 * i;
-    if !number_at(text, a) {
+    if !fits_at(text, a, whole) {
         return false;
     }
-    if !number_at(text, a + 6) {
+    if !fits_at(text, a + 6, whole) {
         return false;
     }
-    if !number_at(text, a + 12) {
+    if !fits_at(text, a + 12, whole) {
         return false;
     }
     text[a + 18] == 10
 }
 
-// Whether line i is a line of numbers that are not below 0.
-fn is_corners(text: &[u8], i: usize) -> bool
-    requires { ⌜ 19 * i + 19 ≤ length (now text) ⌝ }
-    ensures { λ r. ⌜ r ≡ isCorners (now (text .entry)) i ⌝ }
-{
-    let a = 19 * i;
-    if !whole_at(text, a) {
-        return false;
-    }
-    if !whole_at(text, a + 6) {
-        return false;
-    }
-    if !whole_at(text, a + 12) {
-        return false;
-    }
-    text[a + 18] == 10
-}
-
-// Whether k lines from line `from` on are lines of numbers, and of corners.
-fn are_lines(text: &[u8], from: usize, k: usize) -> bool
+// Whether k lines from line `from` on are such lines.
+fn are_lines(text: &[u8], from: usize, k: usize, whole: bool) -> bool
     requires { ⌜ 19 * (from + k) ≤ length (now text) ⌝ }
-    ensures { λ r. ⌜ r ≡ every (isLine (now (text .entry))) from k ⌝ }
+    ensures { λ r. ⌜ r ≡ every (lineBy (cond whole isWhole isNumber) (now (text .entry))) from k ⌝ }
 {
     let mut i = 0;
     while i < k {
-        if !is_line(text, from + i) {
-            return false;
-        }
-        i += 1;
-    }
-    true
-}
-
-fn are_corners(text: &[u8], from: usize, k: usize) -> bool
-    requires { ⌜ 19 * (from + k) ≤ length (now text) ⌝ }
-    ensures { λ r. ⌜ r ≡ every (isCorners (now (text .entry))) from k ⌝ }
-{
-    let mut i = 0;
-    while i < k {
-        if !is_corners(text, from + i) {
+        if !is_line(text, from + i, whole) {
             return false;
         }
         i += 1;
@@ -147,13 +113,13 @@ fn is_head(text: &[u8]) -> bool
     requires { ⌜ 19 ≤ length (now text) ⌝ }
     ensures { λ r. ⌜ r ≡ isHead (now (text .entry)) ⌝ }
 {
-    if !is_line(text, 0) {
+    if !is_line(text, 0, false) {
         return false;
     }
-    if !whole_at(text, 0) {
+    if !fits_at(text, 0, true) {
         return false;
     }
-    if !whole_at(text, 6) {
+    if !fits_at(text, 6, true) {
         return false;
     }
     size_at(text, 0) <= 256 && size_at(text, 6) <= 256
@@ -168,10 +134,10 @@ fn is_body(text: &[u8], n: usize, t: usize) -> bool
     if text.len() != 19 * (1 + n + t) {
         return false;
     }
-    if !are_lines(text, 1, n) {
+    if !are_lines(text, 1, n, false) {
         return false;
     }
-    are_corners(text, 1 + n, t)
+    are_lines(text, 1 + n, t, true)
 }
 
 fn is_text(text: &[u8]) -> bool

@@ -3,17 +3,18 @@ use borrow.Author.Needs.{needs}
 use native.Mathlib.Omega.{arith}
 use mathlib.Core.Path.{_≡_, sym, _∙_}
 use Prim.Native.Nat.{_-_, _≤_}
-use mathlib.Core.Bool.{true}
-use Rattle.text_floor.specs.Text.{isLine, every}
+use mathlib.Core.Bool.{true, cond}
+use Rattle.text_columns.specs.Columns.{isNumber, isWhole}
+use Rattle.text_floor.specs.Text.{lineBy, every}
 use Rattle.text_floor.proofs.Lines.{not-true, not-false, every-none, every-again, every-stops}
 use Rattle.text_floor.proofs.are_lines.Statement.{statement}
 use Rattle.text_floor.proofs.are_lines.Tie as tie
 
 abbrev Inv-loop : tie.InvT-loop
-Inv-loop text from k i₀ i = (i ≤ k) × (every (isLine text) from i ≡ true)
+Inv-loop text from k whole i₀ i = (i ≤ k) × (every (lineBy (cond whole isWhole isNumber) text) from i ≡ true)
 
 abbrev μ-loop : tie.MeasureT-loop
-μ-loop text from k i₀ i = k - i
+μ-loop text from k whole i₀ i = k - i
 
 loop-holds : tie.Need-loop-holds Inv-loop μ-loop
 loop-holds c = (omega arith, every-none _ _)
