@@ -31,7 +31,7 @@ use Rattle.pass_setup.specs.declared.Setup.the-variants.{Edges, Refused}
 use Rattle.pass_setup.specs.Setup.{setupOf}
 use Rattle.pass_setup.specs.Rows.{SoundFloor, RefusedFloor, AcceptedFloor}
 use Rattle.pass_setup.proofs.Floors.{setup-good}
-use Rattle.pass_setup.proofs.Row19.{Tests, passed, failed}
+use Rattle.pass_setup.proofs.Triangles.{Tests, passed, failed}
 use Rattle.pass_setup.proofs.Rows.{setup-rows, accepted-setup, setup-accepted}
 use Rattle.pass_solution.specs.Solution.{solutionOf, linearMost}
 use Rattle.pass_inverse_iteration.specs.Inverse.{inverseOf}

@@ -1,7 +1,7 @@
 pub mod Keyed
 pub mod Floors
-pub mod Row19
-pub mod Row20
+pub mod Triangles
+pub mod Points
 pub mod Rows
 pub mod Sides
 pub mod Slices

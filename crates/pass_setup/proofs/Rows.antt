@@ -32,8 +32,8 @@ use Rattle.pass_setup.specs.Setup.{degenerateOf, sumX, sumY, weightOf, m
 use Rattle.pass_setup.specs.Rows.{SoundFloor, Row20, Row21, lowerOf, upperOf, Row22, NoneBefore, NoPointBefore, RefusedFloor, by-19, by-20, by-21, by-22, AcceptedFloor}
 use Rattle.pass_setup.proofs.Keyed.{Keyed}
 use Rattle.pass_setup.proofs.Floors.{at-all, getD-map, length-lowers, fault-19, wound-good, edges-keyed}
-use Rattle.pass_setup.proofs.Row19.{Tests, passed, failed, most-19, before-19, holds-19, is-19, clear-19, no-19}
-use Rattle.pass_setup.proofs.Row20.{most-point, before-point, holds-point, means-clear, means-at, row-20, row-21, tests-20}
+use Rattle.pass_setup.proofs.Triangles.{Tests, passed, failed, most-19, before-19, holds-19, is-19, clear-19, no-19}
+use Rattle.pass_setup.proofs.Points.{most-point, before-point, holds-point, means-clear, means-at, row-20, row-21, tests-20}
 
 module _ (f : Floor) where
   -- ---- row 22, where row 19 holds of no triangle

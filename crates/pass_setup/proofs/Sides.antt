@@ -29,7 +29,7 @@ use Rattle.pass_geometries.proofs.Good.{no-refusal}
 use Rattle.pass_setup.specs.Setup.{geometryAt, degenerateOf, woundOf, edgesOf, lowersOf, uppersOf}
 use Rattle.pass_setup.specs.Rows.{SoundFloor, cornerAt, lowerOf, upperOf, Row22, AcceptedFloor}
 use Rattle.pass_setup.proofs.Floors.{at-all, getD-map, length-wound, turned-at, wound-good}
-use Rattle.pass_setup.proofs.Row19.{failed, tests-19, clear-19}
+use Rattle.pass_setup.proofs.Triangles.{failed, tests-19, clear-19}
 use Rattle.pass_setup.proofs.Rows.{mean-positive}
 
 -- ---- all sides of a list of triangles are in the list of its edges

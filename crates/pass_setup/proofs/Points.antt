@@ -31,7 +31,7 @@ use Rattle.pass_setup.specs.declared.Setup.the-variants.{Refused}
 use Rattle.pass_setup.specs.Setup.{geometryAt, degenerateOf, woundOf, areasOf, sumX, sumY, weightOf, meansOf}
 use Rattle.pass_setup.specs.Rows.{cornerAt, signedOn, areaOn, Degenerate, IsCorner, Row20, Row21, NoPointBefore}
 use Rattle.pass_setup.proofs.Floors.{area-at, turned-at}
-use Rattle.pass_setup.proofs.Row19.{Tests, passed, failed, neither, no-19, tests-19}
+use Rattle.pass_setup.proofs.Triangles.{Tests, passed, failed, neither, no-19, tests-19}
 
 -- where row 19 holds of no triangle
 module _ (f : Floor) (none : degenerateOf f ≡ triangleCount f) where
