@@ -4,17 +4,17 @@ use native.Mathlib.Omega.{arith}
 use native.Mathlib.Numerals.{add-one}
 use mathlib.Core.Path.{_≡_, refl, sym, ap, _∙_}
 use mathlib.Core.Bool.{Bool, true, false, not, _&&_}
-use mathlib.Core.List.{List, [], _∷_}
+use mathlib.Core.List.{List, [], _∷_, _++_}
 use borrow.Author.Tests.{eqb-true, le-leb, leb-true, ne-eqb}
 use lib.Dec.{eqb, leb}
 use lib.ListN.{length, length-append, length-take, take, drop, set}
-use lib.Seq.{sets}
+use lib.Seq.{sets, length-sets}
 use lib.Ieee.{Float}
 use Rattle.float.specs.Double.{lit}
 use Rattle.text_columns.specs.Columns.{isWhole, sizeOf, doubleOf}
 use Rattle.text_columns.proofs.Columns.{few, and-both}
 use Rattle.slices.proofs.Runs.{sets-next}
-use Rattle.text_floor.specs.Text.{columnAt, first, second, third, isLine, every, pointCount, triangleCount, isHead, isText, radians, pointsUpTo, anglesUpTo, cornersUpTo, thresholdIn, ReadTo}
+use Rattle.text_floor.specs.Text.{columnAt, first, second, third, isLine, every, pointCount, triangleCount, isHead, isText, radians, pointsUpTo, anglesUpTo, sizesAt, cornersUpTo, thresholdIn, ReadTo}
 use Rattle.text_floor.specs.declared.Read.the-variants.{Floor, Other}
 
 -- a column has at most six digits
@@ -126,31 +126,38 @@ module _ (s : List ℕ) where
   corners-length n zero = refl
   corners-length n (suc t) = length-append (cornersUpTo s n t) _ ∙ omega (arith, corners-length n t)
 
-  pub points-none : (out : List Float) → out ≡ sets out 0 (pointsUpTo s 0)
-  unfolding pointsUpTo
-  points-none out = refl
+-- lists g that grow by f i in step i, where they have reached the place `at i`
+pub record Grows {A : Type 0} (g f : ℕ → List A) (at : ℕ → ℕ) : Type 0 where
+  pub none : g 0 ≡ []
+  pub next : (i : ℕ) → g (suc i) ≡ g i ++ f i
+  pub place : (i : ℕ) → length (g i) ≡ at i
 
-  pub points-again : (out₀ : List Float) {out out′ : List Float} (i : ℕ) → out ≡ sets out₀ 0 (pointsUpTo s i)
-      → out′ ≡ sets out (3 * i) (doubleOf (first s (1 + i)) ∷ doubleOf (second s (1 + i)) ∷ lit 0 ∷ []) → out′ ≡ sets out₀ 0 (pointsUpTo s (i + 1))
-  unfolding pointsUpTo
-  points-again out₀ i h e = rw (add-one i) (e ∙ rw h (sets-next out₀ 0 (3 * i) (pointsUpTo s i) _ (omega (arith, points-length i))))
+pub points-grow : (s : List ℕ) → Grows (pointsUpTo s) (λ i. doubleOf (first s (1 + i)) ∷ doubleOf (second s (1 + i)) ∷ lit 0 ∷ []) (λ i. 3 * i)
+unfolding pointsUpTo
+points-grow s = record { none = refl; next = λ i. refl; place = points-length s }
 
-  pub angles-none : (out : List Float) → out ≡ sets out 0 (anglesUpTo s 0)
-  unfolding anglesUpTo
-  angles-none out = refl
+pub angles-grow : (s : List ℕ) → Grows (anglesUpTo s) (λ i. radians (third s (1 + i)) ∷ []) (λ i. i)
+unfolding anglesUpTo
+angles-grow s = record { none = refl; next = λ i. refl; place = angles-length s }
 
-  pub angles-again : (out₀ : List Float) {out out′ : List Float} (i : ℕ) → out ≡ sets out₀ 0 (anglesUpTo s i) → out′ ≡ sets out i (radians (third s (1 + i)) ∷ []) → out′ ≡ sets out₀ 0 (anglesUpTo s (i + 1))
-  unfolding anglesUpTo
-  angles-again out₀ i h e = rw (add-one i) (e ∙ rw h (sets-next out₀ 0 i (anglesUpTo s i) _ (omega (arith, angles-length i))))
+pub corners-grow : (s : List ℕ) (n : ℕ) → Grows (cornersUpTo s n) (λ i. sizesAt s (1 + n + i)) (λ i. 3 * i)
+unfolding cornersUpTo
+corners-grow s n = record { none = refl; next = λ i. refl; place = corners-length s n }
 
-  pub corners-none : (n : ℕ) (out : List ℕ) → out ≡ sets out 0 (cornersUpTo s n 0)
-  unfolding cornersUpTo
-  corners-none n out = refl
+-- a slice with the first i of n steps written
+abbrev pub PutTo : {A : Type 0} → (ℕ → List A) → ℕ → List A → List A → ℕ → Type 0
+PutTo g n out₀ out i = (i ≤ n) × ((length out ≡ length out₀) × (out ≡ sets out₀ 0 (g i)))
 
-  pub corners-again : (n : ℕ) (out₀ : List ℕ) {out out′ : List ℕ} (i : ℕ) → out ≡ sets out₀ 0 (cornersUpTo s n i)
-      → out′ ≡ sets out (3 * i) (sizeOf (first s (1 + n + i)) ∷ sizeOf (second s (1 + n + i)) ∷ sizeOf (third s (1 + n + i)) ∷ []) → out′ ≡ sets out₀ 0 (cornersUpTo s n (i + 1))
-  unfolding cornersUpTo
-  corners-again n out₀ i h e = rw (add-one i) (e ∙ rw h (sets-next out₀ 0 (3 * i) (cornersUpTo s n i) _ (omega (arith, corners-length n i))))
+module _ {A : Type 0} {g f : ℕ → List A} {at : ℕ → ℕ} (w : Grows g f at) (n : ℕ) (out₀ : List A) where
+  pub put-none : PutTo g n out₀ out₀ 0
+  put-none = (omega arith, (refl, rw (w .none) refl))
+
+  pub put-again : {out out′ : List A} {i : ℕ} → i < n → PutTo g n out₀ out i → out′ ≡ sets out (at i) (f i) → PutTo g n out₀ out′ (i + 1)
+  put-again {out} {out′} {i} l h e =
+      (omega arith, (ap length e ∙ simp length-sets (h .1 .0), rw (add-one i, w .next i) (e ∙ rw (h .1 .1) (sets-next out₀ 0 (at i) (g i) (f i) (omega (arith, w .place i))))))
+
+  pub put-done : {out : List A} {i : ℕ} → n ≤ i → PutTo g n out₀ out i → out ≡ sets out₀ 0 (g n)
+  put-done {out} {i} l h = let e : i ≡ n = omega (arith, h .0) in rw e at (h .1 .1)
 
 -- ---- the answer
 
