@@ -141,7 +141,7 @@ impl Row {
     }
 }
 
-/// The definitions that recorded leaves and scalars are compared with: a name for it here, its crate, its file, its name.
+/// The definitions that the other recorded answers are compared with: a name for each here, its crate, its file, its name.
 const LEAVES: [(&str, &str, &str, &str); 28] = [
     ("sin", "sine", "Sine", "sinOf"),
     ("cos", "sine", "Sine", "cosOf"),

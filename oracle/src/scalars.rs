@@ -206,9 +206,27 @@ fn small_floor(r: &mut Random) -> (Vec<f64>, Vec<u32>) {
     (points, tris)
 }
 
+/// Probes of one triangle, with a corner at the origin and one on either axis, that meet a limit: the length of both sides, three angles,
+/// the question point. A weight of exactly -1e-12 and of 1 + 1e-12, and of the next double beyond; a denominator of exactly MIN_POSITIVE,
+/// and of the next; a sum whose real part is 0 and whose imaginary part is not.
+fn met_exactly() -> [([f64; 2], [f64; 3], [f64; 2]); 7] {
+    let (unit, angles) = ([1.0, 1.0], [0.1, 0.2, 0.3]);
+    let small = 2f64.powi(-511);
+    [
+        (unit, angles, [0.5, -1e-12]),
+        (unit, angles, [0.5, -1.0000000000000002e-12]),
+        (unit, angles, [-5e-13, -4.9994e-13]),
+        (unit, angles, [-5e-13, -5.001600000000001e-13]),
+        ([small, small], angles, [0.25 * small, 0.25 * small]),
+        ([small, small * (1.0 + f64::EPSILON)], angles, [0.25 * small, 0.25 * small]),
+        (unit, [0.0, FRAC_PI_4, 0.0], [0.5, 0.0]),
+    ]
+}
+
 fn probes(of: &Reference, r: &mut Random, count: usize, folder: &Path) {
     let mut list = List::new(folder, "probe", 64);
-    for _ in 0..count {
+    let known = met_exactly();
+    for k in 0..count {
         let (mut points, mut tris) = small_floor(r);
         let mut alpha: Vec<f64> = (0..points.len() / 3).map(|_| field_angle(r)).collect();
         match r.below(30) {
@@ -229,7 +247,7 @@ fn probes(of: &Reference, r: &mut Random, count: usize, folder: &Path) {
                 points.get(3 * v + 1).copied().unwrap_or(0.0),
             ]
         };
-        let at = match r.below(8) {
+        let mut at = match r.below(8) {
             0 => corner(r.below(3), &points, &tris),
             1 => {
                 let (a, b) = (corner(0, &points, &tris), corner(1, &points, &tris));
@@ -251,6 +269,10 @@ fn probes(of: &Reference, r: &mut Random, count: usize, folder: &Path) {
                 ]
             }
         };
+        if let Some(([x, y], angles, point)) = known.get(k) {
+            points = vec![0.0, 0.0, 0.0, *x, 0.0, 0.0, 0.0, *y, 0.0];
+            (tris, alpha, at) = (vec![0, 1, 2], angles.to_vec(), *point);
+        }
         // 1 not of whole triples, 2 no angle, 3 angle too large, 4 the angle
         let whole = points.len() % 3 == 0 && tris.len() % 3 == 0;
         let (kind, angle) = if !whole {
