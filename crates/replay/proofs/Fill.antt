@@ -1,11 +1,11 @@
--- A slice filled one place at a time: what stands after one more. Assumes nothing.
-use Prim.Native.Nat.{ℕ, zero, suc, _+_}
+-- A slice filled one place at a time: what stands after one more, and its front. Assumes nothing.
+use Prim.Native.Nat.{ℕ, zero, suc, _+_, _≤_}
 use native.Mathlib.Omega.{arith}
 use native.Mathlib.Numerals.{add-one}
-use mathlib.Core.Path.{_≡_, refl, ap, _∙_}
+use mathlib.Core.Path.{_≡_, refl, ap, sym, _∙_}
 use mathlib.Core.List.{List, [], _∷_}
-use lib.ListN.{length, length-append, set}
-use lib.Seq.{sets, length-sets}
+use lib.ListN.{length, length-append, set, take, drop}
+use lib.Seq.{sets, length-sets, sets-eq, take-at, take-all}
 use Rattle.slices.proofs.Runs.{sets-append}
 use Rattle.replay.specs.Rows.{upTo}
 
@@ -27,3 +27,12 @@ module _ {A : Type 0} where
 
   pub fill-length : (f : ℕ → A) (l : List A) {out : List A} (i : ℕ) → out ≡ sets l 0 (upTo f i) → length out ≡ length l
   fill-length f l i h = ap length h ∙ length-sets l 0 (upTo f i)
+
+  -- the front of a filled slice is what it was filled with
+  pub fill-front : (f : ℕ → A) (l : List A) {out : List A} (n : ℕ) → n ≤ length l → out ≡ sets l 0 (upTo f n) → take n out ≡ upTo f n
+  fill-front f l n h e =
+      rw (e, sets-eq (upTo f n) l 0 (omega (arith, upTo-length f n))) (take-at (upTo f n) _ n (upTo-length f n))
+
+  -- a slice that is filled to its end
+  pub fill-whole : (f : ℕ → A) (l : List A) {out : List A} (n : ℕ) → length l ≡ n → out ≡ sets l 0 (upTo f n) → out ≡ upTo f n
+  fill-whole f l {out} n h e = sym (take-all n out (omega (arith, fill-length f l n e))) ∙ fill-front f l n (omega arith) e

@@ -2,3 +2,4 @@ mod Spell
 pub mod Fill
 mod Same
 mod Any
+pub mod Told

@@ -3,6 +3,7 @@ use Prim.Native.Nat.{ℕ, zero, suc, _+_, _-_, _%_, _^_}
 use mathlib.Core.Bool.{Bool, true, false, cond}
 use mathlib.Core.List.{List, [], _∷_, _++_}
 use lib.Dec.{ltb}
+use lib.ListN.{length, take}
 use lib.IntN.{ℤ}
 use lib.Ieee.{Float, binary64, ofBits, toBits}
 use Rattle.replay.specs.Words.{wordAt, sameDouble}
@@ -23,6 +24,17 @@ cornerAt text k = wordAt text k % 2 ^ 32
 -- a count, and the most that there is room for where the count is above it
 abbrev pub atMost : ℕ → ℕ → ℕ
 atMost most n = cond (ltb n most) n most
+
+-- so many doubles, or corners, from word k on
+abbrev pub doublesAt : List ℕ → ℕ → ℕ → List Float
+doublesAt text k n = upTo (λ i. doubleAt text (k + i)) n
+
+abbrev pub cornersAt : List ℕ → ℕ → ℕ → List ℕ
+cornersAt text k n = upTo (λ i. cornerAt text (k + i)) n
+
+-- the front of a list, as long as word k says, or the whole list
+abbrev pub front : {A : Type 0} → List ℕ → ℕ → List A → List A
+front text k l = take (atMost (length l) (wordAt text k)) l
 
 -- two doubles are the same, where all NaNs are one
 abbrev pub sameAs : Float → Float → Bool
