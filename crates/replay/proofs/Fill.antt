@@ -1,13 +1,24 @@
 -- A slice filled one place at a time: what stands after one more, and its front. Assumes nothing.
 use Prim.Native.Nat.{ℕ, zero, suc, _+_, _≤_}
 use native.Mathlib.Omega.{arith}
+use native.Mathlib.Nat.{zero-add}
 use native.Mathlib.Numerals.{add-one}
 use mathlib.Core.Path.{_≡_, refl, ap, sym, _∙_}
-use mathlib.Core.List.{List, [], _∷_}
+use mathlib.Core.Bool.{Bool, true, false, cond}
+use mathlib.Core.List.{List, [], _∷_, _++_}
+use lib.Dec.{ltb}
 use lib.ListN.{length, length-append, set, take, drop}
 use lib.Seq.{sets, length-sets, sets-eq, take-at, take-all}
 use Rattle.slices.proofs.Runs.{sets-append}
-use Rattle.replay.specs.Rows.{upTo}
+use borrow.Author.Tests.{ltb-false}
+use Rattle.replay.specs.Rows.{upTo, atMost}
+
+at-most : (most n : ℕ) → n ≤ most → atMost most n ≡ n
+at-most most n h = by-test (ltb n most) refl
+  where
+    by-test : (t : Bool) → ltb n most ≡ t → cond t n most ≡ n
+    by-test true e = refl
+    by-test false e = omega (arith, ltb-false n most e)
 
 module _ {A : Type 0} where
   upTo-length : (f : ℕ → A) (i : ℕ) → length (upTo f i) ≡ i
@@ -36,3 +47,9 @@ module _ {A : Type 0} where
   -- a slice that is filled to its end
   pub fill-whole : (f : ℕ → A) (l : List A) {out : List A} (n : ℕ) → length l ≡ n → out ≡ sets l 0 (upTo f n) → out ≡ upTo f n
   fill-whole f l {out} n h e = sym (take-all n out (omega (arith, fill-length f l n e))) ∙ fill-front f l n (omega arith) e
+
+  -- a slice with room for n: they stand over what was there
+  pub fill-over : (f : ℕ → A) (l : List A) {out : List A} {n n′ : ℕ} → n ≡ n′ → n ≤ length l → out ≡ sets l 0 (upTo f (atMost (length l) n)) → out ≡ upTo f n′ ++ drop (length (upTo f n′)) l
+  fill-over f l {n} {n′} e h o =
+      let m : atMost (length l) n ≡ n′ = at-most (length l) n h ∙ e in
+      o ∙ rw (m, sets-eq (upTo f n′) l 0 (omega (arith, upTo-length f n′)), zero-add)

@@ -1,4 +1,4 @@
--- A number of the answer compared with a recorded one, where the rest is compared only if they are the same: what each arm says of the whole. Assumes nothing.
+-- Something compared with what is recorded, where the rest is compared only if it is the same: what each arm says of the whole. Assumes nothing.
 use Prim.Native.Nat.{ℕ}
 use mathlib.Core.Path.{_≡_, sym, _∙_}
 use mathlib.Core.Bool.{Bool, true, false, cond}
@@ -12,3 +12,14 @@ told e ea eb h = rw (eq-eqb _ _ (sym ea ∙ e ∙ eb)) h
 -- they are not
 pub untold : {a b v w : ℕ} (q : Bool) → (a ≡ b → ⊥) → a ≡ v → b ≡ w → false ≡ cond (eqb v w) q false
 untold q e ea eb = rw (ne-eqb _ _ (λ f. e (ea ∙ f ∙ sym eb)))
+
+-- the last test: b stands for w
+pub last : (a : ℕ) {b w : ℕ} → b ≡ w → eqb a b ≡ eqb a w
+last a e = rw e
+
+-- the same of a test p that stands for s
+pub held : {p s q r : Bool} → p ≡ true → p ≡ s → r ≡ q → r ≡ cond s q false
+held e es h = rw (sym es ∙ e) h
+
+pub unheld : {p s : Bool} (q : Bool) → p ≡ false → p ≡ s → false ≡ cond s q false
+unheld q e es = rw (sym es ∙ e)

@@ -1,5 +1,8 @@
 // Rows that hold a call of refinement: counts, threshold, lengths of the result slices, the answer's counts, then what is given
 // and the refined floor, each at its own place.
+ghost use mathlib.Core.Path.{_≡_};
+ghost use Rattle.replay.specs.Rows.{front};
+ghost use Rattle.replay_refinements.specs.Floors.{sameCounts, sameAnswer, sameFour, sameFloor, Lends, foundFor, madeFor, refinementOn, refinementRow};
 use refine_call::Answer;
 use refine_call::Counts;
 use replay::rows::corners;
@@ -14,7 +17,9 @@ const MARK: f64 = -7.5;
 
 const MARK_U32: u32 = 0xdead_beef;
 
-fn same_counts(row: &[u8], counts: Counts) -> bool {
+fn same_counts(row: &[u8], counts: Counts) -> bool
+    ensures { λ r. ⌜ r ≡ sameCounts (now (row .entry)) counts ⌝ }
+{
     if counts.points as u64 != replay::word(row, 11) {
         return false;
     }
@@ -28,7 +33,9 @@ fn same_counts(row: &[u8], counts: Counts) -> bool {
 }
 
 // Whether the answer is the one recorded: 0 and the counts, or the row of document 01's table and the place.
-fn same_answer(row: &[u8], answer: Answer) -> bool {
+fn same_answer(row: &[u8], answer: Answer) -> bool
+    ensures { λ r. ⌜ r ≡ sameAnswer (now (row .entry)) answer ⌝ }
+{
     let told = replay::word(row, 9);
     match answer {
         Answer::Refinement(counts) => {
@@ -48,8 +55,36 @@ fn same_answer(row: &[u8], answer: Answer) -> bool {
     }
 }
 
+// Whether points, sizes, corners and ends of cut sides are the same.
+fn same_four(
+    op: &[f64],
+    os: &[f64],
+    ot: &[u32],
+    oe: &[u32],
+    points: &[f64],
+    sizes: &[f64],
+    triangles: &[u32],
+    ends: &[u32],
+) -> bool
+    ensures { λ r. ⌜ r ≡ sameFour (now (op .entry)) (now (os .entry)) (now (ot .entry)) (now (oe .entry))
+        (now (points .entry)) (now (sizes .entry)) (now (triangles .entry)) (now (ends .entry)) ⌝ }
+{
+    if !same_doubles(op, points) {
+        return false;
+    }
+    if !same_doubles(os, sizes) {
+        return false;
+    }
+    if !same_numbers(ot, triangles) {
+        return false;
+    }
+    same_numbers(oe, ends)
+}
+
 // Whether the result slices hold what is recorded, and the mark behind it; the counts of a refused call are recorded as 0.
-fn same_floor(row: &[u8], op: &[f64], os: &[f64], ot: &[u32], oe: &[u32]) -> bool {
+fn same_floor(row: &[u8], op: &[f64], os: &[f64], ot: &[u32], oe: &[u32]) -> bool
+    ensures { λ r. ⌜ r ≡ sameFloor (now (row .entry)) (now (op .entry)) (now (os .entry)) (now (ot .entry)) (now (oe .entry)) ⌝ }
+{
     let n = count(row, 11, 23);
     let t = count(row, 12, 20);
     let m = count(row, 14, 15);
@@ -61,16 +96,7 @@ fn same_floor(row: &[u8], op: &[f64], os: &[f64], ot: &[u32], oe: &[u32]) -> boo
     doubles(row, 139, n, &mut sizes);
     corners(row, 162, 3 * t, &mut triangles);
     corners(row, 222, 2 * m, &mut ends);
-    if !same_doubles(op, &points) {
-        return false;
-    }
-    if !same_doubles(os, &sizes) {
-        return false;
-    }
-    if !same_numbers(ot, &triangles) {
-        return false;
-    }
-    same_numbers(oe, &ends)
+    same_four(op, os, ot, oe, &points, &sizes, &triangles, &ends)
 }
 
 // The call, on result slices of the recorded lengths.
@@ -84,7 +110,12 @@ fn call(
     os: &mut [f64],
     ot: &mut [u32],
     oe: &mut [u32],
-) -> Answer {
+) -> Answer
+    ensures { λ r. ⌜ Lends (now (row .entry)) (foundFor (now (row .entry)) (now (points .entry)) (now (tris .entry)) (now (sizes .entry)) (now (angles .entry))
+        (now (op .entry)) (now (os .entry)) (now (ot .entry)) (now (oe .entry)))
+        (madeFor (now (row .entry)) (now (points .entry)) (now (tris .entry)) (now (sizes .entry)) (now (angles .entry)))
+        (now (op .entry)) (now (os .entry)) (now (ot .entry)) (now (oe .entry)) r (now (op .exit)) (now (os .exit)) (now (ot .exit)) (now (oe .exit)) ⌝ }
+{
     let a = count(row, 5, op.len());
     let b = count(row, 6, os.len());
     let c = count(row, 7, ot.len());
@@ -103,7 +134,9 @@ fn call(
 }
 
 // The call on marked result slices, and what they hold after it.
-fn ask(row: &[u8], points: &[f64], tris: &[u32], sizes: &[f64], angles: &[f64]) -> bool {
+fn ask(row: &[u8], points: &[f64], tris: &[u32], sizes: &[f64], angles: &[f64]) -> bool
+    ensures { λ r. ⌜ r ≡ refinementOn (now (row .entry)) (now (points .entry)) (now (tris .entry)) (now (sizes .entry)) (now (angles .entry)) ⌝ }
+{
     let mut op = [MARK; 72];
     let mut os = [MARK; 24];
     let mut ot = [MARK_U32; 64];
@@ -126,7 +159,10 @@ fn ask(row: &[u8], points: &[f64], tris: &[u32], sizes: &[f64], angles: &[f64]) 
 }
 
 // The counts of point numbers, corners, sizes and angles.
-fn given(row: &[u8], points: &[f64], tris: &[u32], sizes: &[f64], angles: &[f64]) -> bool {
+fn given(row: &[u8], points: &[f64], tris: &[u32], sizes: &[f64], angles: &[f64]) -> bool
+    ensures { λ r. ⌜ r ≡ refinementOn (now (row .entry)) (front (now (row .entry)) 0 (now (points .entry))) (front (now (row .entry)) 1 (now (tris .entry)))
+        (front (now (row .entry)) 2 (now (sizes .entry))) (front (now (row .entry)) 3 (now (angles .entry))) ⌝ }
+{
     let p = count(row, 0, points.len());
     let t = count(row, 1, tris.len());
     let s = count(row, 2, sizes.len());
@@ -135,7 +171,9 @@ fn given(row: &[u8], points: &[f64], tris: &[u32], sizes: &[f64], angles: &[f64]
 }
 
 // The row of a refinement: at 15 the points, at 39 the sizes, at 47 the angles, at 55 the corners.
-pub fn refinement(row: &[u8]) -> bool {
+pub fn refinement(row: &[u8]) -> bool
+    ensures { λ r. ⌜ r ≡ refinementRow (now (row .entry)) ⌝ }
+{
     let mut points = [0.0; 24];
     let mut sizes = [0.0; 8];
     let mut angles = [0.0; 8];

@@ -1,7 +1,7 @@
 -- `replay_scalars::floors::same_singular` meets its contract: what is called answers by its definition, and each test decides its arm.
 use borrow.Author.Needs.{needs}
 use mathlib.Core.Path.{refl}
-use Rattle.replay.proofs.Told.{told, untold}
+use Rattle.replay.proofs.Told.{told, untold, last}
 use Rattle.replay_scalars.proofs.floors.same_singular.Statement.{statement}
 use Rattle.replay_scalars.proofs.floors.same_singular.Tie as tie
 
@@ -17,7 +17,7 @@ returns-3 c = rw (c .before .before .before .before .answer .given .1) (told (c 
 returns-4 : tie.Need-returns-4
 returns-4 c =
     let back7 = c .before .before .before .before .before .before .before in
-    rw (c .before .before .before .before .before .answer .given .1) (told (c .before .before .before .if1 .left) (back7 .word .ensures) refl (told (c .before .if2 .left) refl (c .before .before .word2 .ensures) (rw (c .word3 .ensures))))
+    rw (c .before .before .before .before .before .answer .given .1) (told (c .before .before .before .if1 .left) (back7 .word .ensures) refl (told (c .before .if2 .left) refl (c .before .before .word2 .ensures) (last _ (c .word3 .ensures))))
 
 pub same-singular-spec : {M : Type 1} → statement M
 same-singular-spec =
