@@ -1,7 +1,7 @@
 -- A slice filled one place at a time: what stands after one more, and its front. Assumes nothing.
-use Prim.Native.Nat.{ℕ, zero, suc, _+_, _≤_}
+use Prim.Native.Nat.{ℕ, zero, suc, _+_, _-_, _≤_}
 use native.Mathlib.Omega.{arith}
-use native.Mathlib.Nat.{zero-add}
+use native.Mathlib.Nat.{zero-add, sub-zero}
 use native.Mathlib.Numerals.{add-one}
 use mathlib.Core.Path.{_≡_, refl, ap, sym, _∙_}
 use mathlib.Core.Bool.{Bool, true, false, cond}
@@ -53,3 +53,11 @@ module _ {A : Type 0} where
   fill-over f l {n} {n′} e h o =
       let m : atMost (length l) n ≡ n′ = at-most (length l) n h ∙ e in
       o ∙ rw (m, sets-eq (upTo f n′) l 0 (omega (arith, upTo-length f n′)), zero-add)
+
+  -- its front
+  pub over-front : (f : ℕ → A) (l : List A) {out : List A} {n n′ : ℕ} → n ≡ n′ → n ≤ length l → out ≡ sets l 0 (upTo f (atMost (length l) n)) → take n′ out ≡ upTo f n′
+  over-front f l {n} {n′} e h o = ap (take n′) (fill-over f l e h o) ∙ take-at (upTo f n′) _ n′ (upTo-length f n′)
+
+  -- a lent front of n, put back
+  pub put-back : (old : List A) {n m : ℕ} {new new′ : List A} → n ≡ m → new ≡ new′ → new ++ drop (n - 0) old ≡ new′ ++ drop m old
+  put-back old e h = simp (sub-zero, e, h)

@@ -2,8 +2,10 @@
 use Prim.Native.Nat.{ℕ}
 use mathlib.Core.Path.{_≡_, sym, _∙_}
 use mathlib.Core.Bool.{Bool, true, false, cond}
+use mathlib.Core.List.{List}
 use lib.Dec.{eqb}
 use borrow.Author.Tests.{eq-eqb, ne-eqb}
+use Rattle.replay.specs.Rows.{sameAll}
 
 -- a and b, which stand for v and w, are the same, and the rest decides
 pub told : {a b v w : ℕ} {q r : Bool} → a ≡ b → a ≡ v → b ≡ w → r ≡ q → r ≡ cond (eqb v w) q false
@@ -23,3 +25,7 @@ held e es h = rw (sym es ∙ e) h
 
 pub unheld : {p s : Bool} (q : Bool) → p ≡ false → p ≡ s → false ≡ cond s q false
 unheld q e es = rw (sym es ∙ e)
+
+-- a slice compared with b, which is b′
+pub compared : {A : Type 0} (f : A → A → Bool) (a : List A) {b b′ : List A} {p : Bool} → b ≡ b′ → p ≡ sameAll f a b → p ≡ sameAll f a b′
+compared f a e h = rw e at h

@@ -12,12 +12,9 @@ use Rattle.refine_call.specs.declared.Answer.{Answer}
 use Rattle.refine_call.specs.Call.{Called, CalledOn}
 use Rattle.replay.specs.Words.{wordAt}
 use Rattle.replay.specs.Rows.{doubleAt, atMost, front}
+use Rattle.replay.proofs.Fill.{put-back}
 use Rattle.replay.proofs.Told.{held, unheld}
 use Rattle.replay_refinements.specs.Floors.{marks, wordMarks, sameAnswer, sameFour, sameFloor, Lends, foundFor, madeFor, asRecorded}
-
--- what is put back behind a lent front
-behind : {A : Type 0} (old : List A) {n m : ℕ} {new new′ : List A} → n ≡ m → new ≡ new′ → new ++ drop (n - 0) old ≡ new′ ++ drop m old
-behind old e h = simp (sub-zero, e, h)
 
 -- the call, by the counts that words 5 to 8 give
 pub lends : (row : List ℕ) (points : List Float) (tris : List ℕ) (sizes angles op os : List Float) (ot oe : List ℕ) {n₁ n₂ n₃ n₄ : ℕ} {threshold : Float} {a : Answer} {p s : List Float} {t e : List ℕ}
@@ -27,7 +24,7 @@ pub lends : (row : List ℕ) (points : List Float) (tris : List ℕ) (sizes angl
     (p ++ drop (n₁ - 0) op) (s ++ drop (n₂ - 0) os) (t ++ drop (n₃ - 0) ot) (e ++ drop (n₄ - 0) oe)
 lends row points tris sizes angles op os ot oe {a} {p} {s} {t} {e} e₁ e₂ e₃ e₄ ex h =
     let found : Called (foundFor row points tris sizes angles op os ot oe) (madeFor row points tris sizes angles) (front row 5 op) (front row 6 os) (front row 7 ot) (front row 8 oe) a p s t e = simp (sub-zero, e₁, e₂, e₃, e₄, ex) at h in
-    record { answer = found .answer; points-left = behind op e₁ (found .points); sizes-left = behind os e₂ (found .sizes); corners-left = behind ot e₃ (found .triangles); ends-left = behind oe e₄ (found .ends) }
+    record { answer = found .answer; points-left = put-back op e₁ (found .points); sizes-left = put-back os e₂ (found .sizes); corners-left = put-back ot e₃ (found .triangles); ends-left = put-back oe e₄ (found .ends) }
 
 -- four slices compared with what was filled
 pub same-four : {b : Bool} (p s : List Float) (t e : List ℕ) {p′ p″ s′ s″ : List Float} {t′ t″ e′ e″ : List ℕ} → p′ ≡ p″ → s′ ≡ s″ → t′ ≡ t″ → e′ ≡ e″ → b ≡ sameFour p s t e p′ s′ t′ e′ → b ≡ sameFour p s t e p″ s″ t″ e″

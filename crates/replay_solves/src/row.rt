@@ -6,7 +6,13 @@ use pass_options::Options;
 use replay::rows;
 ghost use mathlib.Core.Path.{_≡_};
 ghost use Prim.Native.Nat.{_≤_};
+ghost use lib.ListN.{length, take, replicate};
+ghost use Rattle.float.specs.Double.{lit};
+ghost use Rattle.solve.specs.Passes.{lent};
+ghost use Rattle.refinement.specs.Floor.{over};
 ghost use Rattle.replay_solves.specs.Row.{quarterAt, countAt, givenDoubles, hasNan, hasMinusZero};
+ghost use Rattle.replay_solves.specs.Solve.{boundaryIn, optionsIn, askedIn, sameRefusal, sameOutcome, sameAngles, wipedIn, sameWork};
+ghost use Rattle.replay_solves.specs.Solve.{solvedOn, Lends, solveOn, solveRow};
 
 // Where the parts that are as long as counted begin.
 const PARTS: usize = 13;
@@ -40,15 +46,22 @@ fn count(row: &[u8], k: usize, i: u64, most: usize) -> usize
     rows::at_most(quarter(row, k, i) as usize, most)
 }
 
-fn boundary_of(row: &[u8]) -> BoundaryMode {
-    match quarter(row, 3, 2) {
-        0 => BoundaryMode::None,
-        1 => BoundaryMode::Tangent,
-        _ => BoundaryMode::Weak(rows::double(row, 8)),
+fn boundary_of(row: &[u8]) -> BoundaryMode
+    ensures { λ r. ⌜ r ≡ boundaryIn (now (row .entry)) ⌝ }
+{
+    let kind = quarter(row, 3, 2);
+    if kind == 0 {
+        return BoundaryMode::None;
     }
+    if kind == 1 {
+        return BoundaryMode::Tangent;
+    }
+    BoundaryMode::Weak(rows::double(row, 8))
 }
 
-fn options_of(row: &[u8]) -> Options {
+fn options_of(row: &[u8]) -> Options
+    ensures { λ r. ⌜ r ≡ optionsIn (now (row .entry)) ⌝ }
+{
     let boundary = boundary_of(row);
     Options {
         accurate: quarter(row, 3, 1) != 0,
@@ -60,7 +73,9 @@ fn options_of(row: &[u8]) -> Options {
     }
 }
 
-fn asked_of(row: &[u8]) -> Asked {
+fn asked_of(row: &[u8]) -> Asked
+    ensures { λ r. ⌜ r ≡ askedIn (now (row .entry)) ⌝ }
+{
     Asked {
         guided: quarter(row, 3, 0) != 0,
         weight: rows::double(row, 4),
@@ -69,7 +84,9 @@ fn asked_of(row: &[u8]) -> Asked {
 }
 
 // Number, reason and pass of a refusal, and its places; or four zeros, a zero and the counts.
-fn same_refusal(row: &[u8], r: refusals::Refusal) -> bool {
+fn same_refusal(row: &[u8], r: refusals::Refusal) -> bool
+    ensures { λ b. ⌜ b ≡ sameRefusal (now (row .entry)) r ⌝ }
+{
     if r.number != quarter(row, 11, 0) {
         return false;
     }
@@ -85,7 +102,9 @@ fn same_refusal(row: &[u8], r: refusals::Refusal) -> bool {
     r.other == quarter(row, 12, 1)
 }
 
-fn same_outcome(row: &[u8], o: Outcome) -> bool {
+fn same_outcome(row: &[u8], o: Outcome) -> bool
+    ensures { λ r. ⌜ r ≡ sameOutcome (now (row .entry)) o ⌝ }
+{
     match o {
         Outcome::Solved(c) => {
             if quarter(row, 11, 0) != 0 {
@@ -103,6 +122,7 @@ fn same_outcome(row: &[u8], o: Outcome) -> bool {
 // Whether the angle slices begin with the recorded angles, which stand from word k on, and hold the mark behind them.
 fn same_angles(row: &[u8], k: usize, coarse: &[f64], fine: &[f64]) -> bool
     requires { ⌜ (k ≤ 900) ⌝ }
+    ensures { λ r. ⌜ r ≡ sameAngles (now (row .entry)) k (now (coarse .entry)) (now (fine .entry)) ⌝ }
 {
     let mut want = [MARK; 24];
     let mut want_fine = [MARK; 64];
@@ -118,7 +138,7 @@ fn same_angles(row: &[u8], k: usize, coarse: &[f64], fine: &[f64]) -> bool
 
 // How much of a lent slice ends as zeros: nothing by rows 1 to 18, then all.
 fn wiped(row: &[u8], i: u64, most: usize) -> usize
-    ensures { λ r. ⌜ r ≤ most ⌝ }
+    ensures { λ r. ⌜ (r ≡ wipedIn (now (row .entry)) i most) × (r ≤ most) ⌝ }
 {
     let number = quarter(row, 11, 0);
     if number == 0 {
@@ -131,18 +151,24 @@ fn wiped(row: &[u8], i: u64, most: usize) -> usize
 }
 
 // Zeros at the front of a slice.
-fn wipe(n: usize, out: &mut [f64]) {
-    let m = rows::at_most(n, out.len());
-    slices::zero(&mut out[0..m]);
+fn wipe(n: usize, out: &mut [f64])
+    requires { ⌜ n ≤ length (now out) ⌝ }
+    ensures { λ _. ⌜ now (out .exit) ≡ over (replicate n (lit 0)) (now (out .entry)) ⌝ }
+{
+    slices::zero(&mut out[0..n]);
 }
 
-fn wipe_u32(n: usize, out: &mut [u32]) {
-    let m = rows::at_most(n, out.len());
-    slices::zero_u32(&mut out[0..m]);
+fn wipe_u32(n: usize, out: &mut [u32])
+    requires { ⌜ n ≤ length (now out) ⌝ }
+    ensures { λ _. ⌜ now (out .exit) ≡ over (replicate n 0) (now (out .entry)) ⌝ }
+{
+    slices::zero_u32(&mut out[0..n]);
 }
 
 // Whether all of the work is as lent, or the lent part zeros.
-fn same_work(row: &[u8], work: &[f64], numbers: &[u32]) -> bool {
+fn same_work(row: &[u8], work: &[f64], numbers: &[u32]) -> bool
+    ensures { λ r. ⌜ r ≡ sameWork (now (row .entry)) (now (work .entry)) (now (numbers .entry)) ⌝ }
+{
     let mut want = [MARK; 4640];
     let mut want_numbers = [MARK_U32; 2336];
     wipe(wiped(row, 2, 4640), &mut want);
@@ -164,7 +190,12 @@ fn call(
     fine: &mut [f64],
     work: &mut [f64],
     numbers: &mut [u32],
-) -> Outcome {
+) -> Outcome
+    ensures { λ r. ⌜ Lends (now (row .entry)) (solvedOn (now (row .entry)) (now (points .entry)) (now (tris .entry)) (now (sizes .entry)) (now (angles .entry))
+        (lent (now (coarse .entry)) (now (fine .entry)) (now (work .entry)) (now (numbers .entry))))
+        (lent (now (coarse .entry)) (now (fine .entry)) (now (work .entry)) (now (numbers .entry)))
+        r (now (coarse .exit)) (now (fine .exit)) (now (work .exit)) (now (numbers .exit)) ⌝ }
+{
     let a = count(row, 2, 0, coarse.len());
     let b = count(row, 2, 1, fine.len());
     let c = count(row, 2, 2, work.len());
@@ -188,6 +219,7 @@ fn call(
 // The call on marked slices, and what they hold after it; the recorded angles stand from word k on.
 fn ask(row: &[u8], k: usize, points: &[f64], tris: &[u32], sizes: &[f64], angles: &[f64]) -> bool
     requires { ⌜ (k ≤ 900) ⌝ }
+    ensures { λ r. ⌜ r ≡ solveOn (now (row .entry)) k (now (points .entry)) (now (tris .entry)) (now (sizes .entry)) (now (angles .entry)) ⌝ }
 {
     let mut coarse = [MARK; 24];
     let mut fine = [MARK; 64];
@@ -216,6 +248,9 @@ fn ask(row: &[u8], k: usize, points: &[f64], tris: &[u32], sizes: &[f64], angles
 // The counts of point numbers, corners, sizes and guidance angles.
 fn given(row: &[u8], k: usize, points: &[f64], tris: &[u32], sizes: &[f64], angles: &[f64]) -> bool
     requires { ⌜ (k ≤ 900) ⌝ }
+    ensures { λ r. ⌜ r ≡ solveOn (now (row .entry)) k (take (countAt (now (row .entry)) 1 0 (length (now (points .entry)))) (now (points .entry)))
+        (take (countAt (now (row .entry)) 1 1 (length (now (tris .entry)))) (now (tris .entry)))
+        (take (countAt (now (row .entry)) 1 2 (length (now (sizes .entry)))) (now (sizes .entry))) (take (countAt (now (row .entry)) 1 3 (length (now (angles .entry)))) (now (angles .entry))) ⌝ }
 {
     let p = count(row, 1, 0, points.len());
     let t = count(row, 1, 1, tris.len());
@@ -232,7 +267,9 @@ fn given(row: &[u8], k: usize, points: &[f64], tris: &[u32], sizes: &[f64], angl
 }
 
 // Whether a row holds for the program too.
-pub fn holds(row: &[u8]) -> bool {
+pub fn holds(row: &[u8]) -> bool
+    ensures { λ r. ⌜ r ≡ solveRow (now (row .entry)) ⌝ }
+{
     let mut points = [0.0; 40];
     let mut sizes = [0.0; 16];
     let mut angles = [0.0; 16];
