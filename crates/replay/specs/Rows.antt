@@ -3,9 +3,10 @@ use Prim.Native.Nat.{ℕ, zero, suc, _+_, _-_, _%_, _^_}
 use mathlib.Core.Bool.{Bool, true, false, cond}
 use mathlib.Core.List.{List, [], _∷_, _++_}
 use lib.Dec.{ltb}
-use lib.ListN.{length, take}
+use lib.ListN.{length, take, replicate}
 use lib.IntN.{ℤ}
 use lib.Ieee.{Float, binary64, ofBits, toBits}
+use Rattle.float.specs.Double.{lit}
 use Rattle.replay.specs.Words.{wordAt, sameDouble}
 use Rattle.replay.specs.declared.rows.Reading.{Reading}
 
@@ -35,6 +36,13 @@ cornersAt text k n = upTo (λ i. cornerAt text (k + i)) n
 -- the front of a list, as long as word k says, or the whole list
 abbrev pub front : {A : Type 0} → List ℕ → ℕ → List A → List A
 front text k l = take (atMost (length l) (wordAt text k)) l
+
+-- what lent slices hold before the call: -7.5, and a word that is no number of a point
+abbrev pub marks : ℕ → List Float
+marks n = replicate n (lit 0xc01e_0000_0000_0000)
+
+abbrev pub wordMarks : ℕ → List ℕ
+wordMarks n = replicate n 0xdead_beef
 
 -- two doubles are the same, where all NaNs are one
 abbrev pub sameAs : Float → Float → Bool

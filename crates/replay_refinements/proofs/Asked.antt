@@ -11,10 +11,10 @@ use Rattle.refinement.specs.Floor.{Refined}
 use Rattle.refine_call.specs.declared.Answer.{Answer}
 use Rattle.refine_call.specs.Call.{Called, CalledOn}
 use Rattle.replay.specs.Words.{wordAt}
-use Rattle.replay.specs.Rows.{doubleAt, atMost, front}
+use Rattle.replay.specs.Rows.{doubleAt, atMost, marks, wordMarks, front}
 use Rattle.replay.proofs.Fill.{put-back}
 use Rattle.replay.proofs.Told.{held, unheld}
-use Rattle.replay_refinements.specs.Floors.{marks, wordMarks, sameAnswer, sameFour, sameFloor, Lends, foundFor, madeFor, asRecorded}
+use Rattle.replay_refinements.specs.Floors.{sameAnswer, sameFour, sameFloor, Lends, foundFor, madeFor, asRecorded}
 
 -- the call, by the counts that words 5 to 8 give
 pub lends : (row : List ℕ) (points : List Float) (tris : List ℕ) (sizes angles op os : List Float) (ot oe : List ℕ) {n₁ n₂ n₃ n₄ : ℕ} {threshold : Float} {a : Answer} {p s : List Float} {t e : List ℕ}

@@ -5,9 +5,8 @@ use mathlib.Core.Path.{_≡_}
 use mathlib.Core.Bool.{Bool, false, cond}
 use mathlib.Core.List.{List, _++_}
 use lib.Dec.{eqb}
-use lib.ListN.{length, drop, replicate}
+use lib.ListN.{length, drop}
 use lib.Ieee.{Float}
-use Rattle.float.specs.Double.{lit}
 use Rattle.floor.specs.declared.Check.{Check}
 use Rattle.refinement.specs.Floor.{Refined, refinementOf, trisOf, cornersOf, endsOf, over}
 use Rattle.refine_call.specs.declared.Counts.{Counts}
@@ -15,14 +14,7 @@ use Rattle.refine_call.specs.declared.Answer.{Answer}
 use Rattle.refine_call.specs.declared.Answer.the-variants.{Refinement, Refusal}
 use Rattle.refine_call.specs.Call.{checkCall, answerOf, left}
 use Rattle.replay.specs.Words.{wordAt}
-use Rattle.replay.specs.Rows.{doubleAt, doublesAt, cornersAt, atMost, front, sameAs, sameAll}
-
--- what the result slices hold before the call: -7.5, and a word that is no number of a point
-abbrev pub marks : ℕ → List Float
-marks n = replicate n (lit 0xc01e_0000_0000_0000)
-
-abbrev pub wordMarks : ℕ → List ℕ
-wordMarks n = replicate n 0xdead_beef
+use Rattle.replay.specs.Rows.{doubleAt, doublesAt, cornersAt, atMost, marks, wordMarks, front, sameAs, sameAll}
 
 -- ---- the answer
 

@@ -19,7 +19,7 @@ use Rattle.replay.specs.Rows.{upTo, atMost}
 use Rattle.replay.proofs.Fill.{fill-length, over-front, put-back}
 use Rattle.replay.proofs.Told.{held, unheld}
 use Rattle.replay_solves.specs.Row.{countAt}
-use Rattle.replay_solves.specs.Solve.{optionsIn, askedIn, sameOutcome, sameAngles, sameWork, frontsOf, putBack, solvedOn, Lends, marked, asRecorded, solveOn}
+use Rattle.replay_solves.specs.Solve.{optionsIn, askedIn, sameOutcome, sameAngles, sameWork, putBack, solvedOn, Lends, marked, asRecorded, solveOn}
 
 -- the call, by the counts that word 2 gives
 pub lends : (row : List ℕ) (points : List Float) (tris : List ℕ) (sizes angles coarse fine work : List Float) (words : List ℕ) {n₁ n₂ n₃ n₄ : ℕ} {o : Options} {a : Asked} {r : Outcome} {x y z : List Float} {u : List ℕ}

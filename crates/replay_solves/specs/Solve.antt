@@ -21,15 +21,8 @@ use Rattle.calls.specs.Checks.{Lent}
 use Rattle.calls.specs.Solve.{Ended, solveOf}
 use Rattle.solve.specs.Passes.{callFor}
 use Rattle.replay.specs.Words.{wordAt}
-use Rattle.replay.specs.Rows.{doubleAt, doublesAt, cornersAt, sameAs, sameAll}
+use Rattle.replay.specs.Rows.{doubleAt, doublesAt, cornersAt, marks, wordMarks, sameAs, sameAll}
 use Rattle.replay_solves.specs.Row.{quarterAt, countAt}
-
--- what the lent slices hold before the call: -7.5, and a word that is no number of a point
-abbrev pub marks : ℕ → List Float
-marks n = replicate n (lit 0xc01e_0000_0000_0000)
-
-abbrev pub wordMarks : ℕ → List ℕ
-wordMarks n = replicate n 0xdead_beef
 
 -- ---- what is asked for
 

@@ -4,7 +4,8 @@ use native.Mathlib.Omega.{arith}
 use mathlib.Core.Path.{ap}
 use Prim.Native.Nat.{ℕ, _*_}
 use Rattle.replay.proofs.Fill.{fill-over}
-use Rattle.replay_refinements.specs.Floors.{sameFloor, marks, wordMarks}
+use Rattle.replay_refinements.specs.Floors.{sameFloor}
+use Rattle.replay.specs.Rows.{marks, wordMarks}
 use Rattle.replay_refinements.proofs.Asked.{same-four}
 use Rattle.replay_refinements.proofs.floors.same_floor.Statement.{statement}
 use Rattle.replay_refinements.proofs.floors.same_floor.Tie as tie

@@ -2,10 +2,10 @@
 use borrow.Author.Needs.{needs}
 use native.Mathlib.Omega.{arith}
 use mathlib.Core.Path.{refl}
-use Rattle.replay.specs.Rows.{sameAs}
+use Rattle.replay.specs.Rows.{marks, sameAs}
 use Rattle.replay.proofs.Fill.{fill-over}
 use Rattle.replay.proofs.Told.{held, unheld, compared}
-use Rattle.replay_solves.specs.Solve.{sameAngles, marks}
+use Rattle.replay_solves.specs.Solve.{sameAngles}
 use Rattle.replay_solves.proofs.row.same_angles.Statement.{statement}
 use Rattle.replay_solves.proofs.row.same_angles.Tie as tie
 

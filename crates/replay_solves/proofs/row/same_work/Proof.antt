@@ -1,9 +1,9 @@
 -- `replay_solves::row::same_work` meets its contract: what is called answers by its definition, and each test decides its arm.
 use borrow.Author.Needs.{needs}
 use lib.Dec.{eqb}
-use Rattle.replay.specs.Rows.{sameAs}
+use Rattle.replay.specs.Rows.{marks, wordMarks, sameAs}
 use Rattle.replay.proofs.Told.{held, unheld, compared}
-use Rattle.replay_solves.specs.Solve.{sameWork, marks, wordMarks}
+use Rattle.replay_solves.specs.Solve.{sameWork}
 use Rattle.replay_solves.proofs.Asked.{wiped-as}
 use Rattle.replay_solves.proofs.row.same_work.Statement.{statement}
 use Rattle.replay_solves.proofs.row.same_work.Tie as tie
