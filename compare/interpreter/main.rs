@@ -115,7 +115,9 @@ fn reasons(root: &Path) -> BTreeMap<String, String> {
     let text = fs::read_to_string(root.join("compare/unnoticed.txt")).unwrap_or_default();
     let lines = text.lines().filter(|l| !l.is_empty() && !l.starts_with('#'));
     let parts = lines.filter_map(|l| l.split_once(' '));
-    parts.map(|(reason, name)| (name.to_string(), reason.to_string())).collect()
+    parts
+        .map(|(reason, name)| (name.to_string(), reason.to_string()))
+        .collect()
 }
 
 fn work(words: &[String]) -> bool {

@@ -203,11 +203,7 @@ impl Solver {
             record("Call"),
             &["points", "corners", "sizes", "options", "guidance", "iterations"],
         );
-        same_fields(
-            "the record Lent",
-            record("Lent"),
-            &["coarse", "fine", "work", "words"],
-        );
+        same_fields("the record Lent", record("Lent"), &["coarse", "fine", "work", "words"]);
         same_fields(
             "the struct Options",
             texts.structs.get(&("pass_options".to_string(), "Options".to_string())),
@@ -490,13 +486,17 @@ impl Solver {
 
     /// The row of a probe: number 4 stands for an angle, which the definition numbers 0.
     fn probe(&mut self, r: &[u64]) -> bool {
-        let [angles, points, corners] = [(7, r[0]), (15, r[1]), (39, r[2])].map(|(at, many)| &r[at..at + many as usize]);
+        let [angles, points, corners] =
+            [(7, r[0]), (15, r[1]), (39, r[2])].map(|(at, many)| &r[at..at + many as usize]);
         let at = self.pair(&r[3..5]);
         let found = self.machine.run(
             self.leaves["probe"],
             vec![floats(angles), floats(points), numbers(corners), at],
         );
-        let number = self.machine.run(self.leaves["probe's number"], vec![found.clone()]).nat();
+        let number = self
+            .machine
+            .run(self.leaves["probe's number"], vec![found.clone()])
+            .nat();
         let angle = self
             .machine
             .run(self.leaves["probe's angle"], vec![found, Value::Float(MARK)]);
@@ -531,13 +531,20 @@ impl Solver {
         let angles = floats(&r[47..47 + many(3)]);
         let lengths = [3, 5, 6, 7, 8].map(|k| Value::Nat(r[k]));
         let [angle_count, lengths @ ..] = lengths;
-        let mut arguments = vec![points.clone(), corners.clone(), sizes.clone(), angle_count, double(r[4])];
+        let mut arguments = vec![
+            points.clone(),
+            corners.clone(),
+            sizes.clone(),
+            angle_count,
+            double(r[4]),
+        ];
         arguments.extend(lengths);
         let check = self.machine.run(self.leaves["check"], arguments);
         let triangles = self.machine.run(self.leaves["triangles"], vec![corners]);
-        let refined = self
-            .machine
-            .run(self.leaves["refined"], vec![double(r[4]), angles, points, sizes, triangles]);
+        let refined = self.machine.run(
+            self.leaves["refined"],
+            vec![double(r[4]), angles, points, sizes, triangles],
+        );
         let answer = self
             .machine
             .run(self.leaves["answer"], vec![check.clone(), refined.clone()]);
@@ -552,10 +559,15 @@ impl Solver {
         if told != r[9..15].iter().map(|w| u128::from(*w)).collect::<Vec<_>>() {
             return false;
         }
-        let [points, sizes, triangles, cut] = ["points", "sizes", "triangles", "cut"].map(|name| self.part(&refined, name));
+        let [points, sizes, triangles, cut] =
+            ["points", "sizes", "triangles", "cut"].map(|name| self.part(&refined, name));
         let corners = self.machine.run(self.leaves["corners"], vec![triangles]);
         let ends = self.machine.run(self.leaves["ends"], vec![cut]);
-        let made = if tag == accepted { [3 * r[11], r[11], 3 * r[12], 2 * r[14]] } else { [0; 4] };
+        let made = if tag == accepted {
+            [3 * r[11], r[11], 3 * r[12], 2 * r[14]]
+        } else {
+            [0; 4]
+        };
         let reals = [(points, 70, r[5], made[0]), (sizes, 139, r[6], made[1])];
         let words = [(corners, 162, r[7], made[2]), (ends, 222, r[8], made[3])];
         let as_recorded = |at: usize, lent: u64, made: u64, mark: u64| {
@@ -571,7 +583,10 @@ impl Solver {
             let old = numbers(&vec![MARK_NUMBER; lent as usize]);
             let left = self.machine.run(self.leaves["left"], vec![check.clone(), new, old]);
             let left: Vec<u128> = left.items().iter().map(Value::nat).collect();
-            left == as_recorded(at, lent, made, MARK_NUMBER).into_iter().map(u128::from).collect::<Vec<_>>()
+            left == as_recorded(at, lent, made, MARK_NUMBER)
+                .into_iter()
+                .map(u128::from)
+                .collect::<Vec<_>>()
         })
     }
 

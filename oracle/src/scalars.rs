@@ -218,7 +218,11 @@ fn met_exactly() -> [([f64; 2], [f64; 3], [f64; 2]); 7] {
         (unit, angles, [-5e-13, -4.9994e-13]),
         (unit, angles, [-5e-13, -5.001600000000001e-13]),
         ([small, small], angles, [0.25 * small, 0.25 * small]),
-        ([small, small * (1.0 + f64::EPSILON)], angles, [0.25 * small, 0.25 * small]),
+        (
+            [small, small * (1.0 + f64::EPSILON)],
+            angles,
+            [0.25 * small, 0.25 * small],
+        ),
         (unit, [0.0, FRAC_PI_4, 0.0], [0.5, 0.0]),
     ]
 }
