@@ -215,9 +215,6 @@ below-to e m l z w ts (suc i) h = λ j g. go j g (ts i) (h i (omega arith)) (bel
     go j g (tri a b c) n before (no q) (no r) (yes s) = let f : e + 3 * i + 2 ≡ e + j = omega arith in subst (λ (k : ℕ). getD w k 0 < m) f (low (key c a) (getD w (e + 3 * i + 2) 0) (n .2))
     go j g (tri a b c) n before (no q) (no r) (no s) = before j (omega arith)
 
-pub numbered-below : {c e o N t : ℕ} {w w′ : List ℕ} {m : ℕ} → NumberedTo c e o N t w w′ m → Below m e w′ (3 * t)
-numbered-below {c} {e} {o} {N} {t} {w} {w′} {m} n = below-to e m (sidesIn o N w′ m) (length-pairs (loOf o N w′) (hiOf o N w′) m) w′ (triFrom c w) t (n .numbers)
-
 -- ---- how often each number occurs
 
 occurs-same : (s e : ℕ) (w w′ : List ℕ) (k : ℕ) → ((j : ℕ) → j < k → getD w′ (e + j) 0 ≡ getD w (e + j) 0) → occurs s e w′ k ≡ occurs s e w k

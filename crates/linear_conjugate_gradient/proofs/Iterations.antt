@@ -29,7 +29,7 @@ use Rattle.linear_conjugate_gradient.specs.declared.Reason.the-variants.
 use Rattle.linear_conjugate_gradient.specs.Solve.{State, Iteration, begun, residualDot, preconditioned, multiplied, denominator, reduced, advanced, directed, judged, stepped, iterationOf}
 use Rattle.linear_conjugate_gradient.specs.Work.{read, lay, VectorRoom, SolverRoom, Engine, Begun, Multiplied, Updated, Ended}
 use Rattle.linear_vectors.proofs.Inverses.{length-recipsOf}
-use Rattle.linear_conjugate_gradient.proofs.Lays.{Sized, read-sized, lay-read, get-r, get-p, get-q, get-inverse, get-all, put-x, put-p, put-q, put-inverse, lay-then, get-below, get-matrix}
+use Rattle.linear_conjugate_gradient.proofs.Lays.{Sized, read-sized, lay-read, get-r, get-p, get-inverse, get-all, put-x, put-p, put-q, put-inverse, lay-then, get-below, get-matrix}
 use Rattle.linear_conjugate_gradient.proofs.Passes.{reduced-sized, advanced-sized, directed-sized}
 
 -- ---- begin
@@ -74,22 +74,6 @@ begin-all w h l ok {w₁} {w₂} {w₃} {r} e₁ e₂ e₃ er =
 pub multiplied-sized : (n : ℕ) (m : Matrix) (s : State) → Sized n s → Sized n (multiplied m s)
 unfolding multiplied
 multiplied-sized n m s z = record { x-n = z .x-n; r-n = z .r-n; p-n = z .p-n; q-n = rw length-applied (z .p-n); inverse-n = z .inverse-n }
-
-pub multiply-all : (w : List Float) (h : Hermitian) (l : Vectors) (from to : List ℕ) → SolverRoom (length w) h l → {w₁ : List Float} {r : Float}
-    → w₁ ≡ putC w (l .applied) (applied (matrix w h from to) (regionC w (l .direction) (h .size)))
-    → r ≡ dotOf (regionC w₁ (l .direction) (h .size)) (regionC w₁ (l .applied) (h .size)) .re
-    → Multiplied w w₁ h l from to r
-unfolding multiplied denominator read
-multiply-all w h l from to ok {w₁} {r} e₁ er =
-    let n : ℕ = h .size in
-    let vr : VectorRoom (length w) n l = ok .vector-room in
-    let m : Matrix = matrix w h from to in
-    let s : State = read w n l in
-    let z : Sized n s = read-sized w n l in
-    let t : State = multiplied m s in
-    let y : Sized n t = multiplied-sized n m s z in
-    let f₁ : w₁ ≡ lay w n l t = e₁ ∙ ap (λ u. putC u (l .applied) (t .q)) (lay-read w n l) ∙ put-q w n l vr s z (t .q) (y .q-n) in
-    record { work = f₁; result = er ∙ rw (f₁, get-p w n l vr t y, get-q w n l vr t y) }
 
 -- ---- an iteration after its product
 

@@ -98,9 +98,6 @@ length-plane kind values t u = length-append values _ ∙ omega (arith, length-m
 tab-getD : {A : Type 0} (d : A) (l : List A) {n : ℕ} → length l ≡ n → tab (λ j. getD l j d) n ≡ l
 tab-getD d l {n} e = ext-getD d _ l (length-tab _ n ∙ sym e) (λ i h. getD-tab _ n i d (omega (arith, length-tab (λ j. getD l j d) n)))
 
-pub list-done : (w : List ℕ) (at : ℕ) (l : List ℕ) {w₁ : List ℕ} → w₁ ≡ put w at (tab (λ j. getD l j 0) (length l)) → w₁ ≡ put w at l
-list-done w at l e = e ∙ ap (put w at) (tab-getD 0 l refl)
-
 pub values-done : (w : List Float) (at : ℕ) (kind : Mean) (values : List Float) (t : Table) (u : List ℕ) {w₁ : List Float}
     → w₁ ≡ put w at (tab (λ v. getD (valuePlane kind values (cutsIn t u)) v nan) (length values + t .sides)) → w₁ ≡ put w at (valuePlane kind values (cutsIn t u))
 values-done w at kind values t u e = e ∙ ap (put w at) (tab-getD nan (valuePlane kind values (cutsIn t u)) (length-plane kind values t u))

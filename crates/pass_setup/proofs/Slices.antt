@@ -19,7 +19,6 @@ use Rattle.mesh.specs.Claim.{InRange}
 use Rattle.pass_layout.specs.declared.Layout.{Layout}
 use Rattle.pass_layout.specs.Layout.{Ordered}
 use Rattle.pass_layout.specs.Work.{floorIn}
-use Rattle.pass_layout.proofs.Regions.{floor-stays}
 use Rattle.refusals.specs.declared.Refusal.{Refusal}
 use Rattle.pass_setup.specs.declared.Setup.{Setup}
 use Rattle.pass_setup.specs.declared.Setup.the-variants.{Refused}
@@ -129,7 +128,3 @@ set-up-then {l} {w} {w₁} {w₂} {u} {u₁} {u₂} none k n s = record {
   joined = λ h p. subst (λ (f : Floor). Joined l (length (edgesOf f)) f w₂ u₂) (k .floor) (s .joined (rw (k .floor) h) (rw (k .floor) p));
   stands = λ m e. subst (λ (f : Floor). Stands l m f w₂ u₂) (k .floor) (s .stands m e);
 }
-
--- the floor stays
-pub set-up-floor : {l : Layout} {w w′ : List Float} {u u′ : List ℕ} {r : Setup} → Ordered l (length w) (length u) → SetUp l w u w′ u′ r → floorIn l w′ u′ ≡ floorIn l w u
-set-up-floor {l} {w} {w′} {u} {u′} o s = floor-stays l o w w′ u u′ (s .reals-below) (s .words-below)

@@ -149,10 +149,6 @@ unfolding softened
 softened-more m [] us sys = refl
 softened-more m (t ∷ ts) us sys = softened-more m ts us (softenedBy m t sys)
 
-softened-one : (m : Matrix) (t : Term) (sys : System) → softened m (t ∷ []) sys ≡ softenedBy m t sys
-unfolding softened
-softened-one m t sys = refl
-
 module _ (w : List Float) (h mass : Hermitian) (l : Vectors) (from to : List ℕ) where
   -- no term
   pub softens-none : Softens w w h mass l from to []
