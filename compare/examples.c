@@ -1,6 +1,5 @@
 /* Document 01's table through C: its base floor, and its example of each of the 24 rows, changed from that floor. Then what lengths
- * and answers libgodf.a tells, what a call leaves where it is not to write, the struct call of godf_floor.h, and probes at points that
- * are not finite. Prints how many answers differ. */
+ * and answers libgodf.a tells, what a call leaves where it is not to write, and the struct call of godf_floor.h. Prints how many answers differ. */
 #include "../include/godf_floor.h"
 #include <math.h>
 #include <stdio.h>
@@ -107,34 +106,6 @@ static void refused(const char *what, uint64_t number, uint64_t place, uint64_t 
     uint64_t told = solve();
     godf_report want = {number, place, other, pass, reason, 0, 0};
     expect(what, told == number && memcmp(&report, &want, sizeof want) == 0 && left(number > 18, 0, 0));
-    base();
-}
-
-/* What godf_interp_angle returns for the base floor's triangle, with *angle in `angle`. */
-static double angle;
-static uint32_t probe(const double *alpha, size_t alphas, size_t point_count, size_t corner_count, double x, double y) {
-    angle = MARK;
-    return godf_interp_angle(alpha, alphas, points, point_count, triangles, corner_count, x, y, &angle);
-}
-
-/* NaN and both infinities as x, as y and as both: no angle, after 1, and before angles are counted or looked at. */
-static void probes(void) {
-    static const double some[] = {0.2, NAN, INFINITY, -INFINITY}, alpha[] = {0.25, 0.25, 0.25}, large[] = {0, 131073, 0}, wrong[] = {0, NAN, 0};
-    base();
-    for (int i = 0; i < 16; i++) {
-        const double x = some[i / 4], y = some[i % 4];
-        const int finite = i == 0;
-        expect("a probe", probe(alpha, 3, 9, 3, x, y) == (finite ? 0 : 2) && angle == (finite ? 0.25 : MARK));
-        expect("a probe, points not of whole triples", probe(alpha, 3, 8, 3, x, y) == 1 && angle == MARK);
-        expect("a probe, triangles not of whole triples", probe(alpha, 3, 9, 2, x, y) == 1 && angle == MARK);
-        expect("a probe, an angle too large", probe(large, 3, 9, 3, x, y) == (finite ? 3 : 2) && angle == MARK);
-        expect("a probe, an angle missing", probe(alpha, 2, 9, 3, x, y) == 2 && angle == MARK);
-        expect("a probe, an angle not finite", probe(wrong, 3, 9, 3, x, y) == 2 && angle == MARK);
-    }
-    /* a finite point so far away that its weights are NaN: the angle is 0, as in the Rust */
-    points[0] = points[6] = 1.7e308;
-    points[3] = nextafter(1.7e308, INFINITY);
-    expect("a finite probe whose weights are NaN", probe(alpha, 3, 9, 3, -1.7e308, 0) == 0 && angle == 0 && !signbit(angle));
     base();
 }
 
@@ -250,7 +221,6 @@ int main(void) {
     expect("one block", godf_memory_bytes(3, 1, 0.1) == (3 + 6 + godf_work_f64(3, 1, 0.1)) * sizeof(double) + godf_work_u32(3, 1, 0.1) * sizeof(uint32_t)
         && (char *)(memory.numbers + memory.number_count) == (char *)block + godf_memory_bytes(3, 1, 0.1) && memory.work == block + 9);
     expect("no block over the limits", godf_memory_bytes(16385, 1, 0) == 0 && godf_memory_in(block, 16385, 1, 0).coarse_count == 0);
-    probes();
     expect("the version", godf_version() == GODF_VERSION);
     printf("examples %d compared, %d differ\n", tried, differ);
     return differ != 0;

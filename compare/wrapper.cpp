@@ -84,10 +84,6 @@ int main() {
         thrown = true;
     }
     expect("an angle that is too large", thrown);
-    const double infinity = std::numeric_limits<double>::infinity();
-    for (const double x : {std::nan(""), infinity, -infinity})
-        expect("a point that is not finite", std::isnan(godf::probe({0.25, 0.25, 0.25}, floor, x, 0.2))
-            && std::isnan(godf::probe({0.25, 0.25, 0.25}, floor, 0.2, x)) && std::isnan(godf::probe({131073, 0, 0}, floor, x, x)));
     expect("no angle", std::isnan(godf::probe({0, 0}, floor, 0.2, 0.2)) && godf::probe({0.25, 0.25, 0.25}, floor, 0.2, 0.2) == 0.25);
 
     // the same bits again: after a solve of another floor, with the memory given back, and in another rounding mode, which stays

@@ -34,7 +34,7 @@ extern "C" {
 /* ---- version */
 
 /* 10000 * major + 100 * minor + patch of this header. */
-#define GODF_VERSION 300
+#define GODF_VERSION 200
 
 /* The same number for the archive. Before 1.0 a new minor version may change parameters, so compare once at start:
  *   if (godf_version() != GODF_VERSION) ... the archive does not belong to this header */
@@ -260,11 +260,10 @@ uint32_t godf_answer(const double *coarse, size_t coarse_count, const double *fi
  * angle at each point of the floor.
  *   0  *angle is the angle
  *   1  refused: point_numbers or corners is not a multiple of 3
- *   2  no angle: x or y is not finite, alphas != n, an angle of alpha is not finite, no triangle contains (x, y), or the interpolated
- *      direction vanishes
+ *   2  no angle: alphas != n, an angle of alpha is not finite, no triangle contains (x, y), or the interpolated direction vanishes
  *   3  refused: an angle of alpha is over 131072 in absolute value
- * Checked in this order: lengths, x and y, alphas != n, angles that are not finite, angles over 131072, triangles. *angle is written
- * only where 0 is returned. */
+ * *angle is written only where 0 is returned. A NaN in x or y counts as inside the first triangle that is tested, and the angle is
+ * then 0. */
 uint32_t godf_interp_angle(const double *alpha, size_t alphas, const double *points, size_t point_numbers,
                            const uint32_t *triangles, size_t corners, double x, double y, double *angle);
 

@@ -217,9 +217,8 @@ inline Refined refine(const Floor &floor, const std::vector<double> &angles, dou
     return refined;
 }
 
-// The field's angle at (x, y), in [0, pi/2). NaN if there is none: x or y is not finite, angles.size() != n, an angle is not finite, no
-// triangle contains the point, or the interpolated direction vanishes. Throws std::domain_error if an angle is over 131072 in absolute
-// value, unless x or y is not finite.
+// The field's angle at (x, y), in [0, pi/2). NaN if there is none: no triangle contains the point, angles.size() != n, an angle is not
+// finite, or the interpolated direction vanishes. Throws std::domain_error if an angle is over 131072 in absolute value.
 inline double probe(const std::vector<double> &angles, const Floor &floor, double x, double y) {
     detail::Mode mode;
     double angle = std::numeric_limits<double>::quiet_NaN();

@@ -22,7 +22,7 @@ from numbers import Number
 
 from godf_words import PLACES, REASON_PLACES, REASONS, REFUSALS
 
-VERSION = 300  # of the calls below: 10000 * major + 100 * minor + patch
+VERSION = 200  # of the calls below: 10000 * major + 100 * minor + patch
 
 _SERIES = "%d.%d" % (VERSION // 10000, VERSION // 100 % 100)
 _DOUBLE, _UINT32, _SIZE, _UINT64 = ctypes.c_double, ctypes.c_uint32, ctypes.c_size_t, ctypes.c_uint64
@@ -298,9 +298,8 @@ def _tuples(values, width, count):
 
 
 def probe(angles, points, triangles, x, y):
-    """The angle of the field at (x, y), in [0, pi/2). None if x or y is not finite, len(angles) is not the number of points, an angle is not finite, no
-    triangle contains the point, or the interpolated direction vanishes. Raises ValueError if an angle is over 131,072 in absolute value, unless x or y is
-    not finite."""
+    """The angle of the field at (x, y), in [0, pi/2). None if no triangle contains the point, len(angles) is not the number of points, an angle is not
+    finite, or the interpolated direction vanishes."""
     angles, points, triangles = _doubles(angles), _points(points), _triangles(triangles)
     angle = _DOUBLE()
     with _Mode():

@@ -5,7 +5,6 @@
 """
 
 import ctypes
-import itertools
 import math
 import os
 import re
@@ -218,12 +217,6 @@ class Reading(unittest.TestCase):
         self.assertIsNone(godf.probe([0.25] * 2, TRIANGLE, [(0, 1, 2)], 0.2, 0.2))
         with self.assertRaises(ValueError):
             godf.probe([131073.0] * 3, TRIANGLE, [(0, 1, 2)], 0.2, 0.2)
-
-    def test_probe_at_a_point_that_is_not_finite(self):
-        for x, y in itertools.product([0.2, math.nan, math.inf, -math.inf], repeat=2):
-            if not (math.isfinite(x) and math.isfinite(y)):
-                for angle in [0.25, 131073.0]:
-                    self.assertIsNone(godf.probe([angle] * 3, TRIANGLE, [(0, 1, 2)], x, y))
 
     def test_singularities(self):
         angles, triangles = [0.0, 0.5, 1.0], [(0, 1, 2), (0, 2, 1), (0, 0, 1)]

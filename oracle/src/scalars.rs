@@ -206,106 +206,30 @@ fn small_floor(r: &mut Random) -> (Vec<f64>, Vec<u32>) {
     (points, tris)
 }
 
-/// A probe: angles, points and corners by threes, the question point.
-#[derive(Clone)]
-struct Question {
-    alpha: Vec<f64>,
-    points: Vec<f64>,
-    tris: Vec<u32>,
-    at: [f64; 2],
-}
-
-impl Question {
-    /// Of one triangle, with a corner at the origin and one on either axis.
-    fn of_one([x, y]: [f64; 2], angles: [f64; 3], at: [f64; 2]) -> Self {
-        Self {
-            alpha: angles.to_vec(),
-            points: vec![0.0, 0.0, 0.0, x, 0.0, 0.0, 0.0, y, 0.0],
-            tris: vec![0, 1, 2],
-            at,
-        }
-    }
-
-    fn is_finite(&self) -> bool {
-        self.at.iter().all(|x| x.is_finite())
-    }
-
-    /// Of whole triples: the reference's answer. 2 no angle, 3 an angle too large, 4 the angle.
-    fn asked(&self, of: &Reference) -> (u64, f64) {
-        let fits = self.alpha.len() == self.points.len() / 3 && self.alpha.iter().all(|a| a.is_finite());
-        if fits && self.alpha.iter().any(|a| a.abs() > 131072.0) {
-            return (3, 0.0);
-        }
-        let floor: Vec<[usize; 3]> = triples(&self.tris).iter().map(|t| t.map(|v| v as usize)).collect();
-        let angle = (of.interp_angle)(&self.alpha, &triples(&self.points), &floor, self.at);
-        if angle.is_nan() {
-            (2, 0.0)
-        } else {
-            (4, angle)
-        }
-    }
-}
-
-const UNIT: [f64; 2] = [1.0, 1.0];
-const ANGLES: [f64; 3] = [0.1, 0.2, 0.3];
-
-/// Probes that meet a limit. A weight of exactly -1e-12 and of 1 + 1e-12, and of the next double beyond; a denominator of exactly
-/// MIN_POSITIVE, and of the next; a sum whose real part is 0 and whose imaginary part is not.
-fn met_exactly() -> Vec<Question> {
+/// Probes of one triangle, with a corner at the origin and one on either axis, that meet a limit: the length of both sides, three angles,
+/// the question point. A weight of exactly -1e-12 and of 1 + 1e-12, and of the next double beyond; a denominator of exactly MIN_POSITIVE,
+/// and of the next; a sum whose real part is 0 and whose imaginary part is not.
+fn met_exactly() -> [([f64; 2], [f64; 3], [f64; 2]); 7] {
+    let (unit, angles) = ([1.0, 1.0], [0.1, 0.2, 0.3]);
     let small = 2f64.powi(-511);
     [
-        (UNIT, ANGLES, [0.5, -1e-12]),
-        (UNIT, ANGLES, [0.5, -1.0000000000000002e-12]),
-        (UNIT, ANGLES, [-5e-13, -4.9994e-13]),
-        (UNIT, ANGLES, [-5e-13, -5.001600000000001e-13]),
-        ([small, small], ANGLES, [0.25 * small, 0.25 * small]),
+        (unit, angles, [0.5, -1e-12]),
+        (unit, angles, [0.5, -1.0000000000000002e-12]),
+        (unit, angles, [-5e-13, -4.9994e-13]),
+        (unit, angles, [-5e-13, -5.001600000000001e-13]),
+        ([small, small], angles, [0.25 * small, 0.25 * small]),
         (
             [small, small * (1.0 + f64::EPSILON)],
-            ANGLES,
+            angles,
             [0.25 * small, 0.25 * small],
         ),
-        (UNIT, [0.0, FRAC_PI_4, 0.0], [0.5, 0.0]),
+        (unit, [0.0, FRAC_PI_4, 0.0], [0.5, 0.0]),
     ]
-    .map(|(sides, angles, at)| Question::of_one(sides, angles, at))
-    .to_vec()
 }
 
-/// Probes at points that are not finite: NaN and both infinities as x, as y and as both; some of them with a point that is not whole, a
-/// triangle that is not whole, an angle that is missing, one that is not finite, and one that is too large. Last a finite point so far
-/// away that its weights are NaN.
-fn not_finite() -> Vec<Question> {
-    let some = [0.25, f64::NAN, f64::INFINITY, f64::NEG_INFINITY];
-    let places = some.iter().flat_map(|&x| some.map(|y| [x, y])).skip(1);
-    let mut all: Vec<Question> = places.map(|at| Question::of_one(UNIT, ANGLES, at)).collect();
-    for at in [[f64::NAN, 0.25], [0.25, f64::INFINITY]] {
-        let plain = Question::of_one(UNIT, ANGLES, at);
-        let spoilt: [fn(&mut Question); 5] = [
-            |q| q.points.truncate(8),
-            |q| q.tris.truncate(2),
-            |q| q.alpha.truncate(2),
-            |q| q.alpha[1] = f64::NAN,
-            |q| q.alpha[1] = 131073.0,
-        ];
-        all.extend(spoilt.map(|spoil| {
-            let mut question = plain.clone();
-            spoil(&mut question);
-            question
-        }));
-    }
-    let far = 1.7e308_f64;
-    all.push(Question {
-        points: vec![far, 0.0, 0.0, far.next_up(), 0.0, 0.0, far, 1.0, 0.0],
-        ..Question::of_one(UNIT, ANGLES, [-far, 0.0])
-    });
-    all
-}
-
-/// At a point that is not finite the answer is document 02's "no angle", whatever the reference says. Prints how many such rows there
-/// are, and how many of them had another answer before.
 fn probes(of: &Reference, r: &mut Random, count: usize, folder: &Path) {
     let mut list = List::new(folder, "probe", 64);
-    let known = [met_exactly(), not_finite()].concat();
-    let (mut elsewhere, mut changed) = (0, 0);
+    let known = met_exactly();
     for k in 0..count {
         let (mut points, mut tris) = small_floor(r);
         let mut alpha: Vec<f64> = (0..points.len() / 3).map(|_| field_angle(r)).collect();
@@ -327,7 +251,7 @@ fn probes(of: &Reference, r: &mut Random, count: usize, folder: &Path) {
                 points.get(3 * v + 1).copied().unwrap_or(0.0),
             ]
         };
-        let at = match r.below(8) {
+        let mut at = match r.below(8) {
             0 => corner(r.below(3), &points, &tris),
             1 => {
                 let (a, b) = (corner(0, &points, &tris), corner(1, &points, &tris));
@@ -349,43 +273,44 @@ fn probes(of: &Reference, r: &mut Random, count: usize, folder: &Path) {
                 ]
             }
         };
-        let drawn = Question {
-            alpha,
-            points,
-            tris,
-            at,
-        };
-        let q = known.get(k).unwrap_or(&drawn);
+        if let Some(([x, y], angles, point)) = known.get(k) {
+            points = vec![0.0, 0.0, 0.0, *x, 0.0, 0.0, 0.0, *y, 0.0];
+            (tris, alpha, at) = (vec![0, 1, 2], angles.to_vec(), *point);
+        }
         // 1 not of whole triples, 2 no angle, 3 angle too large, 4 the angle
-        let whole = q.points.len() % 3 == 0 && q.tris.len() % 3 == 0;
-        elsewhere += usize::from(!q.is_finite());
+        let whole = points.len() % 3 == 0 && tris.len() % 3 == 0;
         let (kind, angle) = if !whole {
             (1, 0.0)
-        } else if !q.is_finite() {
-            changed += usize::from(q.asked(of).0 != 2);
-            (2, 0.0)
         } else {
-            q.asked(of)
+            let floor: Vec<[usize; 3]> = triples(&tris).iter().map(|t| t.map(|v| v as usize)).collect();
+            let fits = alpha.len() == points.len() / 3 && alpha.iter().all(|a| a.is_finite());
+            if fits && alpha.iter().any(|a| a.abs() > 131072.0) {
+                (3, 0.0)
+            } else {
+                let a = (of.interp_angle)(&alpha, &triples(&points), &floor, at);
+                if a.is_nan() {
+                    (2, 0.0)
+                } else {
+                    (4, a)
+                }
+            }
         };
         let mut row = vec![
-            q.alpha.len() as u64,
-            q.points.len() as u64,
-            q.tris.len() as u64,
-            word(q.at[0]),
-            word(q.at[1]),
+            alpha.len() as u64,
+            points.len() as u64,
+            tris.len() as u64,
+            word(at[0]),
+            word(at[1]),
             kind,
             word(angle),
         ];
-        row.extend(words(&q.alpha));
+        row.extend(words(&alpha));
         row.resize(15, 0);
-        row.extend(words(&q.points));
+        row.extend(words(&points));
         row.resize(39, 0);
-        row.extend(q.tris.iter().map(|&v| u64::from(v)));
+        row.extend(tris.iter().map(|&v| u64::from(v)));
         list.row(&row);
     }
-    println!(
-        "probe: {elsewhere} of {count} at points that are not finite; {changed} of them had another answer before Q-1"
-    );
 }
 
 fn singularities(of: &Reference, r: &mut Random, count: usize, folder: &Path) {

@@ -7,7 +7,7 @@ ghost use Rattle.godf.specs.Answers.{Probed, CountedIn};
 use probe::Probe;
 use singularities::Singularities;
 
-// 0: `angle` is the angle at (x, y); 1: a length is not a multiple of 3; 2: no angle, as where x or y is not finite; 3: an angle of `alpha` is over 131,072 in absolute value.
+// 0: `angle` is the angle at (x, y); 1: a length is not a multiple of 3; 2: no angle; 3: an angle of `alpha` is over 131,072 in absolute value.
 #[unsafe(no_mangle)]
 pub extern "C" fn godf_interp_angle(
     alpha: &[f64],

@@ -2,8 +2,8 @@
 ghost use Rattle.std.specs.Prelude.{◌≡◌};
 ghost use Rattle.godf.specs.Version.{VERSION};
 
-// 0.3.0: 10,000 times the major number, 100 times the minor one, and the patch.
-const VERSION: u32 = 300;
+// 0.2.0: 10,000 times the major number, 100 times the minor one, and the patch.
+const VERSION: u32 = 200;
 
 // The version of this archive: GODF_VERSION of the header that belongs to it.
 #[unsafe(no_mangle)]

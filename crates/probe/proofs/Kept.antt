@@ -1,6 +1,6 @@
 -- What the probe's loops keep: a test of every angle speaks of those still to come (`every-`), and the search of the triangles still to come (`found-`).
 use mathlib.Core.Path.{◌≡◌, refl, sym, ap, ◌∙◌}
-use Prim.Native.Nat.{ℕ, suc, ◌+◌, ◌-◌, ◌*◌, ◌/◌, ◌^◌, ◌≤◌, ◌<◌}
+use Prim.Native.Nat.{ℕ, suc, ◌+◌, ◌-◌, ◌*◌, ◌/◌, ◌%◌, ◌^◌, ◌≤◌, ◌<◌}
 use native.Mathlib.Numerals.{add-one}
 use native.Mathlib.Omega.{arith}
 use mathlib.Core.Bool.{Bool, true, false, not, ◌&&◌, ◌||◌}
@@ -14,7 +14,7 @@ use Rattle.float.proofs.Within.{and_both, le-or, below-zero}
 use Rattle.probe.specs.declared.Visit.{Visit}
 use Rattle.probe.specs.declared.Visit.TheVariants.{Passed, Vanished, Found}
 use Rattle.probe.specs.declared.Probe.TheVariants.{NoAngle, Angle}
-use Rattle.probe.specs.Probe.{every, finite, small, taken, visit_at, decided, found_from, probe_at}
+use Rattle.probe.specs.Probe.{every, finite, small, taken, visit_at, decided, found_from, probe_of}
 use Rattle.plane.specs.declared.Pair.{Pair}
 use borrow.Author.Tests.{eq-eqb, ne_eqb, le-ltb, ltb-true, ltb-false}
 
@@ -105,7 +105,7 @@ too_large xs h f = second (every finite xs) (every small xs) f (sym (every-taken
     second : (a b : Bool) → a ≡ true → a && b ≡ false → b ≡ false
     second a b e g = ap (λ (t : Bool). t && b) (sym e) ∙ g
 
--- where every test of the angles passes, the answer is that of the search
-pub probe-search : (alpha pts : List Float) (tris : List ℕ) (at : Pair) → length alpha ≡ length pts / 3 → every finite alpha ≡ true → every small alpha ≡ true → found_from (visit_at alpha pts tris at) 0 (length tris / 3) ≡ probe_at alpha pts tris at
-unfolding probe_at
-probe-search alpha pts tris at n f s = rw (eq-eqb (length alpha) (length pts / 3) n, f, s)
+-- where every test passes, the answer is that of the search
+pub probe-search : (alpha pts : List Float) (tris : List ℕ) (at : Pair) → length pts % 3 ≡ 0 → length tris % 3 ≡ 0 → length alpha ≡ length pts / 3 → every finite alpha ≡ true → every small alpha ≡ true → found_from (visit_at alpha pts tris at) 0 (length tris / 3) ≡ probe_of alpha pts tris at
+unfolding probe_of
+probe-search alpha pts tris at p t n f s = rw (eq-eqb (length pts % 3) 0 p, eq-eqb (length tris % 3) 0 t, eq-eqb (length alpha) (length pts / 3) n, f, s)

@@ -1,4 +1,3 @@
 mod Kept
 mod Usable
 mod Range
-mod Point

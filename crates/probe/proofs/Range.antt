@@ -1,5 +1,5 @@
 -- An angle that the probe answers lies in [0, FRAC_PI_2): it is a cross angle, whichever triangle it came from. Assumes nothing.
-use Prim.Native.Nat.{ℕ, zero, suc, ◌+◌, ◌*◌, ◌/◌}
+use Prim.Native.Nat.{ℕ, zero, suc, ◌+◌, ◌*◌, ◌/◌, ◌%◌}
 use mathlib.Core.Bool.{Bool, true, false, cond, ◌&&◌}
 use mathlib.Core.List.{List}
 use lib.Dec.{ltb, eqb}
@@ -18,7 +18,7 @@ use Rattle.probe.specs.declared.Visit.TheVariants.{Passed, Vanished, Found}
 use Rattle.probe.specs.declared.Probe.{Probe}
 use Rattle.probe.specs.declared.Probe.TheVariants.{NotTriples, NoAngle, TooLarge}
 use Rattle.probe.specs.Weights.{usable, weighed_at, interpolated, answered}
-use Rattle.probe.specs.Probe.{every, finite, small, corner_at, told, visited, visit_of, visit_at, decided, found_from, are_triples, is_point, probe_at, probe_of, AngleRange}
+use Rattle.probe.specs.Probe.{every, finite, small, corner_at, told, visited, visit_of, visit_at, decided, found_from, probe_of, AngleRange}
 
 -- what a triangle says
 abbrev Cross : Visit → Type 0
@@ -65,23 +65,15 @@ unfolding found_from
 found-range v h t zero = tt
 found-range v h t (suc k) = decided-range (v t) (found_from v (suc t) k) (h t) (found-range v h (suc t) k)
 
-at-range : (alpha pts : List Float) (tris : List ℕ) (at : Pair) → AngleRange (probe_at alpha pts tris at)
-unfolding probe_at
-at-range alpha pts tris at = go (eqb (length alpha) (length pts / 3) && every finite alpha) (every small alpha)
+pub probe-range : (alpha pts : List Float) (tris : List ℕ) (at : Pair) → AngleRange (probe_of alpha pts tris at)
+unfolding probe_of
+probe-range alpha pts tris at = go (eqb (length pts % 3) 0 && eqb (length tris % 3) 0) (eqb (length alpha) (length pts / 3) && every finite alpha) (every small alpha)
   where
     each : (t : ℕ) → Cross (visit_at alpha pts tris at t)
     each t = unfold visit_at in visit-cross alpha pts at (get_or tris (3 * t) 0) (get_or tris (3 * t + 1) 0) (get_or tris (3 * t + 2) 0)
 
-    go : (a b : Bool) → AngleRange (cond a (cond b (found_from (visit_at alpha pts tris at) 0 (length tris / 3)) TooLarge) NoAngle)
-    go true true = found-range (visit_at alpha pts tris at) each 0 (length tris / 3)
-    go true false = tt
-    go false b = tt
-
-pub probe-range : (alpha pts : List Float) (tris : List ℕ) (at : Pair) → AngleRange (probe_of alpha pts tris at)
-unfolding probe_of
-probe-range alpha pts tris at = go (are_triples pts tris) (is_point at)
-  where
-    go : (a b : Bool) → AngleRange (cond a (cond b (probe_at alpha pts tris at) NoAngle) NotTriples)
-    go true true = at-range alpha pts tris at
-    go true false = tt
-    go false b = tt
+    go : (a b c : Bool) → AngleRange (cond a (cond b (cond c (found_from (visit_at alpha pts tris at) 0 (length tris / 3)) TooLarge) NoAngle) NotTriples)
+    go true true true = found-range (visit_at alpha pts tris at) each 0 (length tris / 3)
+    go true true false = tt
+    go true false c = tt
+    go false b c = tt

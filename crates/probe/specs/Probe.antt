@@ -1,6 +1,5 @@
--- interp_angle over slices: angles by point, coordinates by threes, corners by threes. The tests come in the order of document 01 and of document 02's Q-1:
--- whole triples, a finite question point, as many angles as points, all angles finite, none above 131,072 in size; then the triangles in list order.
--- Definitions only.
+-- interp_angle over slices: angles by point, coordinates by threes, corners by threes. The tests come in document 01's order: whole triples,
+-- as many angles as points, all angles finite, none above 131,072 in size; then the triangles in list order. Definitions only.
 use Rattle.std.specs.Prelude.{ℕ, zero, suc, ◌+◌, ◌*◌, ◌/◌, ◌%◌, Bool, true, not, cond, ◌&&◌, List, [], ◌∷◌, ltb, eqb, get_or, length, Float}
 use Rattle.std.specs.Float.{nan}
 use Rattle.std.specs.Float.Ieee.{lt, le, neg}
@@ -69,24 +68,13 @@ unfoldable pub found_from : (ℕ → Visit) → ℕ → ℕ → Probe
 found_from v t zero = NoAngle
 found_from v t (suc k) = decided (v t) (found_from v (suc t) k)
 
--- points and corners are whole triples
-abbrev pub are_triples : List Float → List ℕ → Bool
-are_triples pts tris = eqb (length pts % 3) 0 && eqb (length tris % 3) 0
-
--- a question point has finite coordinates
-abbrev pub is_point : Pair → Bool
-is_point at = is_finite at.x && is_finite at.y
-
--- over whole triples, at a finite point: the Rust's interp_angle, but for angles above 131,072 in size
-unfoldable pub probe_at : List Float → List Float → List ℕ → Pair → Probe
-probe_at alpha pts tris at =
-    cond (eqb (length alpha) (length pts / 3) && every finite alpha)
-    (cond (every small alpha) (found_from (visit_at alpha pts tris at) 0 (length tris / 3)) TooLarge)
-    NoAngle
-
--- number 1 first; then a question point that is not finite gets "no angle", whatever the angles are
 unfoldable pub probe_of : List Float → List Float → List ℕ → Pair → Probe
-probe_of alpha pts tris at = cond (are_triples pts tris) (cond (is_point at) (probe_at alpha pts tris at) NoAngle) NotTriples
+probe_of alpha pts tris at =
+    cond (eqb (length pts % 3) 0 && eqb (length tris % 3) 0)
+    (cond (eqb (length alpha) (length pts / 3) && every finite alpha)
+    (cond (every small alpha) (found_from (visit_at alpha pts tris at) 0 (length tris / 3)) TooLarge)
+    NoAngle)
+    NotTriples
 
 -- an angle that is answered lies in [0, FRAC_PI_2)
 abbrev pub AngleRange : Probe → Type 0

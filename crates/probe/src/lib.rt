@@ -1,7 +1,7 @@
 // The probe: the cross angle of a field at a question point, interpolated in the first triangle in list order that holds it.
 ghost use Rattle.std.specs.Prelude.{◌≡◌, ◌+◌, ◌*◌, ◌<◌, ◌≤◌, length};
 ghost use Rattle.probe.specs.Weights.{usable, within, weight, weighed, interpolated, answered};
-ghost use Rattle.probe.specs.Probe.{every, finite, taken, is_point, corner_at, visited_by, visit_of, visit_at, found_from, probe_at, probe_of, AngleRange};
+ghost use Rattle.probe.specs.Probe.{every, finite, taken, corner_at, visited_by, visit_of, visit_at, found_from, probe_of, AngleRange};
 
 use complex::Complex;
 use plane::Pair;
@@ -226,33 +226,7 @@ fn all_taken(alpha: &[f64]) -> bool
     true
 }
 
-// The tests of the angles, then the search.
-fn probe_at(alpha: &[f64], points: &[f64], tris: &[u32], at: Pair) -> Probe
-    ensures { result ≡ probe_at alpha.now points.now tris.now at }
-{
-    if alpha.len() != points.len() / 3 {
-        return Probe::NoAngle;
-    }
-    if all_taken(alpha) {
-        return search(alpha, points, tris, at, tris.len() / 3);
-    }
-    if all_finite(alpha) {
-        return Probe::TooLarge;
-    }
-    Probe::NoAngle
-}
-
-// Whether both coordinates are finite.
-fn is_point(at: Pair) -> bool
-    ensures { result ≡ is_point at }
-{
-    if float::is_finite(at.x) {
-        return float::is_finite(at.y);
-    }
-    false
-}
-
-// The angle at the question point (x, y). A point with x or y not finite has none.
+// The question point (x, y) is taken as given: a NaN passes every weight test, and yields 0 where a triangle gets as far.
 pub fn interp_angle(alpha: &[f64], points: &[f64], tris: &[u32], x: f64, y: f64) -> Probe
     ensures value { result ≡ probe_of alpha.now points.now tris.now (record { x = x; y = y }) }
     ensures range { AngleRange result }
@@ -263,10 +237,14 @@ pub fn interp_angle(alpha: &[f64], points: &[f64], tris: &[u32], x: f64, y: f64)
     if tris.len() % 3 != 0 {
         return Probe::NotTriples;
     }
-    let at = Pair { x, y };
-    if is_point(at) {
-        probe_at(alpha, points, tris, at)
-    } else {
-        Probe::NoAngle
+    if alpha.len() != points.len() / 3 {
+        return Probe::NoAngle;
     }
+    if all_taken(alpha) {
+        return search(alpha, points, tris, Pair { x, y }, tris.len() / 3);
+    }
+    if all_finite(alpha) {
+        return Probe::TooLarge;
+    }
+    Probe::NoAngle
 }

@@ -285,9 +285,6 @@ fn probe(angles: &[f64], floor: Floor, at: [f64; 2]) -> Result<(), Stop> {
     let [x, y] = at;
     match godf::probe(angles, floor.points, floor.triangles, at) {
         Probe::Angle(angle) => Ok(files::print(&format!("{angle:?}\n"))?),
-        Probe::NoAngle if !(x.is_finite() && y.is_finite()) => {
-            Err(Stop::Refused(format!("no angle at {x} {y}: the point is not finite")))
-        }
         Probe::NoAngle => Err(Stop::Refused(format!(
             "no angle at {x} {y}: no triangle contains the point, the field vanishes there, or an angle is not finite"
         ))),

@@ -292,11 +292,6 @@ fn refusals_are_status_1_with_their_row_and_line() {
         assert_eq!(answer.out, "");
     }
     folder.run_on("probe - 9 9", SQUARE).expect(1, "no angle at 9 9");
-    for (point, shown) in [("nan 0", "NaN 0"), ("0 -inf", "0 -inf"), ("inf nan", "inf NaN")] {
-        let answer = folder.run_on(&format!("probe - {point}"), TURNING);
-        answer.expect(1, &format!("no angle at {shown}: the point is not finite"));
-        assert_eq!(answer.out, "");
-    }
     folder
         .run("demo disk --points 20000 --svg big.svg")
         .expect(1, "(refused by row 1)");

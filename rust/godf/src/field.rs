@@ -8,10 +8,9 @@ use crate::{ffi, mode::in_default_mode};
 pub enum Probe {
     /// The cross angle in radians, in [0, pi/2).
     Angle(f64),
-    /// A coordinate of the place is not finite, `angles.len() != points.len()`, an angle is not finite, no triangle contains the place, or
-    /// the direction vanishes there.
+    /// `angles.len() != points.len()`, an angle is not finite, no triangle contains the place, or the direction vanishes there.
     NoAngle,
-    /// The place is finite, and the absolute value of an angle is above 131,072.
+    /// The absolute value of an angle is above 131,072.
     TooLarge,
 }
 
@@ -22,7 +21,6 @@ pub enum Probe {
 /// let points = [[0.0, 0.0, 0.0], [1.0, 0.0, 0.0], [0.0, 1.0, 0.0]];
 /// assert_eq!(probe(&[0.25; 3], &points, &[[0, 1, 2]], [0.2, 0.2]), Probe::Angle(0.25));
 /// assert_eq!(probe(&[0.25; 3], &points, &[[0, 1, 2]], [5.0, 5.0]), Probe::NoAngle);
-/// assert_eq!(probe(&[0.25; 3], &points, &[[0, 1, 2]], [f64::NAN, 0.2]), Probe::NoAngle);
 /// ```
 pub fn probe(angles: &[f64], points: &[[f64; 3]], triangles: &[[u32; 3]], at: [f64; 2]) -> Probe {
     let points = points.as_flattened();

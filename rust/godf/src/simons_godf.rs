@@ -6,8 +6,7 @@
 //!   `BoundaryReport`, `AnisotropyReport` and `AdaptiveReport`;
 //! - errors are the texts of a [`Refusal`](crate::Refusal), not the reference's;
 //! - floors over 16,384 points or 32,768 triangles are refused, and so are anisotropy and guidance angles above 131,072 in absolute value;
-//! - [`interp_angle`] also returns a NaN if the absolute value of an angle is above 131,072, or if a coordinate of `p` is not finite, where
-//!   the reference can return 0.
+//! - [`interp_angle`] also returns a NaN if the absolute value of an angle is above 131,072.
 //!
 //! Each thread keeps the memory of its largest solve for the next one, 117 MB at most, until it ends or calls [`release_memory`]. New code
 //! can use a [`Workspace`] of its own.
@@ -226,8 +225,7 @@ pub fn interp_angle(alpha: &[f64], points: &[[f64; 3]], tris: &[[usize; 3]], p: 
             .iter()
             .fold(true, |all, angle| all & (angle.abs() <= LARGEST_ANGLE))
     };
-    let finite = p[0].is_finite() && p[1].is_finite();
-    if !finite || alpha.len() != points.len() || !alpha.chunks(CHUNK).all(usable) {
+    if alpha.len() != points.len() || !alpha.chunks(CHUNK).all(usable) {
         return f64::NAN;
     }
     let first = in_default_mode(|| tris.iter().position(|t| !is_skipped(points, t, &p)));

@@ -3,7 +3,7 @@
 use crate::ffi;
 
 /// The version of libgodf.a that this crate was written for: `GODF_VERSION` in include/godf.h, 10000 major + 100 minor + patch.
-pub const VERSION: u32 = 300;
+pub const VERSION: u32 = 200;
 
 /// The version of the libgodf.a that is linked. It is [`VERSION`] unless an archive of another version was put in its place.
 pub fn library_version() -> u32 {

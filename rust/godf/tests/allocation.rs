@@ -177,7 +177,7 @@ fn functions_of_the_reference() {
     let (second, asked) = counted(solve);
     assert_eq!((second, asked), (first, 1));
     let inside = call.points[call.points.len() / 2];
-    for at in [[inside[0], inside[1]], [1e9, 0.0], [f64::NAN, inside[1]]] {
+    for at in [[inside[0], inside[1]], [1e9, 0.0]] {
         let (_, asked) = counted(|| simons_godf::interp_angle(&angles, &call.points, &corners, at));
         assert_eq!(asked, 0);
     }
