@@ -1,5 +1,7 @@
 // fdlibm 5.3's atan and atan2. Each function is one part of the C and equal to its definition in specs/, operation by
 // operation (docs/FDLIBM.md).
+#![tactic(auto)]
+
 ghost use Rattle.std.specs.Prelude.{◌≡◌, ◌+◌, ◌*◌};
 ghost use Rattle.arctangent.specs.Arc.{is_nan, is_zero, is_one, atan_tail, atan_near, atan_size, atan_of, quadrant, switch, atan_ratio, in_quadrant, at_infinity, upright, atan2_of};
 

@@ -1,5 +1,7 @@
 // Complex numbers by value, as in the Rust, and the two functions that turn them to angles:
 // `cross_angle`, the angle of a cross in [0, FRAC_PI_2), and `wrap_to_pi`, an angle in (-PI, PI]. Module guidance has the angle at a midpoint.
+#![tactic(auto)]
+
 pub mod guidance;
 
 ghost use Rattle.std.specs.Prelude.{◌≡◌};
@@ -12,7 +14,7 @@ pub const FIELD_SYMMETRY: f64 = 4.0;
 // The size of the largest angle that is taken.
 pub const LARGEST_ANGLE: f64 = 131072.0;
 
-#[derive(Drop)]
+#[derive(Clone, Copy)]
 pub struct Complex {
     pub re: f64,
     pub im: f64,

@@ -1,5 +1,5 @@
 -- The ends of a side, and how often a list of triangles lists one. Definitions only.
-use Rattle.std.specs.Prelude.{ℕ, ◌-◌, ◌+◌, List, [], ◌∷◌, ◌++◌}
+use Rattle.std.specs.Prelude.{ℕ, ◌+◌, List, [], ◌∷◌, ◌++◌}
 use Rattle.mesh.specs.Mesh.{Side, side, Tri, same, sides, one}
 
 -- a side's lower and its upper end

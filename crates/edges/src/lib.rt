@@ -1,6 +1,8 @@
 // Sides of triangles, numbered in the order first met, lower end first: the Rust's HashMap of sides, and its list of them, in lent numbers.
 // The table stands in one slice of numbers: its buckets, then four numbers for each of its sides (specs/Table.antt). No numbers are mixed to choose a bucket:
 // the sides of a bucket, which share their lower end, stand in a tree by the digits of their upper end. Why searches are short is argued in docs/DECISIONS.md.
+#![tactic(auto)]
+
 pub mod numbers;
 pub mod two_slices;
 
@@ -10,14 +12,14 @@ ghost use Rattle.mesh.specs.Mesh.{side, key, tri, index_in};
 ghost use Rattle.edges.specs.Table.{slot_of, path_of, sides_in, row_of, end_of, Held, WalkedIn, Met, MetTri, one_more};
 
 // Where a table stands, of how many buckets, and how many sides it has.
-#[derive(Drop)]
+#[derive(Clone, Copy)]
 pub struct Table {
     pub base: usize,
     pub buckets: usize,
     pub sides: usize,
 }
 
-#[derive(Drop)]
+#[derive(Clone, Copy)]
 pub struct Meeting {
     // How many sides there are now.
     pub sides: usize,
@@ -25,7 +27,7 @@ pub struct Meeting {
     pub number: usize,
 }
 
-#[derive(Drop)]
+#[derive(Clone, Copy)]
 pub struct Meetings {
     pub sides: usize,
     // The numbers of the sides a b, b c and c a.
@@ -79,7 +81,7 @@ pub fn clear(w: &mut [u32], base: usize, n: usize)
 }
 
 // Where the walk to a side ends: one more than the side's number, or 0 and the empty position.
-#[derive(Drop)]
+#[derive(Clone, Copy)]
 struct Spot {
     at: usize,
     position: usize,

@@ -16,7 +16,7 @@ pub fn put_three(w: &mut [u32], at: usize, p: u32, q: u32, r: u32)
 }
 
 // How many triangles there are, where their corners stand and where the numbers of their sides go, three each; and the table behind both.
-#[derive(Drop)]
+#[derive(Clone, Copy)]
 pub struct NumberingPlan {
     pub triangles: usize,
     pub corners: usize,

@@ -1,12 +1,12 @@
 -- Values above zero: when a value is not positive, and sums and halves of positive doubles. Assumes nothing.
-use Rattle.std.proofs.Common.{◌≡◌, ℕ, zero, suc, ◌+◌, ◌*◌, ◌%◌, ◌^◌, ◌<◌, ◌≤◌, Bool, true, false, cond, not, ◌&&◌, ◌||◌, T, eqb, ltb, leb, ℤ, negsuc, sym, refl, ap, ◌∙◌, subst, le_trans, le_of_eq, mul-le-mul_right, mul_assoc, mul_comm, add-mul, mul-pos, one-mul, mul_right_comm, mul_left_comm, arith, ltb→lt, lt→ltb, pow_pos, le-ltb, ne_eqb, leb-true}
+use Rattle.std.proofs.Common.{◌≡◌, ℕ, zero, suc, ◌+◌, ◌*◌, ◌^◌, ◌<◌, ◌≤◌, true, false, not, T, ltb, ℤ, negsuc, sym, refl, ◌∙◌, subst, le_trans, le_of_eq, mul-le-mul_right, mul_assoc, mul_comm, add-mul, mul-pos, one-mul, mul_left_comm, arith, ltb→lt, lt→ltb, pow_pos, le-ltb, ne_eqb}
 use lib.Ieee.{Float, nan, inf, fin, binary64, up, down, round, sum, add, mul, le, of_bits, fits}
-use lib.Ieee.Fits.{up_pos, down_pos, and_l, and_r}
+use lib.Ieee.Fits.{up_pos, down_pos}
 use lib.Ieee.Bits.{is_true}
 use lib.Ieee.Order.{round_mono}
 use lib.Ieee.Positive.{positive, above, above_of_le}
 use Rattle.float.specs.Double.{HALF, lit, is_finite, not_positive, ◌⊕◌, ◌⊗◌}
-use Rattle.float.proofs.Sign.{Plain, plain-round, flat-le}
+use Rattle.float.proofs.Sign.{Plain, flat-le}
 use Rattle.float.proofs.Rem.{held_any}
 use Rattle.float.proofs.Own.{round-own}
 use Rattle.float.proofs.Within.{below-zero, or-le}

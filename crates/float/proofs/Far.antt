@@ -1,16 +1,16 @@
 -- Two different doubles of which one is very large lie far apart: the square of their difference is infinite. And the middle of two doubles that are not
 -- so large is finite. Assumes nothing.
-use Rattle.std.proofs.Common.{◌≡◌, ℕ, zero, suc, ◌+◌, ◌-◌, ◌*◌, ◌^◌, ◌<◌, ◌≤◌, Bool, true, false, cond, not, ◌&&◌, ◌||◌, T, eqb, ltb, leb, ◌⊎◌, ℤ, pos, negsuc, sym, refl, ap, ◌∙◌, subst, inl, inr, le_trans, le_of_eq, lt_of_lt_of_le, mul-le-mul_right, mul_assoc, mul_comm, add-mul, mul-le-mul, add_comm, mul-pos, one-mul, mul-one, mul_right_comm, mul_left_comm, arith, eqb→eq, ltb→lt, lt→ltb, leb→le, pow_pos, pow_mono, pow-add, ltb-false, ltb-true, leb-false, leb-true}
+use Rattle.std.proofs.Common.{◌≡◌, ℕ, suc, ◌+◌, ◌-◌, ◌*◌, ◌^◌, ◌<◌, ◌≤◌, Bool, true, false, cond, not, ◌&&◌, T, eqb, ltb, leb, ◌⊎◌, ℤ, pos, negsuc, sym, refl, ap, ◌∙◌, subst, inl, inr, le_trans, le_of_eq, mul-le-mul_right, mul_assoc, mul_comm, add-mul, mul-le-mul, add_comm, mul-pos, one-mul, mul-one, mul_left_comm, arith, eqb→eq, leb→le, pow_pos, pow_mono, pow-add, ltb-false, ltb-true, leb-false, leb-true}
 use native.Mathlib.Nat.{mul-mul-mul_comm}
 use native.Mathlib.Decide.{ℕ_discrete}
 use mathlib.Core.Bool.{beq}
-use lib.Ieee.{Float, nan, inf, fin, binary64, up, down, round, sum, add, sub, mul, neg, le, of_bits, fits, unlike}
-use lib.Ieee.Fits.{up_pos, down_pos, and_r}
+use lib.Ieee.{Float, nan, inf, fin, binary64, up, down, round, sum, sub, mul, neg, le, of_bits, fits, unlike}
+use lib.Ieee.Fits.{down_pos, and_r}
 use lib.Ieee.Bits.{is_true}
 use lib.Ieee.Order.{round_mono}
-use Rattle.float.specs.Double.{HALF, lit, is_finite, ◌⊕◌, ◌⊖◌, ◌⊗◌}
-use Rattle.float.proofs.Sign.{Plain, plain-round, round-neg, Number}
-use Rattle.float.proofs.Rem.{Held, held_any}
+use Rattle.float.specs.Double.{HALF, is_finite, ◌⊕◌, ◌⊖◌, ◌⊗◌}
+use Rattle.float.proofs.Sign.{round-neg}
+use Rattle.float.proofs.Rem.{held_any}
 use Rattle.float.proofs.Own.{same-value, round-own}
 use Rattle.float.proofs.Within.{Within, add-within, round-within, or-le}
 

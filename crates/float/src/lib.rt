@@ -1,5 +1,7 @@
 // Doubles: bit patterns, Rust's abs, max, min, recip, rem_euclid, round and is_finite, and casts, each total and equal to a
 // definition of specs/Double.antt. None has a `requires`: every pattern of 64 bits is an input.
+#![tactic(auto)]
+
 ghost use Rattle.std.specs.Prelude.{◌≡◌, pos, from_bits, to_bits};
 ghost use Rattle.std.specs.Float.{binary64};
 ghost use Rattle.std.specs.Float.Ieee.{to_unsigned, to_signed, of_int};

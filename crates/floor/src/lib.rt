@@ -1,4 +1,6 @@
 // What is wrong with a floor, by document 01's table: rows 1 and 3 to 8, tested in table order, the lowest index first.
+#![tactic(auto)]
+
 ghost use Rattle.std.specs.Prelude.{◌≡◌, ◌+◌, ◌*◌, ◌/◌, ◌≤◌, length, get_or};
 ghost use Rattle.std.specs.Float.{nan};
 ghost use Rattle.refusals.specs.Refusal.{row_at};
@@ -6,7 +8,7 @@ ghost use Rattle.floor.specs.Checks.{lowest, well_formed, bad_point, bad_size, b
 
 use refusals::Refusal;
 
-#[derive(Drop)]
+#[derive(Clone, Copy)]
 pub enum Check {
     Sound,
     Refused(Refusal),

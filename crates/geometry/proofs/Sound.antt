@@ -8,7 +8,7 @@ use mathlib.Core.Logic.{◌⊎◌, inl, inr, ◌≢◌}
 use mathlib.Core.Bool.{Bool, true, false, not, cond, ◌||◌}
 use lib.Dec.{T, lt→ltb}
 use lib.IntN.{ℤ}
-use lib.Ieee.{Float, nan, inf, fin, binary64, up, down, round, add, sub, mul, lt, le, eq, ne, of_bits, fits}
+use lib.Ieee.{Float, nan, inf, fin, binary64, up, down, add, mul, lt, le, eq, ne, of_bits, fits}
 use lib.Ieee.Positive.{positive}
 use Rattle.float.specs.Double.{lit, mag, is_finite, max_of, ◌⊕◌, ◌⊖◌, ◌⊗◌}
 use Rattle.float.proofs.Sign.{Flat, Plain, Number, plain-round, flat-le, mul-either, sub_number, square-plain}

@@ -1,5 +1,7 @@
 // The geometry of one triangle and one edge of a pass: corners put counter-clockwise, area, size gradient, transport
 // along an edge; and the weight of an anisotropic metric. Positions are pairs x, y: no z is ever read.
+#![tactic(auto)]
+
 ghost use Rattle.std.specs.Prelude.{◌≡◌};
 ghost use Rattle.geometry.specs.Triangle.{side2, longest_of, placed_of, geometry_of, hat_gradient, gradient_of};
 ghost use Rattle.geometry.specs.Edge.{transport_angle, transport_of, alignment_weight};
@@ -8,7 +10,7 @@ use complex::Complex;
 use plane::Pair;
 
 // A triangle whose corners i, j, k at p, q, r turn counter-clockwise.
-#[derive(Drop)]
+#[derive(Clone, Copy)]
 pub struct TriangleGeometry {
     pub i: usize,
     pub j: usize,
@@ -20,7 +22,7 @@ pub struct TriangleGeometry {
 }
 
 // The geometry, or refusal 19 with the triangle's number.
-#[derive(Drop)]
+#[derive(Clone, Copy)]
 pub enum Geometry {
     Triangle(TriangleGeometry),
     Degenerate(usize),
@@ -107,7 +109,7 @@ pub fn triangle_gradient(positions: [Pair; 3], sigma: [f64; 3], area: f64) -> Pa
 }
 
 // One end of an edge: its vertex, position, size and size gradient.
-#[derive(Drop)]
+#[derive(Clone, Copy)]
 pub struct End {
     pub vertex: usize,
     pub position: Pair,
@@ -116,7 +118,7 @@ pub struct End {
 }
 
 // The transport coefficient, or refusal 22 with the edge's ends.
-#[derive(Drop)]
+#[derive(Clone, Copy)]
 pub enum Transport {
     Coefficient(Complex),
     MeanSize(usize, usize),

@@ -1,4 +1,6 @@
 // The C interface. Each function calls one of a lower layer; include/godf.h declares and documents it.
+#![tactic(auto)]
+
 pub mod field;
 pub mod product;
 pub mod refine;

@@ -107,7 +107,7 @@ pub extern "C" fn godf_solve(
 }
 
 // n' and t' of refusal 18: the most points and triangles after refinement.
-#[derive(Drop)]
+#[derive(Clone, Copy)]
 pub struct Most {
     pub points: usize,
     pub triangles: usize,

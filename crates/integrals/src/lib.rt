@@ -1,6 +1,8 @@
 // The integrals of the mass and the Dirichlet energy over a triangle with holonomy ω: MassIJ and DirichletIJ of
 // Knöppel et al. (2013), appendix D, and the diagonal of the Dirichlet matrix. By series strictly below |ω| = 0.1,
 // where the closed forms cancel, and by the closed forms from 0.1 on.
+#![tactic(auto)]
+
 ghost use Rattle.std.specs.Prelude.{◌≡◌};
 ghost use Rattle.integrals.specs.Integrals.{by_series, mass_series, mass_closed, mass_integral, dirichlet_series, dirichlet_closed, dirichlet_integral, dirichlet_diagonal};
 ghost use Rattle.integrals.specs.Factors.{series_of, closed_of, factors_of};
@@ -10,7 +12,7 @@ use complex::Complex;
 use plane::Pair;
 
 // The factors of g11 + g22 and of g12 in the real and the imaginary part of the Dirichlet integral's series.
-#[derive(Drop)]
+#[derive(Clone, Copy)]
 pub struct Series {
     pub edges_re: f64,
     pub g12_re: f64,
@@ -19,14 +21,14 @@ pub struct Series {
 }
 
 // The phase cos ω + i sin ω of both closed forms, and 1 / ω⁴ of the Dirichlet integral's.
-#[derive(Drop)]
+#[derive(Clone, Copy)]
 pub struct Closed {
     pub phase: Complex,
     pub recip: f64,
 }
 
 // What the integrals take of ω alone, made once for the three sides of a triangle.
-#[derive(Drop)]
+#[derive(Clone, Copy)]
 pub enum Factors {
     Series(Series),
     Closed(Closed),

@@ -1,5 +1,7 @@
 // One lent slice as regions of reals and of complex numbers. A complex vector of n cells at `base` is split:
 // its n real parts, and then its n imaginary parts. Loads and stores of one cell, and what fills, copies and zeroes. A lent slice of numbers has regions too.
+#![tactic(auto)]
+
 ghost use Rattle.std.specs.Prelude.{◌≡◌, ◌+◌, ◌^◌, ◌<◌, ◌≤◌, length, get_or, set, replicate};
 ghost use Rattle.std.specs.Float.{nan};
 ghost use Rattle.float.specs.Double.{lit};

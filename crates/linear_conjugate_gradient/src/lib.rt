@@ -1,5 +1,7 @@
 // Jacobi-preconditioned conjugate gradients for a Hermitian system, in regions of one lent slice, and `normalize_in_mass`:
 // the Rust's steps.
+#![tactic(auto)]
+
 ghost use Rattle.std.specs.Prelude.{◌≡◌, ◌+◌, ◌*◌, ◌<◌, ◌≤◌, length};
 ghost use Rattle.std.specs.Float.{nan};
 ghost use Rattle.float.specs.Double.{lit, max_of};
@@ -16,7 +18,7 @@ use linear_packing::Packing;
 use linear_vectors::residual::Sums;
 
 // Why the solver gave up: number 24's reasons 3 to 9, in their order.
-#[derive(Drop)]
+#[derive(Clone, Copy)]
 pub enum Reason {
     RightHandNorm,
     Diagonal(usize),
@@ -28,21 +30,21 @@ pub enum Reason {
 }
 
 // The iterate stands in its region after so many iterations; or the solver gave up.
-#[derive(Drop)]
+#[derive(Clone, Copy)]
 pub enum Answer {
     Iterate(usize),
     GaveUp(Reason),
 }
 
 // The answer of `normalize_in_mass`.
-#[derive(Drop)]
+#[derive(Clone, Copy)]
 pub enum Normalized {
     Done,
     GaveUp(Reason),
 }
 
 // Where each vector begins. On entry the residual's region holds the right-hand side.
-#[derive(Drop)]
+#[derive(Clone, Copy)]
 pub struct Vectors {
     pub x: usize,
     pub residual: usize,
@@ -52,7 +54,7 @@ pub struct Vectors {
 }
 
 // How an iteration ends: with the next residual dot, with convergence, or by a breakdown.
-#[derive(Drop)]
+#[derive(Clone, Copy)]
 enum Progress {
     Going(f64),
     Converged,

@@ -1,5 +1,7 @@
 // Hermitian matrices with a real diagonal and one complex entry an edge, and complex vectors, in regions of one lent slice:
 // the real part of the Rust's `dot`, its `euclidean_norm`, `apply`, `shifted` and `trace`.
+#![tactic(auto)]
+
 ghost use Rattle.std.specs.Prelude.{◌≡◌, ◌+◌, ◌*◌, ◌<◌, ◌≤◌, length, get_or, set};
 ghost use Rattle.std.specs.Float.{nan};
 ghost use Rattle.float.specs.Double.{◌⊕◌, ◌⊗◌};
@@ -14,7 +16,7 @@ use linear_cells::{load, load_real, store, store_real, wide};
 
 // Where a matrix of `size` rows stands: `size` reals on its diagonal, and a vector of `edges` entries off it.
 // The ends of the edges, the Rust's edge_a and edge_b, are lent beside it as `from` and `to`.
-#[derive(Drop)]
+#[derive(Clone, Copy)]
 pub struct Hermitian {
     pub size: usize,
     pub edges: usize,
@@ -78,7 +80,7 @@ fn end_sum(work: &[f64], y: usize, x: usize, n: usize, i: usize, j: usize, z: Co
 }
 
 // The two cells that an edge changes.
-#[derive(Drop)]
+#[derive(Clone, Copy)]
 struct Ends {
     a: Complex,
     b: Complex,

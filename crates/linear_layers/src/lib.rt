@@ -1,5 +1,7 @@
 // Wrappers that check the linear solver's preconditions at run time, some under C calling rules: for comparison and timing beside the Rust. No part of the
 // product.
+#![tactic(auto)]
+
 ghost use Rattle.std.specs.Prelude.{◌≡◌, true, ◌+◌, ◌*◌, ◌^◌, ◌≤◌, ◌<◌, length};
 ghost use Rattle.linear_cells.specs.Region.{put};
 ghost use Rattle.linear_hermitian.specs.Work.{Graph};
@@ -12,7 +14,7 @@ use linear_conjugate_gradient::{
 use linear_hermitian::Hermitian;
 use linear_packing::{Packing, Source};
 
-#[derive(Drop)]
+#[derive(Clone, Copy)]
 pub enum Checked {
     // The slices have not the form that is asked for, and nothing was written.
     Refused,

@@ -9,7 +9,7 @@ ghost use Rattle.linear_rows.specs.Vertex.{pairs_of, lent_matrix, is_inside, ent
 use complex::Complex;
 use linear_cells::wide;
 
-#[derive(Drop)]
+#[derive(Clone, Copy)]
 pub enum Product {
     At(Complex),
     // An index lies outside its slice.

@@ -1,5 +1,7 @@
 // Vector updates of conjugate gradients without reductions, in regions of one work slice; what one loop over memory can serve is done in one. The residual's
 // update, which has two reductions, is module residual.
+#![tactic(auto)]
+
 pub mod residual;
 
 ghost use Rattle.std.specs.Prelude.{◌≡◌, ◌+◌, ◌*◌, ◌<◌, ◌≤◌, length, get_or, set};
@@ -60,7 +62,7 @@ pub fn advance(work: &mut [f64], y: usize, x: usize, n: usize, alpha: f64)
 }
 
 // The next x and direction at one place.
-#[derive(Drop)]
+#[derive(Clone, Copy)]
 struct Next {
     x: Complex,
     p: Complex,

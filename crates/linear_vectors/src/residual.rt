@@ -11,7 +11,7 @@ use complex::Complex;
 use linear_cells::{load, load_real, store, store_real};
 
 // A residual's product with itself, and with the preconditioned residual.
-#[derive(Drop)]
+#[derive(Clone, Copy)]
 pub struct Sums {
     pub square: f64,
     pub next: f64,
@@ -25,7 +25,7 @@ fn sub_scaled(y: Complex, x: Complex, k: f64) -> Complex
 }
 
 // The residual after its step at one place, and its two products there.
-#[derive(Drop)]
+#[derive(Clone, Copy)]
 struct Term {
     residual: Complex,
     products: Complex,

@@ -9,7 +9,7 @@ use mathlib.Core.Bool.{Bool, true, false, ◌||◌}
 use mathlib.Core.List.{List, [], ◌∷◌}
 use mathlib.Core.Option.{Option, none, some}
 use lib.Dec.{T, eqb, eqb→eq, eqb_refl}
-use Rattle.mesh.specs.Mesh.{Tri, tri, Same, Mids, Good, All, AllDifferent, SameCorners, at, total, count, pieces, refined, Distinct}
+use Rattle.mesh.specs.Mesh.{Tri, tri, Same, Mids, Good, All, AllDifferent, SameCorners, at, total, count, pieces, refined}
 use Rattle.mesh.proofs.Weigh.{F, F-sym, F-zero, F-pair, F-le, or-T, around, parts, inner}
 use Rattle.mesh.proofs.Local.{inner-zero, mids-differ, weighed}
 use Rattle.mesh.proofs.Whole.{all-distinct, count-around, counted, total-times, total-zero}

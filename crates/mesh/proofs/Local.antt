@@ -3,7 +3,7 @@ use Prim.Native.Nat.{ℕ, ◌+◌, ◌*◌, ◌≤◌, ◌<◌}
 use native.Mathlib.Omega.{arith}
 use native.Mathlib.Decide.{ℕ_discrete}
 use mathlib.Core.Path.{◌≡◌, refl, sym, ◌∙◌}
-use mathlib.Core.Logic.{◌≢◌, ◌⊎◌, inl, inr, ⊎_elim}
+use mathlib.Core.Logic.{◌≢◌, inl, inr, ⊎_elim}
 use mathlib.Core.Option.{Option, none, some}
 use Rattle.mesh.specs.Mesh.{Tri, tri, Same, Mids, Good, All, one, is_none, total, split, pieces, Distinct}
 use Rattle.mesh.proofs.Weigh.{F, F-sym, F-zero, F-one, around, parts, inner, split-weighs}

@@ -2,12 +2,14 @@
 // cut and the pieces of a triangle; specs/Claim.antt claims that no side is lost and none cracks (proofs/Theorem.antt). specs/Points.antt has the points and
 // sizes of a refined floor in floating point, specs/Area.antt exact areas on whole coordinates, specs/AreaClaim.antt what is proved of them: old points stay,
 // midpoints are exact, and the pieces of each triangle have its area.
+#![tactic(auto)]
+
 ghost use Rattle.std.specs.Prelude.{◌≡◌, ◌+◌, ◌≤◌, length};
 ghost use Rattle.mesh.specs.Mesh.{corners_at};
 ghost use Rattle.mesh.specs.Area.{halfway};
 
 // The corners of a triangle: three numbers of points.
-#[derive(Drop)]
+#[derive(Clone, Copy)]
 pub struct ThreeCorners {
     pub a: u32,
     pub b: u32,

@@ -1,5 +1,7 @@
 // One pass: the Rust's solve_mesh, from a floor in the work slices to the angles of its field, or a refusal by rows 19 to 24.
 // specs/Pass.antt says what it finds, as one function of lists, and specs/Work.antt where it reads and writes.
+#![tactic(auto)]
+
 ghost use Rattle.std.specs.Prelude.{◌≡◌, ◌*◌, ◌≤◌, length};
 ghost use Rattle.edges.specs.Numbering.{Below};
 ghost use Rattle.pass_assembly.specs.Work.{Indexed};
@@ -22,7 +24,7 @@ use pass_terms::Mode;
 use refusals::Stage;
 
 // What is asked beside the floor and the options: whether guidance is given, and its weight; how many outer iterations there may be.
-#[derive(Drop)]
+#[derive(Clone, Copy)]
 pub struct Asked {
     pub guided: bool,
     pub weight: f64,

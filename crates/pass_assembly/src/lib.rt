@@ -1,5 +1,7 @@
 // The mass and the energy matrix of a pass, summed over its triangles in regions of the work slice. specs/Assembly.antt says what the sums are, and
 // specs/Work.antt how the slices hold them.
+#![tactic(auto)]
+
 pub mod shift;
 
 ghost use Rattle.std.specs.Prelude.{◌≡◌, ◌+◌, ◌*◌, ◌<◌, ◌≤◌, length};
@@ -19,7 +21,7 @@ use pass_terms::{Corners, Mode, Part, Sides, Terms};
 
 // Where a floor stands: in the one slice the coordinates of its points, the areas of its triangles and the transports along its sides; in the other the
 // corners of its triangles, counter-clockwise, and the numbers of their sides.
-#[derive(Drop)]
+#[derive(Clone, Copy)]
 pub struct AssemblyPlan {
     pub x: usize,
     pub y: usize,
@@ -31,7 +33,7 @@ pub struct AssemblyPlan {
 }
 
 // Three numbers of points, or of sides.
-#[derive(Drop)]
+#[derive(Clone, Copy)]
 struct Triple {
     i: usize,
     j: usize,

@@ -11,7 +11,7 @@ use refusals::Stage;
 
 const ENERGY_SHIFT: f64 = 1e-8;
 
-#[derive(Drop)]
+#[derive(Clone, Copy)]
 pub struct Traces {
     pub energy: f64,
     pub mass: f64,

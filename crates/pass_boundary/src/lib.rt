@@ -1,5 +1,7 @@
 // The boundary of a floor: which sides lie in exactly one triangle, and for each point on them the direction that the field is to have there.
 // The Rust's boundary_targets (lines 854 to 914): specs/Boundary.antt says what is made of the triangles, specs/Work.antt where it stands.
+#![tactic(auto)]
+
 ghost use Rattle.std.specs.Prelude.{◌≡◌, cond, [], ◌∷◌, ◌+◌, ◌*◌, ◌<◌, ◌≤◌, eqb, length, get_or};
 ghost use Rattle.mesh.specs.Mesh.{side, key};
 ghost use Rattle.edges.specs.Table.{Held};
@@ -12,7 +14,7 @@ use linear_cells::{load, load_real, store};
 
 // Where the u32 work holds the triangles as given, the table of their sides (crate edges), and for each triangle the numbers of its sides; and
 // where a count for each side and a flag for each point go.
-#[derive(Drop)]
+#[derive(Clone, Copy)]
 pub struct Listing {
     pub triangles: usize,
     pub sides: usize,
@@ -25,7 +27,7 @@ pub struct Listing {
 }
 
 // Where the f64 work holds the coordinates of the points, and where their targets and the first values at them go.
-#[derive(Drop)]
+#[derive(Clone, Copy)]
 pub struct Planes {
     pub points: usize,
     pub x: usize,

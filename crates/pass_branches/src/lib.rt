@@ -2,6 +2,8 @@
 // specs/Branches.antt says what each branch finds, and specs/Work.antt where it stands. `flag` has a flag for each point, 1 where it lies on the boundary,
 // and `from` and `to` the ends of the edges. The linear solver multiplies by a packed copy of its matrix. `pack_edges` makes what depends
 // on the edges alone, once in a pass; module `solver` makes the entries, once for each system.
+#![tactic(auto)]
+
 mod solver;
 
 ghost use Rattle.std.specs.Prelude.{◌≡◌, true, length};
@@ -29,7 +31,7 @@ use solver::{BranchPlan, solve_system, vector_field};
 
 // What else the field depends on: whether guidance is given, and its weight; the trace of the energy matrix before its shift; how many outer iterations
 // there may be.
-#[derive(Drop)]
+#[derive(Clone, Copy)]
 pub struct Search {
     pub guided: bool,
     pub weight: f64,

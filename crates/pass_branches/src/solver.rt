@@ -12,7 +12,7 @@ use refusals::Stage;
 
 // Where a branch works: its system; the packed copy of the energy matrix, which the linear solver multiplies by, and what the copy is made from; where the
 // angles are left; and what the inverse iteration starts from, with the most iterations.
-#[derive(Drop)]
+#[derive(Clone, Copy)]
 pub struct BranchPlan {
     pub system: SystemPlan,
     pub copy: Packing,

@@ -1,6 +1,8 @@
 // What the boundary modes make of a system, in regions of one lent slice: rows fixed for an exact condition, the right-hand side of the tangent
 // branch, the penalty of the weak one. specs/Constraints.antt says what is made of the lists, specs/Work.antt where it stands.
 // `flag` has a flag for each point, 1 where it lies on the boundary, and `from` and `to` the ends of the edges.
+#![tactic(auto)]
+
 ghost use Rattle.std.specs.Prelude.{◌≡◌, cond, ◌||◌, ◌+◌, ◌*◌, ◌<◌, ◌≤◌, length, get_or};
 ghost use Rattle.linear_hermitian.specs.Work.{Graph, PairRoom};
 ghost use Rattle.pass_constraints.specs.Constraints.{on};
@@ -11,7 +13,7 @@ use linear_cells::{load, load_real, store, store_real};
 use linear_hermitian::Hermitian;
 
 // Where the vectors of the tangent branch begin.
-#[derive(Drop)]
+#[derive(Clone, Copy)]
 pub struct Tangents {
     pub rhs: usize,
     pub coupling: usize,
@@ -20,7 +22,7 @@ pub struct Tangents {
 
 // The weight of the weak branch, and where its diagonals and vectors begin: the system's and the mass matrix's diagonal, the targets, and the
 // right-hand side.
-#[derive(Drop)]
+#[derive(Clone, Copy)]
 pub struct Penalty {
     pub weight: f64,
     pub diagonal: usize,

@@ -1,4 +1,6 @@
 // The angles of a field from the values that a solve found, in regions of one lent slice: the Rust's `angles_from`.
+#![tactic(auto)]
+
 ghost use Rattle.std.specs.Prelude.{◌≡◌, ◌+◌, ◌*◌, ◌<◌, ◌≤◌, length, set};
 ghost use Rattle.complex.specs.Angle.{cross_angle};
 ghost use Rattle.linear_cells.specs.Region.{put};

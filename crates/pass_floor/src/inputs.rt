@@ -76,7 +76,7 @@ pub fn put_plane(
 }
 
 // What a midpoint gets from the values at the ends of its side: half their sum, as its size, or the angle between them, as its guidance.
-#[derive(Drop)]
+#[derive(Clone, Copy)]
 pub enum Mean {
     Half,
     Angle,

@@ -1,5 +1,7 @@
 // A pass over a floor that is given in lent slices: its points, sizes and guidance are laid out in the work slice, the midpoints of cut sides behind the points,
 // and passed over. Both passes of a solve are made so; the first has no cut sides. specs/Lay.antt says what is laid out, and what is found.
+#![tactic(auto)]
+
 mod inputs;
 
 ghost use Rattle.std.specs.Prelude.{◌≡◌, ◌*◌, ◌/◌, length};

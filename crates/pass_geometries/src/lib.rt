@@ -1,5 +1,7 @@
 // The geometry of every triangle of a pass: corners put counter-clockwise and areas, kept in the work slices, up to the first triangle that is
 // degenerate, which is refusal 19. specs/Geometries.antt says what is kept.
+#![tactic(auto)]
+
 ghost use Rattle.std.specs.Prelude.{◌≡◌, [], ◌∷◌, ◌+◌, ◌*◌, ◌<◌, ◌≤◌, ◌^◌, length};
 ghost use Rattle.std.proofs.lemmas.List.Edits.{sets};
 ghost use Rattle.edges.specs.Numbering.{Below};
@@ -13,7 +15,7 @@ use plane::Pair;
 
 // How many points and triangles there are, and where: in the f64 work the coordinates, and the areas that are kept; in the u32 work the corners as
 // given, and those that are kept.
-#[derive(Drop)]
+#[derive(Clone, Copy)]
 pub struct GeometriesPlan {
     pub points: usize,
     pub triangles: usize,

@@ -1,5 +1,7 @@
 // The size gradient at each point of a pass: area-weighted sums over the triangles at it, in the work slice, divided by their weights.
 // specs/Gradients.antt says what they are.
+#![tactic(auto)]
+
 ghost use Rattle.std.specs.Prelude.{◌≡◌, ◌+◌, ◌*◌, ◌<◌, ◌≤◌, length};
 ghost use Rattle.mesh.specs.Mesh.{tri};
 ghost use Rattle.edges.specs.Numbering.{Below};
@@ -11,7 +13,7 @@ use plane::Pair;
 
 // How many points and triangles there are, and where: in the f64 work the points' coordinates and sizes and the triangles' areas, and the sums, n first
 // parts, then n second parts, then n weights; in the u32 work the corners, counter-clockwise.
-#[derive(Drop)]
+#[derive(Clone, Copy)]
 pub struct GradientsPlan {
     pub points: usize,
     pub triangles: usize,

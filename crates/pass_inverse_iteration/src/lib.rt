@@ -1,4 +1,6 @@
 // Inverse iteration for the smallest eigenpair of the shifted pencil, in regions of one lent slice: the Rust's steps. The iterate stands at the solver's x.
+#![tactic(auto)]
+
 mod start;
 
 ghost use Rattle.std.specs.Prelude.{◌≡◌, length};
@@ -16,7 +18,7 @@ use refusals::Stage;
 const OUTER_TOLERANCE: f64 = 1e-8;
 
 // Where the pencil is in the slices: both matrices, the vectors of the linear solver, and the packed copy of the energy matrix, which the solver multiplies by.
-#[derive(Drop)]
+#[derive(Clone, Copy)]
 pub struct PencilPlan {
     pub mass: Hermitian,
     pub energy: Hermitian,
@@ -25,7 +27,7 @@ pub struct PencilPlan {
 }
 
 // Where the points' coordinates are, x and y; the trace of the energy before its shift; and the most iterations.
-#[derive(Drop)]
+#[derive(Clone, Copy)]
 pub struct Outer {
     pub x: usize,
     pub y: usize,
@@ -34,21 +36,21 @@ pub struct Outer {
 }
 
 // What each iteration is told: the average of the diagonal, and the most iterations of an inner solve.
-#[derive(Drop)]
+#[derive(Clone, Copy)]
 struct Limits {
     average: f64,
     most: usize,
 }
 
 // The Rayleigh quotient of the iterate.
-#[derive(Drop)]
+#[derive(Clone, Copy)]
 struct Quotient {
     numerator: f64,
     denominator: f64,
 }
 
 // One iteration leads on with the next iterate, or ends the method.
-#[derive(Drop)]
+#[derive(Clone, Copy)]
 enum Progress {
     Going,
     Ended(Stage),

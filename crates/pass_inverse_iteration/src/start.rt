@@ -10,14 +10,14 @@ use complex::Complex;
 use linear_cells::{load_real, store};
 
 // The lowest and the highest of some coordinates.
-#[derive(Drop)]
+#[derive(Clone, Copy)]
 struct Extent {
     low: f64,
     high: f64,
 }
 
 // The center of the bounding box, and the reciprocal of its longer side.
-#[derive(Drop)]
+#[derive(Clone, Copy)]
 struct Ramp {
     x: f64,
     y: f64,

@@ -1,5 +1,7 @@
 // Where everything that a pass reads and writes stands in its two work slices: a struct of bases, by value. Every region has room for the most edges that
 // the triangles can have, three each, so that nothing depends on how many there are. specs/Layout.antt says where each is, and how much room all take.
+#![tactic(auto)]
+
 ghost use Rattle.std.specs.Prelude.{◌≡◌, ◌+◌, ◌*◌, ◌^◌, ◌<◌};
 ghost use Rattle.pass_layout.specs.Layout.{Small, stride_of, layout_of};
 ghost use Rattle.pass_layout.specs.Matrices.{mass_at, energy_at, vectors_at, packing_at, source_at, Countable};
@@ -9,7 +11,7 @@ use linear_hermitian::Hermitian;
 use linear_packing::{Packing, Source};
 
 // Where a pass begins in the f64 and in the u32 work, and how many points and triangles its floor has.
-#[derive(Drop)]
+#[derive(Clone, Copy)]
 pub struct Base {
     pub reals: usize,
     pub words: usize,
@@ -17,7 +19,7 @@ pub struct Base {
     pub triangles: usize,
 }
 
-#[derive(Drop)]
+#[derive(Clone, Copy)]
 pub struct Layout {
     pub points: usize,
     pub triangles: usize,

@@ -1,12 +1,14 @@
 // What a pass is asked for, beside its floor: the Rust's `Options` and `BoundaryMode`, and rows 9 to 17 of document 01's table. specs/Pass.antt says what
 // any pass has to meet.
+#![tactic(auto)]
+
 ghost use Rattle.std.specs.Prelude.{◌≡◌, ◌∷◌, [], length};
 ghost use Rattle.floor.specs.Checks.{lowest};
 ghost use Rattle.pass_options.specs.Table.{first_of};
 ghost use Rattle.pass_options.specs.Options.{guidance_of, bad_holomorphic, bad_boundary, not_finite_at, too_large, too_large_at, option_rows, guidance_rows, large_row};
 
 // How the field is held on the boundary.
-#[derive(Drop)]
+#[derive(Clone, Copy)]
 pub enum BoundaryMode {
     None,
     Tangent,
@@ -14,7 +16,7 @@ pub enum BoundaryMode {
 }
 
 // The Rust's `Options`, by value. `adaptive` is document 01's threshold.
-#[derive(Drop)]
+#[derive(Clone, Copy)]
 pub struct Options {
     pub accurate: bool,
     pub holomorphic: f64,

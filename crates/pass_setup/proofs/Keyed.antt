@@ -24,7 +24,7 @@ pub cuts-keyed : (n : ℕ) (l : List Side) (ts : List Tri) → All (Keyed n) l �
 unfolding sides_after met_all
 cuts-keyed n l [] h g = h
 cuts-keyed n l (tri a b c ∷ ts) h g =
-    cuts-keyed n _ ts
+    cuts-keyed n (met (met (met l (key a b)) (key b c)) (key c a)) ts
     (met-keyed n _ (key c a)
     (met-keyed n _ (key b c) (met-keyed n l (key a b) h (key-keyed n a b g.0.3 g.0.0 g.0.1)) (key-keyed n b c g.0.4 g.0.1 g.0.2))
     (key-keyed n c a g.0.5 g.0.2 g.0.0))

@@ -1,6 +1,8 @@
 // The first part of a pass: triangles put counter-clockwise and their areas, size gradients, numbered edges, transports. It refuses by rows 19 to 22.
 // specs/Setup.antt says what they are, and specs/Work.antt where they are. Each `set_up..` function does the stage that it is named for and all after it:
 // `set_up`, then `set_up_from_gradients`, `set_up_from_edges` and `set_up_transports`.
+#![tactic(auto)]
+
 ghost use Rattle.std.specs.Prelude.{◌≡◌, ◌*◌, length};
 ghost use Rattle.edges.specs.Numbering.{Below};
 ghost use Rattle.refusals.specs.Refusal.{row_at, between};
@@ -14,7 +16,7 @@ use pass_transports::Answer;
 use refusals::Refusal;
 
 // How many edges the floor has; or a refusal.
-#[derive(Drop)]
+#[derive(Clone, Copy)]
 pub enum Setup {
     Edges(usize),
     Refused(Refusal),

@@ -1,4 +1,6 @@
 // The soft terms of a pass, guidance and alignment, in regions of one lent slice: their targets, and what each adds to the linear system.
+#![tactic(auto)]
+
 ghost use Rattle.std.specs.Prelude.{◌≡◌, ◌+◌, ◌*◌, ◌<◌, ◌≤◌, length, get_or, replicate};
 ghost use Rattle.std.specs.Float.{nan};
 ghost use Rattle.linear_cells.specs.Region.{region};
@@ -78,7 +80,7 @@ pub fn add_term(
 }
 
 // Whether guidance is given, its weight and where its angles stand; the weight of the alignment with an anisotropic metric, and its angle.
-#[derive(Drop)]
+#[derive(Clone, Copy)]
 pub struct Terms {
     pub guided: bool,
     pub weight: f64,

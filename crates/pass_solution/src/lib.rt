@@ -1,4 +1,6 @@
 // The linear solve and the normalisation of a pass, each as a stage of it: what stands at the solver's x, or refusal 24.
+#![tactic(auto)]
+
 ghost use Rattle.std.specs.Prelude.{◌≡◌, length};
 ghost use Rattle.linear_hermitian.specs.Work.{Graph};
 ghost use Rattle.linear_conjugate_gradient.specs.Work.{SolverRoom, Engine};

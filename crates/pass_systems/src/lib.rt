@@ -1,6 +1,8 @@
 // The linear systems of a pass's branches, in regions of one lent slice: the energy matrix becomes the system's, and the right-hand side is left in the
 // solver's residual. specs/Systems.antt says what each system is, and specs/Work.antt where it is.
 // `flag` has a flag for each point, 1 where it lies on the boundary, and `from` and `to` the ends of the edges.
+#![tactic(auto)]
+
 ghost use Rattle.std.specs.Prelude.{◌≡◌, length};
 ghost use Rattle.linear_hermitian.specs.Work.{Graph};
 ghost use Rattle.pass_constraints.specs.Constraints.{boundary_data};
@@ -14,7 +16,7 @@ use pass_soft::Terms;
 
 // Where the parts of a system are in the slice: the energy matrix, with its shift; the mass matrix; the vectors of the linear solver; and the boundary's
 // targets. `terms` has the soft terms.
-#[derive(Drop)]
+#[derive(Clone, Copy)]
 pub struct SystemPlan {
     pub energy: Hermitian,
     pub mass: Hermitian,

@@ -1,5 +1,7 @@
 // What one triangle adds to the mass and the energy matrix, with no slices: the holonomy, the terms at its corners, and the entries along its sides,
 // flat or by the accurate integrals, with or without the holomorphic correction. specs/Terms.antt says what they are.
+#![tactic(auto)]
+
 ghost use Rattle.std.specs.Prelude.{◌≡◌};
 ghost use Rattle.pass_terms.specs.Terms.{holonomy_of, mass_corner, flat_corner, correction_in, mass_scalar, mass_entry, scale_in, accurate_entry, flat_entry, energy_entry, corrected_entry, holomorphic_entry, entry_with};
 ghost use Rattle.pass_terms.specs.Terms.{sides_of, parts_of, corner_in, corners_in, terms_by, terms_in};
@@ -12,14 +14,14 @@ use integrals::{Closed, Factors};
 use plane::Pair;
 
 // The options that assembly reads: by the accurate integrals or flat, and the holomorphic weight.
-#[derive(Drop)]
+#[derive(Clone, Copy)]
 pub struct Mode {
     pub accurate: bool,
     pub holomorphic: f64,
 }
 
 // A value for each corner of a triangle.
-#[derive(Drop)]
+#[derive(Clone, Copy)]
 pub struct Corners {
     pub i: f64,
     pub j: f64,
@@ -27,7 +29,7 @@ pub struct Corners {
 }
 
 // A value for each side of a triangle, from its first corner to its second.
-#[derive(Drop)]
+#[derive(Clone, Copy)]
 pub struct Sides {
     pub ij: Complex,
     pub jk: Complex,
@@ -35,21 +37,21 @@ pub struct Sides {
 }
 
 // One side's entries in the two matrices.
-#[derive(Drop)]
+#[derive(Clone, Copy)]
 pub struct Entry {
     pub mass: Complex,
     pub energy: Complex,
 }
 
 // What a triangle adds to a matrix: along its sides, and at its corners. In this order, so that it is copied in the pieces in which it was stored.
-#[derive(Drop)]
+#[derive(Clone, Copy)]
 pub struct Part {
     pub sides: Sides,
     pub corners: Corners,
 }
 
 // What it adds to both. Where the holomorphic weight is not 0, the correction is added to the energy at each corner besides.
-#[derive(Drop)]
+#[derive(Clone, Copy)]
 pub struct Terms {
     pub mass: Part,
     pub energy: Part,

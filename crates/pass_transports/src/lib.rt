@@ -1,5 +1,7 @@
 // The transport coefficient of every edge of a pass, in a vector of the work slice, up to the first edge whose mean size is refused, which is refusal 22.
 // specs/Transports.antt says what they are, and specs/Work.antt how the slice holds them.
+#![tactic(auto)]
+
 ghost use Rattle.std.specs.Prelude.{◌≡◌, ◌+◌, ◌<◌, length};
 ghost use Rattle.pass_transports.specs.Transports.{end_of, transport_at, refused_at};
 ghost use Rattle.pass_transports.specs.Work.{points_from, TransportsRoom, Ends, Looked, Transported};
@@ -7,7 +9,7 @@ ghost use Rattle.pass_transports.specs.Work.{points_from, TransportsRoom, Ends, 
 use geometry::{End, Transport};
 
 // Where the points stand: their coordinates, sizes and gradients, the gradients' first parts and then their second; and where the coefficients go.
-#[derive(Drop)]
+#[derive(Clone, Copy)]
 pub struct TransportsPlan {
     pub points: usize,
     pub x: usize,
@@ -18,7 +20,7 @@ pub struct TransportsPlan {
 }
 
 // Every edge has its coefficient; or refusal 22, with the edge's lower and upper end.
-#[derive(Drop)]
+#[derive(Clone, Copy)]
 pub enum Answer {
     Done,
     MeanSize(usize, usize),

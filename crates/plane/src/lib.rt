@@ -1,8 +1,10 @@
 // Pairs of doubles: positions and differences of positions in the plane, with the Rust's operations on them.
+#![tactic(auto)]
+
 ghost use Rattle.std.specs.Prelude.{◌≡◌};
 ghost use Rattle.plane.specs.Pair as Pairs;
 
-#[derive(Drop)]
+#[derive(Clone, Copy)]
 pub struct Pair {
     pub x: f64,
     pub y: f64,

@@ -1,4 +1,6 @@
 // The probe: the cross angle of a field at a question point, interpolated in the first triangle in list order that holds it.
+#![tactic(auto)]
+
 ghost use Rattle.std.specs.Prelude.{◌≡◌, ◌+◌, ◌*◌, ◌<◌, ◌≤◌, length};
 ghost use Rattle.probe.specs.Weights.{usable, within, weight, weighed, interpolated, answered};
 ghost use Rattle.probe.specs.Probe.{every, finite, taken, corner_at, visited_by, visit_of, visit_at, found_from, probe_of, AngleRange};
@@ -7,7 +9,7 @@ use complex::Complex;
 use plane::Pair;
 
 // A point's weights by the corners of a triangle; they add to 1, rounding aside.
-#[derive(Drop)]
+#[derive(Clone, Copy)]
 pub struct Weights {
     pub i: f64,
     pub j: f64,
@@ -15,14 +17,14 @@ pub struct Weights {
 }
 
 // The weights of a question point, or none: the triangle has no usable denominator, or the point lies outside.
-#[derive(Drop)]
+#[derive(Clone, Copy)]
 pub enum Weighing {
     Inside(Weights),
     Outside,
 }
 
 // What one triangle says: nothing, a sum that vanishes, or an angle.
-#[derive(Drop)]
+#[derive(Clone, Copy)]
 pub enum Visit {
     Passed,
     Vanished,
@@ -30,7 +32,7 @@ pub enum Visit {
 }
 
 // Refusal 1 (slices not of whole triples), no angle, an angle above 131,072 in size among those given, or the angle.
-#[derive(Drop)]
+#[derive(Clone, Copy)]
 pub enum Probe {
     NotTriples,
     NoAngle,

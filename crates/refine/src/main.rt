@@ -1,5 +1,6 @@
 // The refinement program of document 01: reads refine.in in the folder that it runs in, and prints the refined floor, or `refused`.
 // What is printed is `text_answer::answer` of the bytes read.
+#![tactic(auto)]
 
 fn print(text: &[u8]) {
     let mut out = [0u8; 29465];

@@ -1,6 +1,8 @@
 // Refinement as a call of its own, with the angles given: document 01's refusals, and refine_once's floor in four lent slices.
 // No work is lent to it and it has none of its own: what it keeps until it is done stands where its results will (module marks), in no
 // place that they do not fill. specs/Call.antt says what it answers and writes, specs/Claim.antt what holds of that, specs/Steps.antt what its steps leave.
+#![tactic(auto)]
+
 pub mod marks;
 pub mod points;
 
@@ -16,7 +18,7 @@ use edges::Table;
 use refinement::Cut;
 
 // How many points and triangles the refined floor has, how many triangles were flagged, and how many sides cut.
-#[derive(Drop)]
+#[derive(Clone, Copy)]
 pub struct Counts {
     pub points: usize,
     pub triangles: usize,
@@ -24,7 +26,7 @@ pub struct Counts {
     pub cut: usize,
 }
 
-#[derive(Drop)]
+#[derive(Clone, Copy)]
 pub enum Answer {
     Refinement(Counts),
     // A row of document 01's table, and its place: 0 where the table says "none".
@@ -32,7 +34,7 @@ pub enum Answer {
 }
 
 // How long the four result slices are.
-#[derive(Drop)]
+#[derive(Clone, Copy)]
 struct ResultLengths {
     points: usize,
     sizes: usize,

@@ -1,6 +1,8 @@
 // Refinement of a floor, the Rust's refine_once step by step: which triangles are flagged, the cut sides in the order first met, and the pieces of each
 // triangle. Cut sides stand in a table of crate edges, in the slice `numbers`.
 // specs/Floor.antt has the whole as one definition; specs/Flag.antt says which triangles are flagged, specs/Guidance.antt what guidance a refined floor has.
+#![tactic(auto)]
+
 ghost use Rattle.std.specs.Prelude.{◌≡◌, ◌+◌, ◌*◌, ◌<◌, ◌≤◌, ◌^◌, length, take};
 ghost use Rattle.std.proofs.lemmas.List.Edits.{sets};
 ghost use Rattle.mesh.specs.Mesh.{tri, mid, split, pieces, refined};
@@ -47,7 +49,7 @@ pub fn is_flagged(alpha: &[f64], threshold: f64, a: u32, b: u32, c: u32) -> bool
 }
 
 // How many sides are cut, and how many triangles flagged, so far.
-#[derive(Drop)]
+#[derive(Clone, Copy)]
 pub struct Cut {
     pub sides: usize,
     pub flagged: usize,
@@ -122,7 +124,7 @@ pub fn middle(numbers: &[u32], table: Table, points: usize, u: u32, v: u32) -> u
 }
 
 // The pieces of a triangle: how many, and their corners in list order, with 0 behind them.
-#[derive(Drop)]
+#[derive(Clone, Copy)]
 pub struct Pieces {
     pub count: usize,
     pub rows: [u32; 12],

@@ -1,12 +1,14 @@
 // Refusals: one record for all of document 01's table, and what a stage of a pass answers: done, or a refusal by rows 19 to 24, which is passed up
 // unaltered. Which of the two passes refused is added above the pass, by the solve: the pass is one function.
+#![tactic(auto)]
+
 ghost use Rattle.std.specs.Prelude.{◌≡◌};
 ghost use Rattle.refusals.specs.Refusal.{row_at, gave_up};
 ghost use Rattle.refusals.specs.declared.Stage.TheVariants.{Refused};
 
 // A row of the table with its place, for row 22 the edge's other end, for rows 19 to 24 the pass that found it, and for row 24 the reason: each 0 where the
 // table says "none". The pass is 0 until the solve sets it.
-#[derive(Drop)]
+#[derive(Clone, Copy)]
 pub struct Refusal {
     pub number: u64,
     pub place: u64,
@@ -15,7 +17,7 @@ pub struct Refusal {
     pub reason: u64,
 }
 
-#[derive(Drop)]
+#[derive(Clone, Copy)]
 pub enum Stage {
     Done,
     Refused(Refusal),

@@ -4,6 +4,8 @@
 // A program begins a list by `rows::begin`, reads it row by row, takes the words out by `word`, compares by
 // `same_double`, judges each row by `rows::judged`, and prints its counts by `report`. Module `rows` has what
 // rows of doubles and corners need.
+#![tactic(auto)]
+
 pub mod rows;
 
 ghost use Rattle.std.specs.Prelude.{◌≡◌, ◌<◌, slice_index};

@@ -144,7 +144,7 @@ pub fn has_nan(row: &[u8], k: usize, n: usize) -> bool
 
 // A list that is being read: its file, how many more rows may be read, how many were judged, and how many of those differ. What is left falls with each row and is 0
 // once the list has ended, so that a loop over a list is known to end.
-#[derive(Drop)]
+#[derive(Clone, Copy)]
 pub struct Reading {
     pub fd: i32,
     pub left: u64,

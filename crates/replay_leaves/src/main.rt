@@ -1,6 +1,8 @@
 // Replays recorded answers on the leaves: sin, cos and atan2 against java.lang.StrictMath, the root against the processor's.
 // data/README.md says how the lists were made. A program: it prints a line for each function, how many answers and how many differ,
 // which the gate compares with the file stdout.
+#![tactic(auto)]
+
 ghost use Rattle.std.specs.Prelude.{◌≡◌, ◌<◌, ◌≤◌};
 ghost use Rattle.replay_leaves.specs.Leaves.{width_of, holds_of};
 

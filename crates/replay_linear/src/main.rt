@@ -1,6 +1,8 @@
 // Replays the reference's conjugate gradient and normalize_in_mass on recorded systems of at most 16 rows and 40 edges.
 // data/README.md says how the list was made. A program: it prints how many answers there are and how many differ, which the gate compares
 // with the file stdout.
+#![tactic(auto)]
+
 ghost use Rattle.std.specs.Prelude.{◌≡◌, ◌+◌, ◌<◌, ◌≤◌, length};
 ghost use Rattle.replay_linear.specs.Verdict.{told_as, of_reason, of_answer, of_normalized, of_checked, end_in};
 
@@ -13,7 +15,7 @@ use replay::rows::Reading;
 const WIDTH: usize = 240;
 
 // A reason of document 01 and the iterations or the place; 0 where there is none.
-#[derive(Drop)]
+#[derive(Clone, Copy)]
 struct Verdict {
     reason: u64,
     value: u64,

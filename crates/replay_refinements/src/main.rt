@@ -1,6 +1,8 @@
 // Replays the reference's answers on refinement, and on guidance at the midpoint of a cut side.
 // data/README.md says how the lists were made. A program: it prints a line for each list, how many answers and how many differ, which the
 // gate compares with the file stdout.
+#![tactic(auto)]
+
 mod floors;
 
 ghost use Rattle.std.specs.Prelude.{◌≡◌, ◌<◌, ◌≤◌};

@@ -1,6 +1,8 @@
 // Replays the reference's answers on the scalars of a pass, on the probe and on the count of singularities.
 // data/README.md says how the lists were made. A program: it prints a line for each list, how many answers and how many differ, which the
 // gate compares with the file stdout.
+#![tactic(auto)]
+
 mod floors;
 mod numbers;
 

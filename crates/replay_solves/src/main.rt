@@ -1,6 +1,8 @@
 // Replays whole solves of the reference on floors of at most 12 points and 12 triangles. data/README.md says how the lists were made.
 // A program: it prints a line for each list, how many answers and how many differ, then the same of those rows that have an angle -0 and of
 // those that are given a NaN, which the gate compares with the file stdout.
+#![tactic(auto)]
+
 mod row;
 
 ghost use Rattle.std.specs.Prelude.{◌≡◌, ◌<◌, ◌≤◌, length};

@@ -1,5 +1,7 @@
 // Replays texts of refine.in, good and damaged, with what they must print. data/README.md says how the list was made.
 // A program: it prints how many there are and how many differ, which the gate compares with the file stdout.
+#![tactic(auto)]
+
 ghost use Rattle.std.specs.Prelude.{◌<◌, ◌≤◌, length};
 
 use replay::rows;

@@ -1,4 +1,6 @@
 // The IEEE square root of a double, by whole-number arithmetic: total, and equal to `root_of` of specs/Root.antt, which is the nearest double (specs/Nearest.antt).
+#![tactic(auto)]
+
 ghost use Rattle.std.specs.Prelude.{◌≡◌, ◌+◌, ◌*◌, ◌/◌, ◌%◌, ◌^◌, ◌<◌, ◌≤◌, true};
 ghost use Rattle.std.specs.Float.Ieee.{lt};
 ghost use Rattle.float.specs.Double.{lit, is_finite};

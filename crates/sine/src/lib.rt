@@ -1,5 +1,7 @@
 // fdlibm 5.3's sin and cos, with the argument reduction up to 524,288. Each function is one file or one branch of the C and
 // equal to its definition in specs/, operation by operation (docs/FDLIBM.md).
+#![tactic(auto)]
+
 ghost use Rattle.std.specs.Prelude.{◌≡◌, ◌≤◌, ◌<◌, pos};
 ghost use Rattle.std.specs.Float.{binary64};
 ghost use Rattle.std.specs.Float.Ieee.{of_int, to_bits};
@@ -103,7 +105,7 @@ fn kernel_cos(x: f64, y: f64) -> f64
 }
 
 // What the reduction hands on: n & 3, y[0] and y[1].
-#[derive(Drop)]
+#[derive(Clone, Copy)]
 struct Reduced {
     n: u64,
     hi: f64,
@@ -237,7 +239,7 @@ fn sin_switch(q: u64, hi: f64, lo: f64) -> f64
 }
 
 // A sine and a cosine.
-#[derive(Drop)]
+#[derive(Clone, Copy)]
 pub struct SinCos {
     pub sin: f64,
     pub cos: f64,

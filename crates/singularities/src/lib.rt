@@ -1,5 +1,7 @@
 // The singular triangles of a cross field: where the fourfold direction winds around zero along a triangle's sides,
 // quads meet in threes (charge above 0) or in fives (below 0).
+#![tactic(auto)]
+
 ghost use Rattle.std.specs.Prelude.{◌≡◌, ◌*◌, ◌+◌, ◌<◌, ◌≤◌, nat_abs, length};
 ghost use Rattle.singularities.specs.Charge.{winding, charge};
 ghost use Rattle.singularities.specs.Count.{charge_of, charge_at, counted, count_of, singularities};
@@ -60,14 +62,14 @@ pub fn charge_at(alpha: &[f64], tris: &[u32], t: usize) -> i64
 }
 
 // How many triangles have a charge above 0, and how many below.
-#[derive(Drop)]
+#[derive(Clone, Copy)]
 pub struct Counts {
     pub valence_3: usize,
     pub valence_5: usize,
 }
 
 // The counts, or refusal 1: the triangle slice is not of whole triples.
-#[derive(Drop)]
+#[derive(Clone, Copy)]
 pub enum Singularities {
     Counted(Counts),
     NotTriples,

@@ -1,4 +1,6 @@
 // Copies and zeros of slices. proofs/Runs.antt has the laws of runs of stores (`sets` of the library), which many crates use.
+#![tactic(auto)]
+
 ghost use Rattle.std.specs.Prelude.{◌≡◌, ◌+◌, ◌≤◌, length, replicate};
 ghost use Rattle.std.proofs.lemmas.List.Edits.{sets};
 ghost use Rattle.float.specs.Double.{lit};

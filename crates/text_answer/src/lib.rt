@@ -1,5 +1,7 @@
 // The refinement program of document 01 as a function from the bytes read to the bytes printed: `answer` reads a text of columns,
 // refines its floor and writes the new triangles and the cut sides, or the line `refused`. specs/Printed.antt says what is printed.
+#![tactic(auto)]
+
 mod lines;
 
 ghost use Rattle.std.specs.Prelude.{◌≡◌, ◌*◌, ◌/◌, ◌≤◌, length, take, replicate};

@@ -1,12 +1,14 @@
 // Whole numbers in columns of six bytes, as the texts of document 01 have them: decimal digits right-justified, a minus next to the
 // first digit, no leading zero and no minus before 0. specs/Columns.antt says which bytes a number has and how a column is read;
 // proofs/Strict.antt proves that a column reads as a number exactly if it has that number's bytes.
+#![tactic(auto)]
+
 ghost use Rattle.std.specs.Prelude.{◌≡◌, [], ◌∷◌, ◌+◌, ◌*◌, ◌<◌, ◌≤◌, length};
 ghost use Rattle.std.proofs.lemmas.List.Edits.{sets};
 ghost use Rattle.text_columns.specs.Columns.{is_lead, is_digit, after_blank, after_minus, step, scan, is_number, is_whole, size_of, double_of, blank_or_digit, column_of, columns_of, line_of};
 
 // What the bytes of a column have shown so far.
-#[derive(Drop)]
+#[derive(Clone, Copy)]
 pub enum Scan {
     // Blanks, or nothing yet.
     Blank,

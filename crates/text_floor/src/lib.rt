@@ -1,6 +1,8 @@
 // A floor out of a text of columns, as refine.in has it: whether the bytes are such a text, and its points, angles and corners in
 // lent slices. specs/Text.antt says which bytes are a text and what floor it has; proofs/Strict.antt that no two texts have the same
 // numbers.
+#![tactic(auto)]
+
 ghost use Rattle.std.specs.Prelude.{◌≡◌, true, cond, [], ◌∷◌, ◌+◌, ◌*◌, ◌<◌, ◌≤◌, length};
 ghost use Rattle.std.proofs.lemmas.List.Edits.{sets};
 ghost use Rattle.float.specs.Double.{lit};
@@ -10,7 +12,7 @@ ghost use Rattle.text_floor.specs.Text.{column_at, first, second, third, line_by
 use text_columns::Scan;
 
 // What a text has: a floor of so many points and triangles, with a threshold; or it is of another form.
-#[derive(Drop)]
+#[derive(Clone, Copy)]
 pub enum Read {
     Floor {
         points: usize,

@@ -1,0 +1,17 @@
+-- `complex::cross_angle` meets its contract: each return opens the definition and rewrites it by the tests and the calls on its way.
+use Rattle.float.specs.Double.{lit}
+use Rattle.complex.proofs.Range.{crossed}
+use Rattle.complex.specs.Angle.{cross_angle, in_range}
+use Rattle.complex.proofs.cross_angle.Goals as goal
+
+pub returns-then-angle-2 : goal.returns-then-angle-2
+unfolding cross_angle in_range
+returns-then-angle-2 c = let all = crossed c.args.value c.rem_euclid-angle.result (simp (← c.argument.ensures, ← c.rem_euclid-angle.ensures, c.if-angle.true, c.if-angle-2.true)) in record { value = all.0; range = all.1 }
+
+pub returns-then-angle : goal.returns-then-angle
+unfolding cross_angle in_range
+returns-then-angle c = let all = crossed c.args.value (lit 0) (simp (← c.argument.ensures, ← c.rem_euclid-angle.ensures, c.if-angle.true, c.if-angle-2.false)) in record { value = all.0; range = all.1 }
+
+pub returns : goal.returns
+unfolding cross_angle in_range
+returns c = let all = crossed c.args.value (lit 0) (simp (← c.argument.ensures, ← c.rem_euclid-angle.ensures, c.if-angle.false)) in record { value = all.0; range = all.1 }

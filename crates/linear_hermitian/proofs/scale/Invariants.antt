@@ -1,0 +1,13 @@
+use Rattle.linear_hermitian.proofs.Loops.{scale_to}
+use Rattle.linear_cells.specs.Cell.{put_c}
+use mathlib.Core.Path.{◌≡◌}
+use Prim.Native.Nat.{◌≤◌, ◌-◌}
+use lib.ListN.{length}
+use Rattle.linear_hermitian.proofs.scale.Given as goal
+
+abbrev pub invariant-loop-i : goal.invariant-loop-i
+invariant-loop-i l =
+    (l.i ≤ l.n) × (length l.work ≡ length l.initial.work) × (l.work ≡ put_c l.initial.work l.y (scale_to l.initial.work l.y l.x l.diagonal l.n l.i))
+
+abbrev pub decreases-loop-i : goal.decreases-loop-i
+decreases-loop-i l = l.n - l.i

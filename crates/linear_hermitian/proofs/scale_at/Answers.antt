@@ -1,0 +1,5 @@
+-- `linear_hermitian::scale_at` meets its contract: each return opens the definition and rewrites it by the tests and the calls on its way.
+use Rattle.linear_hermitian.proofs.scale_at.Goals as goal
+
+pub returns : goal.returns
+returns c = cc

@@ -1,0 +1,13 @@
+use Rattle.linear_vectors.proofs.Inverses.{invert_to}
+use Rattle.linear_cells.specs.Region.{put}
+use mathlib.Core.Path.{◌≡◌}
+use Prim.Native.Nat.{◌≤◌, ◌-◌}
+use lib.ListN.{length}
+use Rattle.linear_vectors.proofs.invert.Given as goal
+
+abbrev pub invariant-loop-i : goal.invariant-loop-i
+invariant-loop-i l =
+    (l.i ≤ l.n) × (length l.work ≡ length l.initial.work) × (l.work ≡ put l.initial.work l.y (invert_to l.initial.work l.y l.d l.n l.i))
+
+abbrev pub decreases-loop-i : goal.decreases-loop-i
+decreases-loop-i l = l.n - l.i

@@ -1,0 +1,15 @@
+-- `pass_constraints::fix_diagonal` meets its contract: the loop keeps what `Inv-loop` says, and what is left to do falls at each iteration; the laws are in proofs/Loops.
+use borrow.Author.Rules.{rules}
+use Prim.Native.Nat.{◌-◌}
+use Rattle.pass_constraints.proofs.Loops.{fix_none, fix-again, fix-done}
+use Rattle.pass_constraints.proofs.fix_diagonal.Goals as goal
+
+pub loop-i-init : goal.loop-i-init
+loop-i-init c = search (fix_none, rules)
+
+pub loop-i-preserved : goal.loop-i-preserved
+loop-i-preserved c =
+    (search rules, (search rules, fix-again _ _ _ _ c.requires.1 _ c.loop-i-test.true c.loop-i.invariant.1.1 c.fix_at.ensures))
+
+pub returns : goal.returns
+returns c = search fix-done

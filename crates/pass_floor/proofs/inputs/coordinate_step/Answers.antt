@@ -1,0 +1,6 @@
+-- `pass_floor::inputs::coordinate_step` meets its contract: what its calls ensure.
+use mathlib.Core.Path.{◌∙◌}
+use Rattle.pass_floor.proofs.inputs.coordinate_step.Goals as goal
+
+pub returns : goal.returns
+returns c = c.store_real.ensures ∙ rw c.coordinate-x.ensures

@@ -1,0 +1,14 @@
+-- `pass_soft::guide` meets its contract: the loop keeps what `Inv-loop` says, and what is left to do falls at each iteration; the laws are in proofs/Targets.
+use Prim.Native.Nat.{◌-◌}
+use Rattle.pass_soft.proofs.Targets.{guide-none, guide-again, guide-done}
+use borrow.Author.Rules.{rules}
+use Rattle.pass_soft.proofs.guide.Goals as goal
+
+pub loop-i-init : goal.loop-i-init
+loop-i-init c = search (guide-none, rules)
+
+pub loop-i-preserved : goal.loop-i-preserved
+loop-i-preserved c = search (guide-again, rules)
+
+pub returns : goal.returns
+returns c = search guide-done

@@ -1,0 +1,21 @@
+-- `pass_terms::terms_by` meets its contract: the definition is its calls.
+use Rattle.pass_terms.specs.Terms.{entry_of, terms_with}
+use Rattle.pass_terms.proofs.terms_by.Goals as goal
+
+pub returns : goal.returns
+unfolding terms_with entry_of
+returns c =
+    simp (
+      c.parts.ensures,
+      c.correction.ensures,
+      c.mass_corner.ensures,
+      c.energy_corners-energy.ensures,
+      c.entry_with-c.ensures,
+      c.entry_with-b.ensures,
+      c.entry_with-a.ensures,
+      c.energy_entry-ki.ensures,
+      c.energy_entry-jk.ensures,
+      c.energy_entry-ij.ensures,
+      c.scale_in-scale.ensures,
+      c.mass_scalar-scalar.ensures,
+    )

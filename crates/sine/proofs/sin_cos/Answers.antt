@@ -1,0 +1,19 @@
+-- `sine::sin_cos` meets its contract: the arms of `sin_of` and `cos_of`, whose two switches are one. Assumes nothing.
+use borrow.Author.Tests.{le-leb, lt-leb}
+use Rattle.float.proofs.Facts.{zero_by_zero}
+use Rattle.sine.specs.Sine.{rem_pio2, sin_of, cos_of}
+use Rattle.sine.proofs.Quarters.{pair-switch}
+use Rattle.sine.proofs.sin_cos.Goals as goal
+
+pub returns-then-b-le1072243195 : goal.returns-then-b-le1072243195
+unfolding sin_of cos_of
+returns-then-b-le1072243195 c = simp (← c.bits-b.ensures, le-leb _ _ c.if-b-le1072243195.true, c.kernel_sin_alone.ensures, c.kernel_cos.ensures)
+
+pub returns-then-t : goal.returns-then-t
+unfolding sin_of cos_of
+returns-then-t c =
+    simp (← c.bits-b.ensures, lt-leb _ _ c.if-b-le1072243195.false, ← c.abs-t.ensures, c.if-t.true, c.turn_by.ensures, pair-switch (rem_pio2 c.args.x))
+
+pub returns : goal.returns
+unfolding sin_of cos_of
+returns c = simp (← c.bits-b.ensures, lt-leb _ _ c.if-b-le1072243195.false, ← c.abs-t.ensures, c.if-t.false, zero_by_zero)

@@ -1,0 +1,8 @@
+-- `solve::asked_again` meets its contract: by whether guidance is given.
+use Rattle.solve.proofs.asked_again.Goals as goal
+
+pub returns-then-a : goal.returns-then-a
+returns-then-a c = rw c.if-a.true
+
+pub returns-else-a : goal.returns-else-a
+returns-else-a c = rw c.if-a.false

@@ -1,0 +1,10 @@
+-- `solve::refused_early` meets its contract: the definition, by each case.
+use mathlib.Core.Path.{sym, ap}
+use Rattle.solve.specs.Passes.{told_early}
+use Rattle.solve.proofs.refused_early.Goals as goal
+
+pub returns-in_default : goal.returns-in_default
+returns-in_default c = sym (ap told_early c.in_default.is)
+
+pub returns : goal.returns
+returns c = sym (ap told_early c.in-Refused.is)
