@@ -4,7 +4,7 @@ use std::path::PathBuf;
 
 fn main() {
     let root = PathBuf::from(std::env::var("CARGO_MANIFEST_DIR").unwrap());
-    let library = root.join("../target/staticlib");
+    let library = root.join("../target/bench");
     println!(
         "cargo:rerun-if-changed={}",
         library.join("liblinear_layers.a").display()

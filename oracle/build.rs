@@ -128,7 +128,7 @@ fn main() {
     let root = PathBuf::from(env::var("CARGO_MANIFEST_DIR").unwrap());
     let folder = env::var("GODF_REFERENCE").map_or(root.join("../../shared/docs/src"), PathBuf::from);
     let file = folder.join("src--src--simons_godf.rs.txt");
-    let library = env::var("GODF_LIBRARY").map_or(root.join("../target/staticlib"), PathBuf::from);
+    let library = env::var("GODF_LIBRARY").map_or(root.join("../crates/godf/out"), PathBuf::from);
     println!("cargo:rerun-if-env-changed=GODF_REFERENCE");
     println!("cargo:rerun-if-env-changed=GODF_LIBRARY");
     println!("cargo:rerun-if-changed={}", file.display());
@@ -142,7 +142,7 @@ fn main() {
     };
     if !library.join("libgodf.a").exists() {
         stop(format!(
-            "no libgodf.a in {}: run `rt staticlib godf` first",
+            "no libgodf.a in {}: run `rt lib` in crates/godf first",
             library.display()
         ))
     }

@@ -43,8 +43,15 @@ fn named(project: &Path, folder: &Path) -> PathBuf {
 /// The folder of the archive that belongs to the sources as they are, if there is one.
 fn found(project: &Path) -> Option<PathBuf> {
     let script = project.join("rust/archive");
-    for source in ["crates", "crates.txt", "dist"] {
+    for source in ["crates.txt", "dist"] {
         watch(&project.join(source));
+    }
+    // all of a crate but out/, which holds what rt keeps
+    let inside = |folder: PathBuf| fs::read_dir(folder).into_iter().flatten().flatten();
+    for part in inside(project.join("crates")).flat_map(|each| inside(each.path())) {
+        if part.file_name() != "out" {
+            watch(&part.path());
+        }
     }
     watch(&script);
     let output = Command::new(&script).stdin(Stdio::null()).output().ok()?;

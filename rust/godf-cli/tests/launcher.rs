@@ -192,12 +192,12 @@ fn which_archive() {
         (project.archive().status, project.archive().out.as_str()),
         (Some(1), "")
     );
-    project.write("target/staticlib/libgodf.a", "");
-    project.touch("target/staticlib/libgodf.a", true);
-    let built = format!("{}/target/staticlib\n", project.0.display());
+    project.write("crates/godf/out/libgodf.a", "");
+    project.touch("crates/godf/out/libgodf.a", true);
+    let built = format!("{}/crates/godf/out\n", project.0.display());
     assert_eq!(project.archive().out, built);
     for source in [SOURCE, "crates.txt"] {
-        project.touch("target/staticlib/libgodf.a", false);
+        project.touch("crates/godf/out/libgodf.a", false);
         for other in [SOURCE, "crates.txt"] {
             let file = fs::File::options().append(true).open(project.0.join(other)).unwrap();
             file.set_modified(SystemTime::UNIX_EPOCH).unwrap();
