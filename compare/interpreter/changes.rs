@@ -21,46 +21,51 @@ struct Change {
 }
 
 /// The comparisons and the like of the library, each with another in its place.
-const OTHERS: [(&str, &str); 16] = [
-    ("lib.Ieee.lt", "lib.Ieee.le"),
-    ("lib.Ieee.le", "lib.Ieee.lt"),
-    ("lib.Ieee.eq", "lib.Ieee.ne"),
-    ("lib.Ieee.ne", "lib.Ieee.eq"),
-    ("lib.Dec.ltb", "lib.Dec.leb"),
-    ("lib.Dec.leb", "lib.Dec.ltb"),
-    ("lib.Dec.eqb", "lib.Dec.leb"),
-    ("Prim.Native.Nat.min", "Prim.Native.Nat.max"),
-    ("Prim.Native.Nat.max", "Prim.Native.Nat.min"),
-    ("lib.Ieee.add", "lib.Ieee.sub"),
-    ("lib.Ieee.sub", "lib.Ieee.add"),
-    ("lib.Ieee.mul", "lib.Ieee.div"),
-    ("lib.Ieee.div", "lib.Ieee.mul"),
-    ("lib.ListN.take", "lib.ListN.drop"),
-    ("mathlib.Core.Bool.true", "mathlib.Core.Bool.false"),
-    ("mathlib.Core.Bool.false", "mathlib.Core.Bool.true"),
+const OTHERS: [(&str, &str); 18] = [
+    ("Rattle.std.specs.Float.Ieee.lt", "Rattle.std.specs.Float.Ieee.le"),
+    ("Rattle.std.specs.Float.Ieee.le", "Rattle.std.specs.Float.Ieee.lt"),
+    ("Rattle.std.specs.Float.Ieee.eq", "Rattle.std.specs.Float.Ieee.ne"),
+    ("Rattle.std.specs.Float.Ieee.ne", "Rattle.std.specs.Float.Ieee.eq"),
+    ("Rattle.std.specs.Prelude.ltb", "Rattle.std.specs.Prelude.leb"),
+    ("Rattle.std.specs.Prelude.leb", "Rattle.std.specs.Prelude.ltb"),
+    ("Rattle.std.specs.Prelude.eqb", "Rattle.std.specs.Prelude.leb"),
+    ("Rattle.std.specs.Prelude.nat_lt", "Rattle.std.specs.Prelude.nat_le"),
+    ("Rattle.std.specs.Prelude.nat_le", "Rattle.std.specs.Prelude.nat_lt"),
+    ("Rattle.std.specs.Prelude.min", "Rattle.std.specs.Prelude.max"),
+    ("Rattle.std.specs.Prelude.max", "Rattle.std.specs.Prelude.min"),
+    ("Rattle.std.specs.Float.Ieee.add", "Rattle.std.specs.Float.Ieee.sub"),
+    ("Rattle.std.specs.Float.Ieee.sub", "Rattle.std.specs.Float.Ieee.add"),
+    ("Rattle.std.specs.Float.Ieee.mul", "Rattle.std.specs.Float.Ieee.div"),
+    ("Rattle.std.specs.Float.Ieee.div", "Rattle.std.specs.Float.Ieee.mul"),
+    ("Rattle.std.specs.Prelude.take", "Rattle.std.specs.Prelude.drop"),
+    ("Rattle.std.specs.Prelude.true", "Rattle.std.specs.Prelude.false"),
+    ("Rattle.std.specs.Prelude.false", "Rattle.std.specs.Prelude.true"),
 ];
 
 /// The library's functions from a type to itself, which are left out.
 const LEFT_OUT: [&str; 4] = [
-    "lib.Ieee.neg",
-    "mathlib.Core.Bool.not",
-    "Prim.Native.Nat.suc",
-    "lib.IntN.negℤ",
+    "Rattle.std.specs.Float.Ieee.neg",
+    "Rattle.std.specs.Prelude.not",
+    "Rattle.std.specs.Prelude.suc",
+    "Rattle.std.specs.Prelude.neg_ℤ",
 ];
 
 /// The library's functions of two arguments of one type whose order matters.
-const TURNED: [&str; 7] = [
-    "lib.Ieee.lt",
-    "lib.Ieee.le",
-    "lib.Dec.ltb",
-    "lib.Dec.leb",
-    "lib.Ieee.sub",
-    "lib.Ieee.div",
-    "lib.Ieee.rem",
+const TURNED: [&str; 9] = [
+    "Rattle.std.specs.Float.Ieee.lt",
+    "Rattle.std.specs.Float.Ieee.le",
+    "Rattle.std.specs.Prelude.ltb",
+    "Rattle.std.specs.Prelude.leb",
+    "Rattle.std.specs.Prelude.nat_lt",
+    "Rattle.std.specs.Prelude.nat_le",
+    "Rattle.std.specs.Float.Ieee.sub",
+    "Rattle.std.specs.Float.Ieee.div",
+    "Rattle.std.specs.Float.Ieee.rem",
 ];
 
 /// Each infix name, with another in its place.
-const INFIX: [(&str, &str); 12] = [
+const INFIX: [(&str, &str); 13] = [
+    ("==", "nat_le"),
     ("⊕", "⊖"),
     ("⊖", "⊕"),
     ("⊗", "⊘"),
@@ -93,13 +98,13 @@ impl Changer<'_> {
 
     /// The infix name's meaning, looked up among the operators of the project and the library.
     fn operator(&self, name: &str) -> Option<Entity> {
-        let whole = format!("_{name}_");
+        let whole = format!("◌{name}◌");
         self.texts.meaning(self.file, &whole).or_else(|| {
             let double = self.texts.file("float", "Double");
             match name {
-                "&&" | "||" => Some(Entity::Library(format!("mathlib.Core.Bool.{whole}"))),
+                "nat_le" => Some(Entity::Library(format!("Rattle.std.specs.Prelude.{name}"))),
                 "⊕" | "⊖" | "⊗" | "⊘" => self.texts.meaning(double, &whole),
-                _ => Some(Entity::Library(format!("Prim.Native.Nat.{whole}"))),
+                _ => Some(Entity::Library(format!("Rattle.std.specs.Prelude.{whole}"))),
             }
         })
     }
@@ -190,7 +195,7 @@ impl Changer<'_> {
                 let mut left_out = false;
                 match &entity {
                     Entity::Library(path) => {
-                        if path == "mathlib.Core.Bool.cond" && arguments.len() >= 3 {
+                        if path == "Rattle.std.specs.Prelude.cond" && arguments.len() >= 3 {
                             put("branches exchanged".to_string(), &token, turned(1));
                         }
                         if TURNED.contains(&path.as_str()) && arguments.len() >= 2 {

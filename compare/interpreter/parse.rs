@@ -152,7 +152,7 @@ impl<'a> Parser<'a> {
         }
         let mut left = self.application();
         while let Some(op) = self.peek() {
-            if op.escaped || self.bound.contains(&format!("_{}_", op.text)) {
+            if op.escaped || self.bound.contains(&format!("◌{}◌", op.text)) {
                 break;
             }
             let Some((level, side)) = self.texts.fixity(self.file, &op.text) else {
@@ -261,7 +261,7 @@ impl<'a> Parser<'a> {
     }
 
     fn application(&mut self) -> Term {
-        let mut head = self.atom();
+        let head = self.atom();
         let mut arguments: Vec<Term> = vec![];
         let apply = |head: Term, arguments: Vec<Term>| {
             if arguments.is_empty() {
@@ -271,12 +271,7 @@ impl<'a> Parser<'a> {
             }
         };
         while let Some(token) = self.peek() {
-            if token.is(".") && token.spaced {
-                self.at += 1;
-                let field = self.next().clone();
-                head = Term::Field(Box::new(apply(head, arguments)), field);
-                arguments = vec![];
-            } else if token.is("{") {
+            if token.is("{") {
                 // an implicit argument
                 self.skip();
             } else if token.is("let") || token.is("λ") {
@@ -306,10 +301,11 @@ impl<'a> Parser<'a> {
             }
             self.expect(")");
             if parts.len() == 1 {
-                return parts.pop().expect("one part");
+                parts.pop().expect("one part")
+            } else {
+                let labelled = parts.into_iter().enumerate().map(|(k, t)| (k.to_string(), t));
+                Term::Record(labelled.collect())
             }
-            let labelled = parts.into_iter().enumerate().map(|(k, t)| (k.to_string(), t));
-            return Term::Record(labelled.collect());
         } else if token.is("record") {
             self.at += 1;
             self.expect("{");
@@ -323,7 +319,7 @@ impl<'a> Parser<'a> {
                 }
             }
             self.expect("}");
-            return Term::Record(fields);
+            Term::Record(fields)
         } else if token.is("elim") {
             return self.cases();
         } else if is_number(token) {
@@ -461,19 +457,19 @@ impl<'a> Parser<'a> {
     }
 }
 
-pub const CONS: &str = "mathlib.Core.List._∷_";
+pub const CONS: &str = "Rattle.std.specs.Prelude.◌∷◌";
 
 /// The library's constructors that are no ordinary data here.
 pub const LIBRARY_PATTERNS: [&str; 9] = [
-    "Prim.Native.Nat.zero",
-    "Prim.Native.Nat.suc",
-    "mathlib.Core.List.[]",
+    "Rattle.std.specs.Prelude.zero",
+    "Rattle.std.specs.Prelude.suc",
+    "Rattle.std.specs.Prelude.[]",
     CONS,
-    "mathlib.Core.Bool.true",
-    "mathlib.Core.Bool.false",
-    "lib.Ieee.nan",
-    "lib.Ieee.inf",
-    "lib.Ieee.fin",
+    "Rattle.std.specs.Prelude.true",
+    "Rattle.std.specs.Prelude.false",
+    "Rattle.std.specs.Float.nan",
+    "Rattle.std.specs.Float.inf",
+    "Rattle.std.specs.Float.fin",
 ];
 
 /// The clauses of a definition.
@@ -503,7 +499,7 @@ pub fn clauses(texts: &Texts, definition: usize) -> Vec<Clause> {
             stop(texts.at(d.file, &tokens[at], "definitions inside of a clause are not understood"));
         }
         let (left, right) = (&tokens[..equals], &tokens[equals + 1..]);
-        let infix = |t: &Token| format!("_{}_", t.text) == d.name;
+        let infix = |t: &Token| format!("◌{}◌", t.text) == d.name;
         let mut parser = Parser::new(texts, d.file, left);
         let mut patterns = vec![];
         if left[0].text == d.name {

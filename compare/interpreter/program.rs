@@ -112,7 +112,7 @@ impl Naming<'_> {
                         "zero" => (Form::Zero, 0),
                         "suc" if many == 1 => (Form::Suc(part()), 1),
                         "[]" => (Form::Nil, 0),
-                        "_∷_" if many == 2 => (Form::Cons(Box::new([*part(), *part()])), 2),
+                        "◌∷◌" if many == 2 => (Form::Cons(Box::new([*part(), *part()])), 2),
                         "true" => (Form::Bool(true), 0),
                         "false" => (Form::Bool(false), 0),
                         "nan" => (Form::Nan, 0),
@@ -174,7 +174,7 @@ impl Naming<'_> {
             }
             Term::Meant(entity, token) => self.entity(Some(entity.clone()), token),
             Term::Infix(token, left, right) => {
-                let entity = self.program.texts.meaning(self.file, &format!("_{}_", token.text));
+                let entity = self.program.texts.meaning(self.file, &format!("◌{}◌", token.text));
                 let op = self.entity(entity, token);
                 let arguments = vec![self.term(left), self.term(right)];
                 Known::Apply(Box::new(op), arguments)

@@ -143,34 +143,34 @@ impl Row {
 
 /// The definitions that the other recorded answers are compared with: a name for each here, its crate, its file, its name.
 const LEAVES: [(&str, &str, &str, &str); 28] = [
-    ("sin", "sine", "Sine", "sinOf"),
-    ("cos", "sine", "Sine", "cosOf"),
-    ("atan2", "arctangent", "Arc", "atan2Of"),
-    ("sqrt", "root", "Root", "rootOf"),
-    ("mass", "integrals", "Integrals", "massIntegral"),
-    ("dirichlet", "integrals", "Integrals", "dirichletIntegral"),
-    ("diagonal", "integrals", "Integrals", "diagonalAt"),
-    ("cross", "complex", "Angle", "crossAngle"),
-    ("weight", "geometry", "Edge", "alignmentWeight"),
+    ("sin", "sine", "Sine", "sin_of"),
+    ("cos", "sine", "Sine", "cos_of"),
+    ("atan2", "arctangent", "Arc", "atan2_of"),
+    ("sqrt", "root", "Root", "root_of"),
+    ("mass", "integrals", "Integrals", "mass_integral"),
+    ("dirichlet", "integrals", "Integrals", "dirichlet_integral"),
+    ("diagonal", "integrals", "Integrals", "diagonal_at"),
+    ("cross", "complex", "Angle", "cross_angle"),
+    ("weight", "geometry", "Edge", "alignment_weight"),
     ("geometry", "geometry", "Triangle", "geometry"),
     ("gradient", "geometry", "Triangle", "gradient"),
-    ("transport", "geometry", "Edge", "transportOf"),
-    ("wrap", "complex", "Angle", "wrapToPi"),
-    ("guidance", "complex", "Guidance", "midAngle"),
-    ("probe", "probe", "Probe", "probeOf"),
+    ("transport", "geometry", "Edge", "transport_of"),
+    ("wrap", "complex", "Angle", "wrap_to_pi"),
+    ("guidance", "complex", "Guidance", "mid_angle"),
+    ("probe", "probe", "Probe", "probe_of"),
     ("probe's number", "probe", "Probe", "number"),
-    ("probe's angle", "probe", "Probe", "angleOr"),
+    ("probe's angle", "probe", "Probe", "angle_or"),
     ("singular", "singularities", "Count", "singularities"),
     ("singular's number", "singularities", "Count", "number"),
     ("singular's threes", "singularities", "Count", "threes"),
     ("singular's fives", "singularities", "Count", "fives"),
-    ("check", "refine_call", "Call", "checkCall"),
-    ("answer", "refine_call", "Call", "answerOf"),
+    ("check", "refine_call", "Call", "check_call"),
+    ("answer", "refine_call", "Call", "answer_of"),
     ("left", "refine_call", "Call", "left"),
-    ("refined", "refinement", "Floor", "refinementOf"),
-    ("triangles", "refinement", "Floor", "trisOf"),
-    ("corners", "refinement", "Floor", "cornersOf"),
-    ("ends", "refinement", "Floor", "endsOf"),
+    ("refined", "refinement", "Floor", "refinement_of"),
+    ("triangles", "refinement", "Floor", "tris_of"),
+    ("corners", "refinement", "Floor", "corners_of"),
+    ("ends", "refinement", "Floor", "ends_of"),
 ];
 
 /// A record's fields must be these, so that a call is made whole.
@@ -192,8 +192,8 @@ impl Solver {
     pub fn new(root: &Path, leaves: bool) -> Self {
         let texts = Texts::read(root);
         let calls = texts.file("calls", "Solve");
-        let solve = texts.definition(calls, "solveOf");
-        let pass = texts.definition(texts.file("pass", "Pass"), "passOf");
+        let solve = texts.definition(calls, "solve_of");
+        let pass = texts.definition(texts.file("pass", "Pass"), "pass_of");
         let record = |name: &str| {
             let home = texts.home(calls, name);
             home.and_then(|(file, name)| texts.files[file].records.get(&name))

@@ -121,18 +121,18 @@ pub enum Module {
     Library(String),
 }
 
+/// A path such as Rattle.mesh.specs.Mesh: a crate's, or the library's own, std.
 fn module(words: &[String]) -> Module {
-    let Some(name) = words[0].strip_prefix("Rattle·") else {
-        return Module::Library(words.join("."));
+    let (name, path) = match words {
+        [top, name, specs, path @ ..] if top == "Rattle" && name != "std" && specs == "specs" => (name.clone(), path),
+        _ => return Module::Library(words.join(".")),
     };
-    let name = name.strip_suffix("·specs").unwrap_or(name).to_string();
-    match words.get(1..) {
-        Some([specs, declared, path @ ..]) if specs == "specs" && declared == "declared" => match path {
-            [path @ .., last] if last == "the-variants" => Module::Variants(name, path.join(".")),
-            _ => Module::Declared(name, path.join(".")),
-        },
-        Some([specs, path @ ..]) if specs == "specs" => Module::Specs(name, path.join(".")),
-        _ => Module::Library(words.join(".")),
+    match path {
+        [declared, path @ .., last] if declared == "declared" && last == "TheVariants" => {
+            Module::Variants(name, path.join("."))
+        }
+        [declared, path @ ..] if declared == "declared" => Module::Declared(name, path.join(".")),
+        path => Module::Specs(name, path.join(".")),
     }
 }
 
@@ -189,30 +189,31 @@ pub enum Side {
 pub type Fixity = (usize, Side);
 
 /// The library's operators.
-const LIBRARY_FIXITIES: [(&str, usize, Side); 13] = [
-    ("_||_", 30, Side::Left),
-    ("_&&_", 35, Side::Left),
-    ("_≡_", 4, Side::None),
-    ("_≤_", 50, Side::None),
-    ("_<_", 50, Side::None),
-    ("_+_", 65, Side::Left),
-    ("_-_", 65, Side::Left),
-    ("_++_", 65, Side::Left),
-    ("_∷_", 67, Side::Right),
-    ("_*_", 70, Side::Left),
-    ("_/_", 70, Side::Left),
-    ("_%_", 70, Side::Left),
-    ("_^_", 75, Side::Right),
+const LIBRARY_FIXITIES: [(&str, usize, Side); 14] = [
+    ("◌||◌", 30, Side::Left),
+    ("◌&&◌", 35, Side::Left),
+    ("◌==◌", 40, Side::None),
+    ("◌≡◌", 4, Side::None),
+    ("◌≤◌", 50, Side::None),
+    ("◌<◌", 50, Side::None),
+    ("◌+◌", 65, Side::Left),
+    ("◌-◌", 65, Side::Left),
+    ("◌++◌", 65, Side::Left),
+    ("◌∷◌", 67, Side::Right),
+    ("◌*◌", 70, Side::Left),
+    ("◌/◌", 70, Side::Left),
+    ("◌%◌", 70, Side::Left),
+    ("◌^◌", 75, Side::Right),
 ];
 
 /// The library's constructors that are ordinary data here: `none` and `some`, then these.
 pub const POS: u32 = 2;
 pub const NEGSUC: u32 = 3;
 const LIBRARY_CONSTRUCTORS: [(&str, &str, usize); 4] = [
-    ("mathlib.Core.Option.none", "none", 0),
-    ("mathlib.Core.Option.some", "some", 1),
-    ("lib.IntN.pos", "pos", 1),
-    ("lib.IntN.negsuc", "negsuc", 1),
+    ("Rattle.std.proofs.Math.Option.none", "none", 0),
+    ("Rattle.std.proofs.Math.Option.some", "some", 1),
+    ("Rattle.std.specs.Prelude.pos", "pos", 1),
+    ("Rattle.std.specs.Prelude.negsuc", "negsuc", 1),
 ];
 
 /// All definitions.
@@ -660,7 +661,7 @@ impl Texts {
 
     /// How an infix name binds, where it is one in this file.
     pub fn fixity(&self, file: usize, name: &str) -> Option<Fixity> {
-        let whole = format!("_{name}_");
+        let whole = format!("◌{name}◌");
         match self.meaning(file, &whole)? {
             Entity::Definition(d) => self.files[self.definitions[d].file]
                 .fixities
