@@ -1,5 +1,5 @@
 //! The definitions of crates/*/specs, run as text beside recorded answers of the reference (compare/definitions): an interpreter of the
-//! part of antt that definitions are written in. It takes what `solveOf` (crates/calls/specs/Solve.antt), `passOf`
+//! part of antt that definitions are written in. It takes what `solve_of` (crates/calls/specs/Solve.antt), `pass_of`
 //! (crates/pass/specs/Pass.antt) and the leaves and calls of `LEAVES` (rows.rs) reach, by resolving names, and fails with file, line and token
 //! at what it does not understand.
 //! `text.rs` reads files and scopes, `parse.rs` terms and patterns, `program.rs` makes code of them, `run.rs` runs it, `rows.rs` has the
@@ -8,8 +8,8 @@
 //! What is native, and so not run as text:
 //! - the library's own things that the definitions are built from (`LIBRARY` and `library_constant` in run.rs): whole numbers with `suc`,
 //!   `+ - * / % ^ min max` and their three comparisons; truth values with `not`, `cond`, `&&`, `||`; lists with `∷`, `++`, `map`, `reverse`,
-//!   `length`, `getD`, `set`, `replicate`, `take`, `drop`; options and integers; and of lib.Ieee the format binary64, the five operations, the
-//!   four comparisons, `neg`, `ofBits`, `toBits`, `ofInt`, `toUnsigned`, `toSigned`, `size`, `minus`, and the three forms of a value. They are not this
+//!   `length`, `get_or`, `set`, `replicate`, `take`, `drop`; options and integers; and of lib.Ieee the format binary64, the five operations, the
+//!   four comparisons, `neg`, `of_bits`, `to_bits`, `of_int`, `to_unsigned`, `to_signed`, `size`, `minus`, and the three forms of a value. They are not this
 //!   project's definitions: doubles are the processor's, whole numbers of up to 128 bits (a larger one stops the run);
 //! - `tab` (crates/linear_cells/specs/Region.antt), since its text takes n^2 steps. At the start its text is run beside the native one
 //!   for lengths up to 39, and the run stops where they differ.
