@@ -1,9 +1,21 @@
 -- Rows of recorded words: doubles, corners and counts, and how far a list of rows has been read. Definitions only.
-use Rattle.std.specs.Prelude.{ℕ, zero, suc, ◌+◌, ◌-◌, ◌%◌, ◌^◌, Bool, true, false, cond, List, [], ◌∷◌, ◌++◌, length, take, replicate, ℤ, from_bits, nat_lt, to_bits, Float}
+use Rattle.std.specs.Prelude.{◌≡◌, ℕ, zero, suc, ◌+◌, ◌-◌, ◌%◌, ◌^◌, ◌≤◌, Bool, true, false, cond, List, [], ◌∷◌, ◌++◌, length, take, replicate, from_bits, nat_lt, to_bits, Float}
+use Rattle.std.specs.Io.KnownBytes.{Consumes}
+use Rattle.std.specs.declared.option.Option.{Option}
+use Rattle.std.specs.Fmt.{decimal}
+use lib.Chars.{codes}
 use Rattle.std.specs.Float.{binary64}
 use Rattle.float.specs.Double.{lit}
 use Rattle.replay.specs.Words.{word_at, same_double}
 use Rattle.replay.specs.declared.rows.Reading.{Reading}
+
+-- n numbers stand at the front of a list
+abbrev pub IsPrefixLen : ℕ → List ℕ → Type 0
+IsPrefixLen n xs = (n ≤ length xs) × (n ≡ length (take n xs))
+
+-- what a reader lost, where its bytes are known, stands at the front of a list
+abbrev pub LosesFront : Option (List ℕ) → Option (List ℕ) → List ℕ → Type 0
+LosesFront old new xs = (n : ℕ) × (n ≤ length xs) × Consumes old new (take n xs)
 
 -- f 0, f 1, .. , as many as are asked for
 unfoldable pub up_to : {A : Type 0} → (ℕ → A) → ℕ → List A
@@ -62,17 +74,21 @@ any_of f (suc i) = cond (any_of f i) true (f i)
 -- ---- a list that is being read
 
 -- nothing read yet
-abbrev pub begun : ℤ → Reading
-begun fd = record { fd = fd; left = 2 ^ 64 - 1; recorded = 0; differ = 0 }
+abbrev pub begun : Reading
+begun = record { left = 2 ^ 64 - 1; recorded = 0; differ = 0 }
 
 -- nothing left
 abbrev pub ended_at : Reading → Reading
-ended_at t = record { fd = t.fd; left = 0; recorded = t.recorded; differ = t.differ }
+ended_at t = record { left = 0; recorded = t.recorded; differ = t.differ }
 
 -- a row that is not judged
 abbrev pub passed_by : Reading → Reading
-passed_by t = record { fd = t.fd; left = t.left - 1; recorded = t.recorded; differ = t.differ }
+passed_by t = record { left = t.left - 1; recorded = t.recorded; differ = t.differ }
 
 -- a row more, which holds or differs
 abbrev pub judged_by : Bool → Reading → Reading
-judged_by b t = record { fd = t.fd; left = t.left - 1; recorded = next t.recorded; differ = cond b t.differ (next t.differ) }
+judged_by b t = record { left = t.left - 1; recorded = next t.recorded; differ = cond b t.differ (next t.differ) }
+
+-- the line that tells of it: the name, how many rows were judged, and how many of those differ
+abbrev pub line_of : List ℕ → Reading → List ℕ
+line_of name t = name ++ (codes " " ++ (decimal t.recorded ++ (codes " recorded, " ++ (decimal t.differ ++ codes " differ\n"))))

@@ -1,17 +1,24 @@
 // Recorded answers, for programs that replay them: a text of words, each 16 lowercase hex digits
 // and one byte that parts it from the next (a blank or a line feed).
 //
-// A program begins a list by `rows::begin`, reads it row by row, takes the words out by `word`, compares by
+// A program opens a list by `open`, begins it by `rows::begin`, reads it row by row, takes the words out by `word`, compares by
 // `same_double`, judges each row by `rows::judged`, and prints its counts by `report`. Module `rows` has what
 // rows of doubles and corners need.
 #![tactic(auto)]
 
 pub mod rows;
 
-ghost use Rattle.std.specs.Prelude.{◌≡◌, ◌<◌, slice_index};
+ghost use Rattle.std.specs.Prelude.{◌≡◌, ◌<◌, IfOk, OnErr, OnOk, length, slice_index, take};
+ghost use Rattle.std.specs.Io.KnownBytes.{Appends, Consumes, IsAtEnd};
+ghost use Rattle.std.specs.Fmt.{decimal};
+ghost use Rattle.replay.specs.Rows.{IsPrefixLen, LosesFront, line_of};
 ghost use Rattle.replay.specs.Words.{digit_of, word_at, same_double, nan_pattern};
 
 use rows::Reading;
+use std::fs::File;
+use std::io;
+use std::io::{Read, Write};
+use std::rt::Files;
 
 // b'a' less the 10 that it stands for.
 const HEX_A: u8 = 87;
@@ -76,32 +83,56 @@ pub fn same_double(a: u64, b: u64) -> bool
     a == b
 }
 
-// Opens a file of the folder that the program runs in, and answers a descriptor; where there is none, says so and answers -1.
-fn open(name: &[u8]) -> i32 {
-    let fd = os::open_read(name);
-    if fd < 0 {
-        os::fail(name);
+// Opens a file of the folder that the program runs in; where there is none, says so, and answers the error.
+pub fn open<R: Files + Eprint>(rt: &R, name: &str) -> io::Result<R::File> {
+    match File::open(rt, name) {
+        Ok(file) => Ok(file),
+        Err(error) => {
+            eprintln!(rt; "{name}: {error}")?;
+            Err(error)
+        }
     }
-    fd
 }
 
-fn put_decimal(n: u64) {
-    let mut out = [0u8; 20];
-    let length = io::decimal(n, &mut out);
-    io::write_all(libc::STDOUT_FILENO, &out[..length]);
+// Reads until the slice is full or the input has ended. How many bytes now stand at its front: fewer than it holds only where the input has ended.
+// After an error the slice holds what had been read before it.
+pub fn read_full<R: Read>(reader: &mut R, buf: &mut [u8]) -> io::Result<usize>
+    ensures count { IfOk result (λ n. IsPrefixLen n buf.new) }
+    ensures bytes { IfOk result (λ n. Consumes (R.remaining reader.old) (R.remaining reader.new) (take n buf.new)) }
+    ensures ended { IfOk result (λ n. n < length buf.old → IsAtEnd (R.remaining reader.new)) }
+    ensures err { OnErr result (LosesFront (R.remaining reader.old) (R.remaining reader.new) buf.new) }
+{
+    let mut done = 0;
+    while done < buf.len() {
+        let n = reader.read(&mut buf[done..])?;
+        if n == 0 {
+            return Ok(done);
+        }
+        done += n;
+    }
+    Ok(done)
 }
 
-fn print(text: &[u8]) {
-    io::write_all(libc::STDOUT_FILENO, text);
+fn put_decimal<W: Write>(out: &mut W, n: u64) -> io::Result<()>
+    ensures { OnOk result (Appends (W.contents out.old) (W.contents out.new) (decimal n)) }
+{
+    write!(out, "{n}")
 }
 
-// Prints `NAME N recorded, M differ` as one line, and closes the list.
-pub fn report(name: &[u8], at: Reading) {
-    print(name);
-    print(b" ");
-    put_decimal(at.recorded);
-    print(b" recorded, ");
-    put_decimal(at.differ);
-    print(b" differ\n");
-    libc::close(at.fd);
+fn print<W: Write>(out: &mut W, text: &[u8]) -> io::Result<()>
+    ensures { OnOk result (Appends (W.contents out.old) (W.contents out.new) text.now) }
+{
+    out.write_all(text)
+}
+
+// Prints `NAME N recorded, M differ` as one line.
+pub fn report<W: Write>(out: &mut W, name: &[u8], at: Reading) -> io::Result<()>
+    ensures { OnOk result (Appends (W.contents out.old) (W.contents out.new) (line_of name.now at)) }
+{
+    print(out, name)?;
+    print(out, b" ")?;
+    put_decimal(out, at.recorded)?;
+    print(out, b" recorded, ")?;
+    put_decimal(out, at.differ)?;
+    print(out, b" differ\n")
 }

@@ -1,18 +1,26 @@
 // Rows of a list, each of so many words: the next row of a file; doubles, corners and counts out of a row; slices compared; whether a row has a NaN or
 // some word; and how far a program has read a list.
-ghost use Rattle.std.specs.Prelude.{◌≡◌, ◌+◌, ◌*◌, ◌<◌, ◌≤◌, true, false, length, nat_eq};
+ghost use Rattle.std.specs.Prelude.{◌≡◌, ◌+◌, ◌*◌, ◌<◌, ◌≤◌, true, false, length, take, drop, nat_eq, IfOk, OnErr};
 ghost use Rattle.std.proofs.lemmas.List.Edits.{sets};
-ghost use Rattle.io.specs.Counts.{IsPrefixLen};
+ghost use Rattle.std.specs.Io.KnownBytes.{Consumes, IsAtEnd};
 ghost use Rattle.replay.specs.Words.{word_at, nan_pattern};
-ghost use Rattle.replay.specs.Rows.{up_to, double_at, corner_at, at_most, same_as, same_all, any_of, begun, ended_at, passed_by, judged_by};
+ghost use Rattle.replay.specs.Rows.{IsPrefixLen, LosesFront, up_to, double_at, corner_at, at_most, same_as, same_all, any_of, begun, ended_at, passed_by, judged_by};
 
-// The next row of so many words, at the front of a slice. How many bytes were read: 0 where the list has ended.
-pub fn next(fd: i32, words: usize, row: &mut [u8]) -> usize
+use std::io;
+use std::io::Read;
+
+// The next row of so many words, at the front of a slice. How many bytes were read: 0 where the list has ended, and fewer than the row has only where it ends within
+// the row. What lies behind the row is left as it was, also after an error, which says that the file could not be read.
+pub fn next<R: Read>(file: &mut R, words: usize, row: &mut [u8]) -> io::Result<usize>
     requires { 17 * words ≤ length row.old }
-    ensures { IsPrefixLen result row.new × (result ≤ 17 * words) }
+    ensures count { IfOk result (λ n. IsPrefixLen n row.new × (n ≤ 17 * words)) }
+    ensures bytes { IfOk result (λ n. Consumes (R.remaining file.old) (R.remaining file.new) (take n row.new)) }
+    ensures ended { IfOk result (λ n. n < 17 * words → IsAtEnd (R.remaining file.new)) }
+    ensures err { OnErr result (LosesFront (R.remaining file.old) (R.remaining file.new) row.new) }
+    ensures behind { drop (17 * words) row.new ≡ drop (17 * words) row.old }
 {
     let end = 17 * words;
-    io::read_full(fd, &mut row[0..end])
+    crate::read_full(file, &mut row[0..end])
 }
 
 // The double that is word k of a row.
@@ -142,22 +150,20 @@ pub fn has_nan(row: &[u8], k: usize, n: usize) -> bool
     false
 }
 
-// A list that is being read: its file, how many more rows may be read, how many were judged, and how many of those differ. What is left falls with each row and is 0
+// A list that is being read: how many more rows may be read, how many were judged, and how many of those differ. What is left falls with each row and is 0
 // once the list has ended, so that a loop over a list is known to end.
 #[derive(Clone, Copy)]
 pub struct Reading {
-    pub fd: i32,
     pub left: u64,
     pub recorded: u64,
     pub differ: u64,
 }
 
-// Opens a list of the folder that the program runs in; where there is none, says so, and no row will be read.
-pub fn begin(name: &[u8]) -> Reading
-    ensures { result ≡ begun result.fd }
+// A list of which nothing is read yet.
+pub fn begin() -> Reading
+    ensures { result ≡ begun }
 {
     Reading {
-        fd: crate::open(name),
         left: u64::MAX,
         recorded: 0,
         differ: 0,
@@ -170,7 +176,6 @@ pub fn ended(at: Reading) -> Reading
     ensures { (result ≡ ended_at at) × (result.left < at.left) }
 {
     Reading {
-        fd: at.fd,
         left: 0,
         recorded: at.recorded,
         differ: at.differ,
@@ -183,7 +188,6 @@ pub fn passed(at: Reading) -> Reading
     ensures { (result ≡ passed_by at) × (result.left < at.left) }
 {
     Reading {
-        fd: at.fd,
         left: at.left - 1,
         recorded: at.recorded,
         differ: at.differ,
@@ -200,14 +204,12 @@ pub fn judged(at: Reading, holds: bool) -> Reading
     let differ = at.differ;
     if holds {
         return Reading {
-            fd: at.fd,
             left,
             recorded,
             differ,
         };
     }
     Reading {
-        fd: at.fd,
         left,
         recorded,
         differ: std::num::wrapping_add_u64(differ, 1),

@@ -3,11 +3,14 @@
 // which the gate compares with the file stdout.
 #![tactic(auto)]
 
-ghost use Rattle.std.specs.Prelude.{◌≡◌, ◌<◌, ◌≤◌};
+ghost use Rattle.std.specs.Prelude.{◌≡◌, ◌<◌, ◌≤◌, IfOk};
 ghost use Rattle.replay_leaves.specs.Leaves.{width_of, holds_of};
 
 use replay::rows;
 use replay::rows::Reading;
+use std::io;
+use std::io::Read;
+use std::rt::Files;
 
 // The words of a row: `x sin cos` for the functions 0 and 1, `y x atan2` for 2, `x sqrt` for 3.
 fn width(function: u64) -> usize
@@ -39,30 +42,36 @@ fn holds(row: &[u8], function: u64) -> bool
 }
 
 // The next row of a list.
-fn some(at: Reading, function: u64) -> Reading
+fn some<F: Read>(file: &mut F, at: Reading, function: u64) -> io::Result<Reading>
     requires { 0 < at.left }
-    ensures { result.left < at.left }
+    ensures { IfOk result (λ next. next.left < at.left) }
 {
     let mut row = [0u8; 4352];
-    let n = rows::next(at.fd, width(function), &mut row);
+    let n = rows::next(file, width(function), &mut row)?;
     if n == 0 {
-        return rows::ended(at);
+        return Ok(rows::ended(at));
     }
-    rows::judged(at, holds(&row[..n], function))
+    Ok(rows::judged(at, holds(&row[..n], function)))
 }
 
 // The whole list.
-fn all_of(list: &[u8], name: &[u8], function: u64) {
-    let mut at = rows::begin(list);
+fn all_of<R: Files + Print + Eprint>(
+    rt: &R,
+    list: &str,
+    name: &[u8],
+    function: u64,
+) -> io::Result<()> {
+    let mut file = replay::open(rt, list)?;
+    let mut at = rows::begin();
     while at.left > 0 {
-        at = some(at, function);
+        at = some(&mut file, at, function)?;
     }
-    replay::report(name, at);
+    replay::report(&mut io::writer(rt), name, at)
 }
 
-fn main() {
-    all_of(b"sincos", b"sin", 0);
-    all_of(b"sincos", b"cos", 1);
-    all_of(b"atan2", b"atan2", 2);
-    all_of(b"sqrt", b"sqrt", 3);
+fn main(rt: HostRuntime) -> io::Result<()> {
+    all_of(&rt, "sincos", b"sin", 0)?;
+    all_of(&rt, "sincos", b"cos", 1)?;
+    all_of(&rt, "atan2", b"atan2", 2)?;
+    all_of(&rt, "sqrt", b"sqrt", 3)
 }

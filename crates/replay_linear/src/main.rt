@@ -3,13 +3,16 @@
 // with the file stdout.
 #![tactic(auto)]
 
-ghost use Rattle.std.specs.Prelude.{◌≡◌, ◌+◌, ◌<◌, ◌≤◌, length};
+ghost use Rattle.std.specs.Prelude.{◌≡◌, ◌+◌, ◌<◌, ◌≤◌, IfOk, length};
 ghost use Rattle.replay_linear.specs.Verdict.{told_as, of_reason, of_answer, of_normalized, of_checked, end_in};
 
 use linear_conjugate_gradient::{Answer, Normalized, Reason};
 use linear_layers::Checked;
 use replay::rows;
 use replay::rows::Reading;
+use std::io;
+use std::io::Read;
+use std::rt::Files;
 
 // The words of a recorded system, and where its parts begin.
 const WIDTH: usize = 240;
@@ -232,27 +235,28 @@ fn holds(row: &[u8]) -> bool {
 }
 
 // The next system.
-fn some(at: Reading) -> Reading
+fn some<F: Read>(file: &mut F, at: Reading) -> io::Result<Reading>
     requires { 0 < at.left }
-    ensures { result.left < at.left }
+    ensures { IfOk result (λ next. next.left < at.left) }
 {
     let mut row = [0u8; 4352];
-    let n = rows::next(at.fd, WIDTH, &mut row);
+    let n = rows::next(file, WIDTH, &mut row)?;
     if n == 0 {
-        return rows::ended(at);
+        return Ok(rows::ended(at));
     }
-    rows::judged(at, holds(&row[..n]))
+    Ok(rows::judged(at, holds(&row[..n])))
 }
 
 // The whole list.
-fn all_of(name: &[u8]) {
-    let mut at = rows::begin(name);
+fn all_of<R: Files + Print + Eprint>(rt: &R, name: &str) -> io::Result<()> {
+    let mut file = replay::open(rt, name)?;
+    let mut at = rows::begin();
     while at.left > 0 {
-        at = some(at);
+        at = some(&mut file, at)?;
     }
-    replay::report(name, at);
+    replay::report(&mut io::writer(rt), name.as_bytes(), at)
 }
 
-fn main() {
-    all_of(b"systems");
+fn main(rt: HostRuntime) -> io::Result<()> {
+    all_of(&rt, "systems")
 }

@@ -5,12 +5,15 @@
 
 mod floors;
 
-ghost use Rattle.std.specs.Prelude.{◌≡◌, ◌<◌, ◌≤◌};
+ghost use Rattle.std.specs.Prelude.{◌≡◌, ◌<◌, ◌≤◌, IfOk};
 ghost use Rattle.complex.specs.Guidance.{mid_angle};
 ghost use Rattle.replay.specs.Rows.{double_at, same_as};
 
 use replay::rows;
 use replay::rows::Reading;
+use std::io;
+use std::io::Read;
+use std::rt::Files;
 
 // The words of a row of each list.
 fn width(list: u64) -> usize
@@ -43,28 +46,29 @@ fn holds(row: &[u8], list: u64) -> bool {
 }
 
 // The next row of a list.
-fn some(at: Reading, list: u64) -> Reading
+fn some<F: Read>(file: &mut F, at: Reading, list: u64) -> io::Result<Reading>
     requires { 0 < at.left }
-    ensures { result.left < at.left }
+    ensures { IfOk result (λ next. next.left < at.left) }
 {
     let mut row = [0u8; 4352];
-    let n = rows::next(at.fd, width(list), &mut row);
+    let n = rows::next(file, width(list), &mut row)?;
     if n == 0 {
-        return rows::ended(at);
+        return Ok(rows::ended(at));
     }
-    rows::judged(at, holds(&row[..n], list))
+    Ok(rows::judged(at, holds(&row[..n], list)))
 }
 
 // The whole list.
-fn all_of(name: &[u8], list: u64) {
-    let mut at = rows::begin(name);
+fn all_of<R: Files + Print + Eprint>(rt: &R, name: &str, list: u64) -> io::Result<()> {
+    let mut file = replay::open(rt, name)?;
+    let mut at = rows::begin();
     while at.left > 0 {
-        at = some(at, list);
+        at = some(&mut file, at, list)?;
     }
-    replay::report(name, at);
+    replay::report(&mut io::writer(rt), name.as_bytes(), at)
 }
 
-fn main() {
-    all_of(b"refinements", 0);
-    all_of(b"guidance", 1);
+fn main(rt: HostRuntime) -> io::Result<()> {
+    all_of(&rt, "refinements", 0)?;
+    all_of(&rt, "guidance", 1)
 }

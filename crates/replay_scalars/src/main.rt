@@ -6,10 +6,13 @@
 mod floors;
 mod numbers;
 
-ghost use Rattle.std.specs.Prelude.{◌<◌, ◌≤◌};
+ghost use Rattle.std.specs.Prelude.{◌<◌, ◌≤◌, IfOk};
 
 use replay::rows;
 use replay::rows::Reading;
+use std::io;
+use std::io::Read;
+use std::rt::Files;
 
 // The words of a row of each list.
 fn width(list: u64) -> usize
@@ -43,36 +46,37 @@ fn holds(row: &[u8], list: u64) -> bool {
 }
 
 // The next row of a list.
-fn some(at: Reading, list: u64) -> Reading
+fn some<F: Read>(file: &mut F, at: Reading, list: u64) -> io::Result<Reading>
     requires { 0 < at.left }
-    ensures { result.left < at.left }
+    ensures { IfOk result (λ next. next.left < at.left) }
 {
     let mut row = [0u8; 4352];
-    let n = rows::next(at.fd, width(list), &mut row);
+    let n = rows::next(file, width(list), &mut row)?;
     if n == 0 {
-        return rows::ended(at);
+        return Ok(rows::ended(at));
     }
-    rows::judged(at, holds(&row[..n], list))
+    Ok(rows::judged(at, holds(&row[..n], list)))
 }
 
 // The whole list.
-fn all_of(name: &[u8], list: u64) {
-    let mut at = rows::begin(name);
+fn all_of<R: Files + Print + Eprint>(rt: &R, name: &str, list: u64) -> io::Result<()> {
+    let mut file = replay::open(rt, name)?;
+    let mut at = rows::begin();
     while at.left > 0 {
-        at = some(at, list);
+        at = some(&mut file, at, list)?;
     }
-    replay::report(name, at);
+    replay::report(&mut io::writer(rt), name.as_bytes(), at)
 }
 
-fn main() {
-    all_of(b"mass", 0);
-    all_of(b"dirichlet", 1);
-    all_of(b"diagonal", 2);
-    all_of(b"cross", 3);
-    all_of(b"wrap", 4);
-    all_of(b"weight", 5);
-    all_of(b"geometry", 6);
-    all_of(b"transport", 7);
-    all_of(b"probe", 8);
-    all_of(b"singular", 9);
+fn main(rt: HostRuntime) -> io::Result<()> {
+    all_of(&rt, "mass", 0)?;
+    all_of(&rt, "dirichlet", 1)?;
+    all_of(&rt, "diagonal", 2)?;
+    all_of(&rt, "cross", 3)?;
+    all_of(&rt, "wrap", 4)?;
+    all_of(&rt, "weight", 5)?;
+    all_of(&rt, "geometry", 6)?;
+    all_of(&rt, "transport", 7)?;
+    all_of(&rt, "probe", 8)?;
+    all_of(&rt, "singular", 9)
 }

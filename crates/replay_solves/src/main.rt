@@ -5,11 +5,14 @@
 
 mod row;
 
-ghost use Rattle.std.specs.Prelude.{◌≡◌, ◌<◌, ◌≤◌, length};
+ghost use Rattle.std.specs.Prelude.{◌≡◌, ◌<◌, ◌≤◌, IfOk, length};
 ghost use Rattle.replay_solves.specs.Row.{wanted_in};
 
 use replay::rows;
 use replay::rows::Reading;
+use std::io;
+use std::io::Read;
+use std::rt::Files;
 
 // Whether a row is one of those to judge: 0 each, 1 with an angle -0 in the answer, 2 with a NaN given.
 fn wanted(row: &[u8], kind: u64) -> bool
@@ -25,50 +28,57 @@ fn wanted(row: &[u8], kind: u64) -> bool
 }
 
 // The row of so many words whose first is at the front of a slice. A word 0 where a row would begin stands between two rows.
-fn row_of(at: Reading, kind: u64, words: usize, row: &mut [u8]) -> Reading
+fn row_of<F: Read>(
+    file: &mut F,
+    at: Reading,
+    kind: u64,
+    words: usize,
+    row: &mut [u8],
+) -> io::Result<Reading>
     requires { (0 < at.left) × ((words ≤ 256) × (length row.old ≡ 4352)) }
-    ensures { result.left < at.left }
+    ensures { IfOk result (λ next. next.left < at.left) }
 {
     if words == 0 {
-        return rows::passed(at);
+        return Ok(rows::passed(at));
     }
     let end = 17 * words;
-    let n = io::read_full(at.fd, &mut row[17..end]);
+    let n = replay::read_full(file, &mut row[17..end])?;
     let read = 17 + n;
     if !wanted(&row[0..read], kind) {
-        return rows::passed(at);
+        return Ok(rows::passed(at));
     }
-    rows::judged(at, row::holds(&row[0..read]))
+    Ok(rows::judged(at, row::holds(&row[0..read])))
 }
 
 // The next row of a list, which says how long it is.
-fn some(at: Reading, kind: u64) -> Reading
+fn some<F: Read>(file: &mut F, at: Reading, kind: u64) -> io::Result<Reading>
     requires { 0 < at.left }
-    ensures { result.left < at.left }
+    ensures { IfOk result (λ next. next.left < at.left) }
 {
     let mut row = [0u8; 4352];
-    let n = rows::next(at.fd, 1, &mut row);
+    let n = rows::next(file, 1, &mut row)?;
     if n == 0 {
-        return rows::ended(at);
+        return Ok(rows::ended(at));
     }
     let words = rows::count(&row, 0, 256);
-    row_of(at, kind, words, &mut row)
+    row_of(file, at, kind, words, &mut row)
 }
 
 // Those rows of a list that are of a kind.
-fn all_of(list: &[u8], name: &[u8], kind: u64) {
-    let mut at = rows::begin(list);
+fn all_of<R: Files + Print + Eprint>(rt: &R, list: &str, name: &[u8], kind: u64) -> io::Result<()> {
+    let mut file = replay::open(rt, list)?;
+    let mut at = rows::begin();
     while at.left > 0 {
-        at = some(at, kind);
+        at = some(&mut file, at, kind)?;
     }
-    replay::report(name, at);
+    replay::report(&mut io::writer(rt), name, at)
 }
 
-fn main() {
-    all_of(b"passes", b"passes", 0);
-    all_of(b"passes", b"passes with an angle -0", 1);
-    all_of(b"passes", b"passes with a NaN given", 2);
-    all_of(b"solves", b"solves", 0);
-    all_of(b"solves", b"solves with an angle -0", 1);
-    all_of(b"solves", b"solves with a NaN given", 2);
+fn main(rt: HostRuntime) -> io::Result<()> {
+    all_of(&rt, "passes", b"passes", 0)?;
+    all_of(&rt, "passes", b"passes with an angle -0", 1)?;
+    all_of(&rt, "passes", b"passes with a NaN given", 2)?;
+    all_of(&rt, "solves", b"solves", 0)?;
+    all_of(&rt, "solves", b"solves with an angle -0", 1)?;
+    all_of(&rt, "solves", b"solves with a NaN given", 2)
 }

@@ -2,10 +2,13 @@
 // A program: it prints how many there are and how many differ, which the gate compares with the file stdout.
 #![tactic(auto)]
 
-ghost use Rattle.std.specs.Prelude.{◌<◌, ◌≤◌, length};
+ghost use Rattle.std.specs.Prelude.{◌<◌, ◌≤◌, IfOk, length};
 
 use replay::rows;
 use replay::rows::Reading;
+use std::io;
+use std::io::Read;
+use std::rt::Files;
 
 // What the bytes behind the answer hold before and after.
 const MARK: u8 = 170;
@@ -38,64 +41,71 @@ fn marked(out: &[u8], n: usize) -> bool {
 fn prints(text: &[u8], must: &[u8]) -> bool {
     let mut out = [MARK; 29500];
     let n = text_answer::answer(text, &mut out);
-    if check::same(&out[..n], must) {
+    if &out[..n] == must {
         return marked(&out, n);
     }
     false
 }
 
 // An entry of so many bytes each, over slices for the text and what it must print.
-fn entry_over(fd: i32, text: usize, must: usize, a: &mut [u8], b: &mut [u8]) -> bool
+fn entry_over<F: Read>(
+    file: &mut F,
+    text: usize,
+    must: usize,
+    a: &mut [u8],
+    b: &mut [u8],
+) -> io::Result<bool>
     requires { (text ≤ length a.old) × (must ≤ length b.old) }
 {
-    let n = io::read_full(fd, &mut a[0..text]);
-    let m = io::read_full(fd, &mut b[0..must]);
+    let n = replay::read_full(file, &mut a[0..text])?;
+    let m = replay::read_full(file, &mut b[0..must])?;
     if n != text {
-        return false;
+        return Ok(false);
     }
     if m != must {
-        return false;
+        return Ok(false);
     }
     let given: &[u8] = a;
     let printed: &[u8] = b;
-    prints(&given[0..text], &printed[0..must])
+    Ok(prints(&given[0..text], &printed[0..must]))
 }
 
-fn entry(fd: i32, text: usize, must: usize) -> bool
+fn entry<F: Read>(file: &mut F, text: usize, must: usize) -> io::Result<bool>
     requires { (text ≤ 20000) × (must ≤ 29500) }
 {
     let mut a = [0u8; 20000];
     let mut b = [0u8; 29500];
-    entry_over(fd, text, must, &mut a, &mut b)
+    entry_over(file, text, must, &mut a, &mut b)
 }
 
 // The next entry: a line with its two lengths, the text, what it must print. A list that ends within such a line has one that differs.
-fn some(at: Reading) -> Reading
+fn some<F: Read>(file: &mut F, at: Reading) -> io::Result<Reading>
     requires { 0 < at.left }
-    ensures { result.left < at.left }
+    ensures { IfOk result (λ next. next.left < at.left) }
 {
     let mut head = [0u8; 13];
-    let n = io::read_full(at.fd, &mut head);
+    let n = replay::read_full(file, &mut head)?;
     if n == 0 {
-        return rows::ended(at);
+        return Ok(rows::ended(at));
     }
     if n != 13 {
-        return rows::judged(at, false);
+        return Ok(rows::judged(at, false));
     }
     let text = length_in(&head[0..6], 20000);
     let must = length_in(&head[6..12], 29500);
-    rows::judged(at, entry(at.fd, text, must))
+    Ok(rows::judged(at, entry(file, text, must)?))
 }
 
 // The whole list.
-fn all_of(name: &[u8]) {
-    let mut at = rows::begin(name);
+fn all_of<R: Files + Print + Eprint>(rt: &R, name: &str) -> io::Result<()> {
+    let mut file = replay::open(rt, name)?;
+    let mut at = rows::begin();
     while at.left > 0 {
-        at = some(at);
+        at = some(&mut file, at)?;
     }
-    replay::report(name, at);
+    replay::report(&mut io::writer(rt), name.as_bytes(), at)
 }
 
-fn main() {
-    all_of(b"texts");
+fn main(rt: HostRuntime) -> io::Result<()> {
+    all_of(&rt, "texts")
 }
