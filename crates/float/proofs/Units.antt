@@ -19,6 +19,7 @@ drop-one k = omega arith
 not-zero : (k : ℕ) → suc k ≡ 0 → ⊥
 not-zero k h = omega arith
 
+-- a finite value of the sign s, the exponent's field e and the digits t
 fields-value : (f : Format) (s : Bool) (e t : ℕ) → T (is_finite (of_fields f s e t)) → HasValue (of_fields f s e t) s ((t + cond (eqb e 0) 0 (hid f)) * 2 ^ (e - 1)) (2 ^ low f)
 unfolding of_fields
 fields-value f s zero t h = subst (λ (z : ℕ). HasValue (odd (prec f) s t 0 (low f)) s (z * 2 ^ 0) (2 ^ low f)) (sym (add-zero t)) (odd_sign (prec f) s t 0 (low f))
@@ -33,19 +34,25 @@ fields-value f s (suc k) t h =
     go true false g e = absurd g
     go false c g e = subst (λ (z : ℕ). HasValue (odd (prec f) s (hid f + t) k (low f)) s z (2 ^ low f)) (sym e) (odd_sign (prec f) s (hid f + t) k (low f))
 
+-- the same of a pattern
 bits-value : (b : ℕ) → T (is_finite (of_bits binary64 b))
     → HasValue (of_bits binary64 b) (leb (top binary64) b) ((b % hid binary64 + cond (eqb (b % top binary64 / hid binary64) 0) 0 (hid binary64)) * 2 ^ (b % top binary64 / hid binary64 - 1)) (2 ^ low binary64)
 unfolding of_bits
 bits-value b h = fields-value binary64 (leb (top binary64) b) (b % top binary64 / hid binary64) (b % hid binary64) h
 
--- a finite value, by its pattern
-pub own-units : (x : Float) → T (fits binary64 x) → T (is_finite x) → HasValue x (leb 0x8000_0000_0000_0000 (to_bits binary64 x)) (significand x * 2 ^ places x) (2 ^ low binary64)
+-- whether the pattern has the sign's bit
+abbrev pub negative : Float → Bool
+negative x = leb 0x8000_0000_0000_0000 (to_bits binary64 x)
+
+-- a finite value is its significand, doubled as many times as it has places, in units of the smallest value
+pub own-units : (x : Float) → T (fits binary64 x) → T (is_finite x) → HasValue x (negative x) (significand x * 2 ^ places x) (2 ^ low binary64)
 own-units x t h =
     let e : of_bits binary64 (to_bits binary64 x) ≡ x = of_bits-to_bits binary64 x t in
-    subst (λ (y : Float). HasValue y (leb 0x8000_0000_0000_0000 (to_bits binary64 x)) (significand x * 2 ^ places x) (2 ^ low binary64)) e
+    subst (λ (y : Float). HasValue y (negative x) (significand x * 2 ^ places x) (2 ^ low binary64)) e
     (bits-value (to_bits binary64 x) (subst (λ (y : Float). T (is_finite y)) (sym e) h))
 
 -- ---- products and remainders
+-- a product is rounded from any two fractions that equal its factors
 pub mul-units : (f : Format) (x y : Float) (a b c d : ℕ) → 0 < c → 0 < d → HasValue x false a c → HasValue y false b d → mul f x y ≡ round f false (a * b) (c * d)
 unfolding mul
 mul-units f nan y a b c d C D p q = absurd p
@@ -60,6 +67,7 @@ mul-units f (fin s m e) (fin t n g) a b c d C D p q =
     cross : (x y c d : ℕ) → x * y * (c * d) ≡ x * c * (y * d)
     cross x y c d = simp (mul_assoc, mul_left_comm)
 
+-- a remainder is rounded from that of the numbers of units
 pub rem-units : (f : Format) (x y : Float) (s t : Bool) (a b l : ℕ) → 0 < l → 0 < b → HasValue x s a l → HasValue y t b l → rem f x y ≡ round f s (a % b) l
 unfolding rem
 rem-units f nan y s t a b l L B p q = absurd p
@@ -84,7 +92,7 @@ rem-units f (fin u m e) (fin v n g) s t a b l L B p q =
     first_pos zero l z e h = absurd (omega (arith, zero-mul l))
     first_pos (suc x) l z e h = omega arith
 
--- a value of the format, by its value
+-- a fraction that equals a value of the format rounds to it
 pub own-round : (f : Format) (x : Float) (s : Bool) (a l : ℕ) → T (fits f x) → 0 < l → HasValue x s a l → round f s a l ≡ x
 own-round f nan s a l t L v = absurd v
 own-round f (inf u) s a l t L v = absurd v
@@ -92,6 +100,7 @@ own-round f (fin u m e) s a l t L v =
     ap (λ (z : Bool). round f z a l) (sym v.0) ∙ round_same f u a l (m * up e) (down e) L (down_pos e) (sym v.1) ∙ round-own f u m e t
 
 -- ---- the powers of two
+-- with an exponent's field below the highest a value is finite
 finite-odd : (d : ℕ) (s : Bool) (q k l : ℕ) → T (is_finite (odd d s q k l))
 unfolding odd
 finite-odd d s zero k l = tt
@@ -105,7 +114,7 @@ finite-fields f s (suc k) t h = subst (λ (b : Bool). T (is_finite (cond b (cond
     below : (k o : ℕ) → suc k < o → suc k ≡ o → ⊥
     below k o h e = omega arith
 
--- a pattern of the exponent's field e and the digits t, with no sign
+-- the pattern with no sign, of the exponent's field e and the digits t
 plain-fields : (b e t : ℕ) → b ≡ e * 2 ^ 52 + t → e < 2047 → t < 2 ^ 52 → of_bits binary64 b ≡ of_fields binary64 false e t
 unfolding of_bits
 plain-fields b e t h E T =
@@ -117,6 +126,7 @@ plain-fields b e t h E T =
     low-pattern : (b : ℕ) → b < 2 ^ 63 → leb (2 ^ 63) b ≡ false
     low-pattern b h = lt-leb (2 ^ 63) b h
 
+-- the unit, doubled j times, is 2 ^ j units
 pub power-value : (j : ℕ) → j < 2047 → HasValue (power_of j) false (2 ^ j) (2 ^ low binary64)
 power-value j h = go (ltb j 52) refl
   where
@@ -148,7 +158,7 @@ power-value j h = go (ltb j 52) refl
     go true l = few l
     go false l = many l
 
--- a whole number times a power
+-- a whole number of at most 53 digits times such a power
 pub scaled : (n j : ℕ) → n ≤ 2 ^ 53 → j < 2047 → mul binary64 (of_int binary64 (pos n)) (power_of j) ≡ round binary64 false (n * 2 ^ j) (2 ^ low binary64)
 unfolding of_int
 scaled n j h g =

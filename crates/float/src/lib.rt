@@ -1,5 +1,5 @@
-// Doubles: bit patterns, Rust's abs, max, min, recip, rem_euclid, round and is_finite, and casts, each total and equal to a
-// definition of specs/Double.antt. None has a `requires`: every pattern of 64 bits is an input.
+// Doubles: bit patterns, Rust's abs, max, min, recip, %, rem_euclid, round and is_finite, and casts, each total and equal to a
+// definition of specs/Double.antt. No public one has a `requires`: every pattern of 64 bits is an input.
 #![tactic(auto)]
 
 ghost use Rattle.std.specs.Prelude.{◌≡◌, ◌*◌, ◌%◌, ◌^◌, ◌<◌, pos, from_bits, to_bits};
@@ -120,7 +120,7 @@ fn remainder_of_doubled(p: u64, j: u64, q: u64) -> u64
     (rest << left) % q
 }
 
-// Rust's x % y, C's fmod, with no call of it: on the significands, as whole numbers. The sign is x's, also of a zero.
+// Rust's x % y, with no call of C's fmod: on the significands, as whole numbers. The sign is x's, also of a zero.
 pub fn remainder(x: f64, y: f64) -> f64
     ensures { result ≡ rem binary64 x y }
 {
