@@ -2,7 +2,7 @@
  *
  * godf: cross fields for triangle floors. The calls of libgodf.a, for C and C++ on x86-64 Linux.
  *
- *   cc program.c libgodf.a -lm          -lm: f64's remainder is C's fmod
+ *   cc program.c libgodf.a          no other library is needed
  *
  * dist/libgodf.a is a built archive; ./install puts it and these headers in place. Related headers: godf_words.h has refusals in words,
  * godf_floor.h a solve with structs instead of 21 parameters, godf.hpp a C++ wrapper that owns its memory.

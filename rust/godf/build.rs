@@ -101,6 +101,4 @@ fn main() {
         }
     }
     println!("cargo:rustc-link-lib=static=godf");
-    // f64's remainder is C's fmod
-    println!("cargo:rustc-link-lib=m");
 }

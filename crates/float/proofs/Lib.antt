@@ -7,3 +7,5 @@ pub mod Within
 pub mod Signed
 pub mod Above
 pub mod Far
+pub mod Units
+pub mod Significands

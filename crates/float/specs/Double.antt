@@ -1,6 +1,6 @@
 -- Doubles: the operations that every layer above writes with, and what the functions of this crate compute, over the binary64 values of `lib.Ieee`. Definitions only.
 -- There is one `nan`, so all NaNs are equal; every definition is total.
-use Rattle.std.specs.Prelude.{ℕ, ◌+◌, ◌-◌, ◌/◌, ◌%◌, Bool, true, false, cond, not, ◌||◌, pos, from_bits, nat_lt, to_bits, Float}
+use Rattle.std.specs.Prelude.{ℕ, ◌+◌, ◌-◌, ◌*◌, ◌/◌, ◌%◌, ◌^◌, Bool, true, false, cond, not, ◌||◌, pos, from_bits, nat_eq, nat_lt, to_bits, Float}
 use Rattle.std.specs.Float.{nan, inf, fin, binary64}
 use Rattle.std.specs.Float.Ieee.{add, sub, mul, div, rem, lt, le, eq, ne, neg, of_int, to_unsigned}
 
@@ -88,6 +88,18 @@ high x = to_bits binary64 x % 0x8000_0000_0000_0000 / 0x1_0000_0000
 -- the exponent's field: fdlibm's `(__HI(x) >> 20) & 0x7ff`
 abbrev pub field : Float → ℕ
 field x = to_bits binary64 x % 0x8000_0000_0000_0000 / 0x10_0000_0000_0000
+
+-- A finite value is its significand, a whole number below 2 ^ 53 with the leading digit where the exponent's field is not 0, doubled `places` times,
+-- in units of the smallest double, 2 ^ -1074
+abbrev pub significand : Float → ℕ
+significand x = to_bits binary64 x % 0x10_0000_0000_0000 + cond (nat_eq (field x) 0) 0 0x10_0000_0000_0000
+
+abbrev pub places : Float → ℕ
+places x = field x - 1
+
+-- that unit doubled j times, for a j up to 2046: below 2 ^ -1022 by the digits, and from there on by the exponent's field
+abbrev pub power_of : ℕ → Float
+power_of j = cond (nat_lt j 52) (lit (2 ^ j)) (lit ((j - 51) * 0x10_0000_0000_0000))
 
 -- the sign's bit: 1 where fdlibm's `__HI(x) < 0`
 abbrev pub sign : Float → ℕ

@@ -1,11 +1,11 @@
-// Doubles: bit patterns, Rust's abs, max, min, recip, rem_euclid, round and is_finite, and casts, each total and equal to a
-// definition of specs/Double.antt. None has a `requires`: every pattern of 64 bits is an input.
+// Doubles: bit patterns, Rust's abs, max, min, recip, %, rem_euclid, round and is_finite, and casts, each total and equal to a
+// definition of specs/Double.antt. No public one has a `requires`: every pattern of 64 bits is an input.
 #![tactic(auto)]
 
-ghost use Rattle.std.specs.Prelude.{◌≡◌, pos, from_bits, to_bits};
+ghost use Rattle.std.specs.Prelude.{◌≡◌, ◌*◌, ◌%◌, ◌^◌, ◌<◌, pos, from_bits, to_bits};
 ghost use Rattle.std.specs.Float.{binary64};
-ghost use Rattle.std.specs.Float.Ieee.{to_unsigned, to_signed, of_int};
-ghost use Rattle.float.specs.Double.{is_finite, not_positive, mag, max_of, min_of, recip_of, rem_euclid, high, field, sign, round_size, round_away};
+ghost use Rattle.std.specs.Float.Ieee.{to_unsigned, to_signed, of_int, rem};
+ghost use Rattle.float.specs.Double.{is_finite, not_positive, mag, max_of, min_of, recip_of, rem_euclid, high, field, sign, round_size, round_away, significand, places, power_of};
 
 // std::f64::consts
 pub const FRAC_PI_2: f64 = 1.5707963267948966;
@@ -71,7 +71,79 @@ pub fn recip(x: f64) -> f64
     1.0 / x
 }
 
-// f64::rem_euclid. Where |x| is below |y| the remainder is x itself, with no call of C's fmod.
+// The significand of a finite value, a whole number: with the leading digit, where the value is not subnormal.
+fn significand(x: f64) -> u64
+    ensures { result ≡ significand x }
+{
+    let low_digits = bits(x) % 0x10_0000_0000_0000;
+    if exponent(x) == 0 {
+        return low_digits;
+    }
+    low_digits + 0x10_0000_0000_0000
+}
+
+// How many times a finite value's significand is doubled, in units of the smallest double.
+fn places(x: f64) -> u64
+    ensures { result ≡ places x }
+{
+    let field = exponent(x);
+    if field == 0 {
+        return 0;
+    }
+    field - 1
+}
+
+// The smallest double, doubled j times.
+fn power_of(j: u64) -> f64
+    requires { j < 2047 }
+    ensures { result ≡ power_of j }
+{
+    if j < 52 {
+        return from_bits(1 << j);
+    }
+    from_bits((j - 51) * 0x10_0000_0000_0000)
+}
+
+// The remainder of p, doubled j times, by q. Eleven doublings at a time fit, since what is left stays below 2^53.
+fn remainder_of_doubled(p: u64, j: u64, q: u64) -> u64
+    requires small { p < 2 ^ 53 }
+    requires divisor { 0 < q }
+    requires divisor_small { q < 2 ^ 53 }
+    ensures { result ≡ p * 2 ^ j % q }
+{
+    let mut rest = p;
+    let mut left = j;
+    while left >= 11 {
+        rest = rest * 2048 % q;
+        left -= 11;
+    }
+    (rest << left) % q
+}
+
+// Rust's x % y, with no call of C's fmod: on the significands, as whole numbers. The sign is x's, also of a zero.
+pub fn remainder(x: f64, y: f64) -> f64
+    ensures { result ≡ rem binary64 x y }
+{
+    if !is_finite(x) || y != y || y == 0.0 {
+        return f64::NAN;
+    }
+    if !is_finite(y) {
+        return x;
+    }
+    let above = places(x);
+    let below = places(y);
+    if above < below {
+        return x;
+    }
+    let rest = remainder_of_doubled(significand(x), above - below, significand(y));
+    let size = from_whole(rest) * power_of(below);
+    if sign_bit(x) == 0 {
+        return size;
+    }
+    -size
+}
+
+// f64::rem_euclid. Where |x| is below |y| the remainder is x itself.
 pub fn rem_euclid(x: f64, y: f64) -> f64
     ensures { result ≡ rem_euclid x y }
 {
@@ -82,7 +154,7 @@ pub fn rem_euclid(x: f64, y: f64) -> f64
         }
         return x;
     }
-    let r = x % y;
+    let r = remainder(x, y);
     if r < 0.0 {
         return r + size;
     }

@@ -126,7 +126,8 @@ rest-sound c rest r e h = rw e h
 pub rest-refused : (c rest : Check) (x : Refusal) → c ≡ Refused x → c ≡ and_then c rest
 rest-refused c rest x e = rw e
 
-pub called-refused : {r : Refined} {new_points new_sizes : List Float} {new_triangles cut_ends : List ℕ} {a : Answer} (c c' : Check) (x : Refusal) → c ≡ c' → c ≡ Refused x → a ≡ answer_of (Refused x) r → Called c' r new_points new_sizes new_triangles cut_ends a new_points new_sizes new_triangles cut_ends
+pub called-refused : {r : Refined} {new_points new_sizes : List Float} {new_triangles cut_ends : List ℕ} {a : Answer} (c c' : Check) (x : Refusal) → c ≡ c' → c ≡ Refused x
+    → a ≡ answer_of (Refused x) r → Called c' r new_points new_sizes new_triangles cut_ends a new_points new_sizes new_triangles cut_ends
 called-refused c c' x e h g = let z : c' ≡ Refused x = sym e ∙ h in rw z (record { answer = g; points = refl; sizes = refl; triangles = refl; ends = refl })
 
 pub called-done : {r : Refined} {new_points new_sizes new_points' new_sizes' : List Float} {new_triangles cut_ends new_triangles' cut_ends' : List ℕ}

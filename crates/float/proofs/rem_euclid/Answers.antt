@@ -17,7 +17,7 @@ pub returns-then-abs-size : goal.returns-then-abs-size
 returns-then-abs-size c = simp (itself _ _ _ _ c.well_formed.0.1 c.abs.ensures c.abs-size.ensures c.if-abs-size.true, c.if-x.false)
 
 pub returns-then-r : goal.returns-then-r
-returns-then-r c = simp (c.if-r.true, c.abs-size.ensures)
+returns-then-r c = simp (← c.remainder-r.ensures, c.if-r.true, c.abs-size.ensures)
 
 pub returns : goal.returns
-returns c = simp c.if-r.false
+returns c = simp (← c.remainder-r.ensures, c.if-r.false)

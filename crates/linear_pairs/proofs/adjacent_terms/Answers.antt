@@ -11,7 +11,11 @@ loop-j-init c = (omega arith, omega arith, omega arith, omega arith, pair-terms-
 
 pub adjacent_term-sums-requires : goal.adjacent_term-sums-requires
 adjacent_term-sums-requires c =
-    let loop = c.loop-j in record { term_in = (term_in c.requires.stream_in loop.j (omega arith), term_in c.requires.stream_in (loop.j + 1) (omega arith)); k_value = adjacent-at c.args.u.now c.args.copy.neighbours c.args.k c.args.m loop.j c.requires.adjacent loop.invariant.1 (omega arith) loop.invariant.3 }
+    let loop = c.loop-j in
+    record {
+      term_in = (term_in c.requires.stream_in loop.j (omega arith), term_in c.requires.stream_in (loop.j + 1) (omega arith));
+      k_value = adjacent-at c.args.u.now c.args.copy.neighbours c.args.k c.args.m loop.j c.requires.adjacent loop.invariant.1 (omega arith) loop.invariant.3;
+    }
 
 pub overflow_add-j : goal.overflow_add-j
 overflow_add-j c = omega (arith, c.requires.m_bound)

@@ -14,7 +14,11 @@ loop-v-init c =
 
 pub pair_at-reached-requires : goal.pair_at-reached-requires
 pair_at-reached-requires c =
-    let loop = c.loop-v in record { stream_in = stream-in _ _ _ _ _ _ _ _ c.requires.product_room c.requires.graph c.requires.packed loop.v loop.invariant.4; pair_in = rows_in _ _ _ _ _ _ _ _ c.requires.product_room c.requires.graph c.requires.packed loop.invariant.2 (omega arith) loop.invariant.4 loop.invariant.6 }
+    let loop = c.loop-v in
+    record {
+      stream_in = stream-in _ _ _ _ _ _ _ _ c.requires.product_room c.requires.graph c.requires.packed loop.v loop.invariant.4;
+      pair_in = rows_in _ _ _ _ _ _ _ _ c.requires.product_room c.requires.graph c.requires.packed loop.invariant.2 (omega arith) loop.invariant.4 loop.invariant.6;
+    }
 
 pub loop-v-preserved : goal.loop-v-preserved
 loop-v-preserved c =
@@ -24,7 +28,11 @@ loop-v-preserved c =
 
 pub single_at-requires : goal.single_at-requires
 single_at-requires c =
-    let loop = c.loop-v in record { stream_in = stream-in _ _ _ _ _ _ _ _ c.requires.product_room c.requires.graph c.requires.packed loop.v loop.invariant.4; single_in = single-in _ _ _ _ _ _ _ _ c.requires.product_room c.requires.graph c.requires.packed (omega (arith, c.if-copy-eq1.true)) loop.v loop.invariant.4 }
+    let loop = c.loop-v in
+    record {
+      stream_in = stream-in _ _ _ _ _ _ _ _ c.requires.product_room c.requires.graph c.requires.packed loop.v loop.invariant.4;
+      single_in = single-in _ _ _ _ _ _ _ _ c.requires.product_room c.requires.graph c.requires.packed (omega (arith, c.if-copy-eq1.true)) loop.v loop.invariant.4;
+    }
 
 pub returns-then-copy-eq1 : goal.returns-then-copy-eq1
 returns-then-copy-eq1 c =

@@ -9,7 +9,10 @@ returns-then-is_inner c = marked-inner _ (sym c.is_inner.ensures ∙ c.if-is_inn
 
 pub mark_side-ab-requires : goal.mark_side-ab-requires
 mark_side-ab-requires c =
-    let e = c.corners-c.ensures in let b = three-below c.requires.list_room.0 c.requires.sided.0 _ c.requires.sided.1.1 in let s = c.requires.sided.0.all_in _ c.requires.sided.1.1 in rw e (record { list_room = c.requires.list_room; sided = (c.requires.sided.0, (c.requires.sided.1.0, s.0)); a_lt_points = (b.0, b.1.0) })
+    let e = c.corners-c.ensures in
+    let b = three-below c.requires.list_room.0 c.requires.sided.0 _ c.requires.sided.1.1 in
+    let s = c.requires.sided.0.all_in _ c.requires.sided.1.1 in
+    rw e (record { list_room = c.requires.list_room; sided = (c.requires.sided.0, (c.requires.sided.1.0, s.0)); a_lt_points = (b.0, b.1.0) })
 
 pub mark_side-bc-requires : goal.mark_side-bc-requires
 mark_side-bc-requires c =

@@ -12,7 +12,11 @@ returns-then-first-l c =
     row-19 c.args.l c.args.work.now c.args.words.now c.requires.ordered c.requires.below c.geometries-first.ensures c.if-first-l.true c.refused.ensures
 
 pub set_up_from_gradients-requires : goal.set_up_from_gradients-requires
-set_up_from_gradients-requires c = record { ordered = ordered-now (stays c.args.l c.args.work.now c.args.words.now c.requires.ordered c.requires.below c.geometries-first.ensures) c.requires.ordered; wound = turned c.args.l c.args.work.now c.args.words.now c.requires.ordered c.requires.below c.geometries-first.ensures (omega arith) }
+set_up_from_gradients-requires c =
+    record {
+      ordered = ordered-now (stays c.args.l c.args.work.now c.args.words.now c.requires.ordered c.requires.below c.geometries-first.ensures) c.requires.ordered;
+      wound = turned c.args.l c.args.work.now c.args.words.now c.requires.ordered c.requires.below c.geometries-first.ensures (omega arith);
+    }
 
 pub returns : goal.returns
 returns c =

@@ -52,4 +52,6 @@ returns-then-all_finite c =
 
 pub returns : goal.returns
 unfolding probe_of
-returns c = let all = ranged c.args.alpha.now c.args.points.now c.args.tris.now (record { x = c.args.x; y = c.args.y }) NoAngle (simp (eq-eqb _ _ c.if-points-ne0.false, eq-eqb _ _ c.if-tris-ne0.false, eq-eqb _ _ c.if-alpha-points.false, ← c.all_finite.ensures, c.if-all_finite.false)) in record { value = all.0; range = all.1 }
+returns c = let all = ranged c.args.alpha.now c.args.points.now c.args.tris.now (record { x = c.args.x; y = c.args.y }) NoAngle
+    (simp (eq-eqb _ _ c.if-points-ne0.false, eq-eqb _ _ c.if-tris-ne0.false, eq-eqb _ _ c.if-alpha-points.false, ← c.all_finite.ensures, c.if-all_finite.false)) in
+    record { value = all.0; range = all.1 }

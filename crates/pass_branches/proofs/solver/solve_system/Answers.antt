@@ -11,7 +11,12 @@ pub entries-requires : goal.entries-requires
 entries-requires c = record { interleaved = c.requires.copy_room.1.ready.interleaved; entries_room = entries-room _ c.requires.branch_room.system-room.soft-room.h-room c.requires.copy_room.0 }
 
 pub solve-s-requires : goal.solve-s-requires
-solve-s-requires c = record { solver_room = copied-room _ _ _ _ _ c.requires.branch_room.system-room.soft-room.h-room c.requires.copy_room.0 c.requires.copy_room.1 c.entries.ensures; graph = c.requires.graph; engine = copied-engine _ _ _ _ _ c.requires.branch_room.system-room.soft-room.h-room c.requires.copy_room.0 c.requires.copy_room.1 c.entries.ensures }
+solve-s-requires c =
+    record {
+      solver_room = copied-room _ _ _ _ _ c.requires.branch_room.system-room.soft-room.h-room c.requires.copy_room.0 c.requires.copy_room.1 c.entries.ensures;
+      graph = c.requires.graph;
+      engine = copied-engine _ _ _ _ _ c.requires.branch_room.system-room.soft-room.h-room c.requires.copy_room.0 c.requires.copy_room.1 c.entries.ensures;
+    }
 
 pub returns-in_default : goal.returns-in_default
 returns-in_default c =

@@ -7,7 +7,17 @@ pub loop-i-init : goal.loop-i-init
 loop-i-init c = (omega arith, split-start _ _ _ _ c.requires.pieces_value)
 
 pub split_marked-before-requires : goal.split_marked-before-requires
-split_marked-before-requires c = record { i_in_bounds = (omega arith, (omega (arith, split-long c.loop-i.invariant.1, split-bounds c.loop-i.invariant.1, c.requires.count_in_bounds, c.requires.pieces_value), omega (arith, split-long c.loop-i.invariant.1, split-bounds c.loop-i.invariant.1, c.requires.count_in_bounds, c.requires.pieces_value))); i_len_bound = split-room c.loop-i.invariant.1 _ (omega arith) }
+split_marked-before-requires c =
+    record {
+      i_in_bounds = (
+        omega arith,
+        (
+          omega (arith, split-long c.loop-i.invariant.1, split-bounds c.loop-i.invariant.1, c.requires.count_in_bounds, c.requires.pieces_value),
+          omega (arith, split-long c.loop-i.invariant.1, split-bounds c.loop-i.invariant.1, c.requires.count_in_bounds, c.requires.pieces_value),
+        ),
+      );
+      i_len_bound = split-room c.loop-i.invariant.1 _ (omega arith);
+    }
 
 pub loop-i-preserved : goal.loop-i-preserved
 loop-i-preserved c = (omega arith, split-on c.loop-i.invariant.1 _ (omega arith) c.split_marked-before.ensures.0 c.split_marked-before.ensures.1)

@@ -1,0 +1,5 @@
+-- What is left of the list falls with each row.
+use Rattle.replay_scalars.proofs.all_of.Given as goal
+
+abbrev pub decreases-loop-at : goal.decreases-loop-at
+decreases-loop-at g l = l.at.left
