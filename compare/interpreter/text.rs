@@ -74,7 +74,15 @@ fn lines(path: &Path, text: &str) -> Vec<Line> {
             } else if SINGLE.contains(chars[i]) {
                 i += 1;
                 chars[from].to_string()
-            } else if chars[i] == '"' || chars[i] == '»' {
+            } else if chars[i] == '"' {
+                // a text is one token, which no recorded row needs the value of
+                i += 1;
+                while i < chars.len() && chars[i] != '"' {
+                    i += if chars[i] == '\\' { 2 } else { 1 };
+                }
+                i = (i + 1).min(chars.len());
+                chars[from..i].iter().collect()
+            } else if chars[i] == '»' {
                 stop(format!(
                     "{}:{}: `{}` is not understood",
                     path.display(),
