@@ -1,6 +1,10 @@
 -- Refusals by document 01's table: a row with its place. Definitions only.
-use Rattle.std.specs.Prelude.{ℕ}
+use Rattle.std.specs.Prelude.{ℕ, Result}
 use Rattle.refusals.specs.declared.Refusal.{Refusal}
+
+-- what a check or a stage of a pass returns: nothing, or a refusal
+abbrev pub Verdict : Type 0
+Verdict = Result (Unit {0}) Refusal
 
 -- a row with a triangle or a point for its place
 abbrev pub row_at : ℕ → ℕ → Refusal
