@@ -8,14 +8,13 @@ use borrow.Author.Tests.{le-ltb}
 use lib.ListN.{length, take, drop, length-append}
 use lib.Seq.{take-append-le, take_all}
 use lib.Ieee.{Float}
-use Rattle.floor.specs.declared.Check.TheVariants as check
+use Rattle.std.specs.Prelude.{Ok}
 use Rattle.floor.specs.Floor.{Floor, point_count}
 use Rattle.refinement.specs.Floor.{over}
 use Rattle.pass_options.specs.declared.Options.{Options}
 use Rattle.pass_options.specs.Options.{Guidance}
 use Rattle.pass_options.specs.Pass.{Pass, field, PassFacts}
 use Rattle.calls.specs.declared.Counts.{Counts}
-use Rattle.calls.specs.declared.Outcome.TheVariants.{Solved}
 use Rattle.calls.specs.Checks.{Call, Lent, lengths_of, points_in, check_solve}
 use Rattle.calls.specs.Solve.{Ended, first_floor, first_pass, refined_by, second_floor, without_threshold, extended, refines, after_second, solved_once, solve_of, first_angles, answer_part}
 use Rattle.calls.specs.Accepted.{IsField, FillsCoarse, OnePass, FillsFine, Accepted}
@@ -33,8 +32,8 @@ module _ (pass : Pass) (facts : PassFacts pass) where
   of-floor : (f : Floor) (o : Options) (g : Guidance) (k : ℕ) (alpha : List Float) → pass f o g k ≡ field alpha → IsField (point_count f) alpha
   of-floor f o g k alpha e = let n = facts.as_many f o g k alpha e in record { as_many = n; range = λ i l. facts.range f o g k alpha e i (omega (arith, n)) }
 
-  module _ (c : Call) (lent : Lent) (counts : Counts) (accepted : (solve_of pass c lent).outcome ≡ Solved counts) (alpha : List Float) (first : first_pass pass c ≡ field alpha) where
-    sound : check_solve c (lengths_of lent) ≡ check.Sound
+  module _ (c : Call) (lent : Lent) (counts : Counts) (accepted : (solve_of pass c lent).outcome ≡ Ok counts) (alpha : List Float) (first : first_pass pass c ≡ field alpha) where
+    sound : check_solve c (lengths_of lent) ≡ Ok tt
     sound = solved-sound pass c lent counts accepted
 
     is_field : IsField (points_in c) alpha
@@ -54,7 +53,7 @@ module _ (pass : Pass) (facts : PassFacts pass) where
     unfolding answer_part
     one-pass r =
         let z = done-once r in
-        let o : Solved (record { flagged = 0; cut = 0 }) ≡ Solved counts = sym (ap (λ (z : Ended). z.outcome) z) ∙ accepted in
+        let o : Ok (record { flagged = 0; cut = 0 }) ≡ Ok counts = sym (ap (λ (z : Ended). z.outcome) z) ∙ accepted in
         let none : counts.flagged ≡ 0 = cc in
         let uncut : counts.cut ≡ 0 = cc in
         record {
@@ -82,6 +81,6 @@ module _ (pass : Pass) (facts : PassFacts pass) where
       twice = two-passes;
     }
 
-  pub solve-accepted : (c : Call) (lent : Lent) (counts : Counts) → (solve_of pass c lent).outcome ≡ Solved counts
+  pub solve-accepted : (c : Call) (lent : Lent) (counts : Counts) → (solve_of pass c lent).outcome ≡ Ok counts
       → Accepted pass c lent counts (solve_of pass c lent).lent.coarse (solve_of pass c lent).lent.fine
   solve-accepted c lent counts h = let a = first-accepted pass c lent counts h in by_first c lent counts h a.0 a.1

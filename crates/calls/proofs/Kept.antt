@@ -7,9 +7,8 @@ use mathlib.Core.List.{List}
 use lib.Dec.{eqb}
 use lib.ListN.{length, drop, length-append, length-drop, length-replicate}
 use lib.Ieee.{Float}
+use Rattle.std.specs.Prelude.{Ok, Err}
 use Rattle.float.specs.Double.{lit}
-use Rattle.floor.specs.declared.Check.{Check}
-use Rattle.floor.specs.declared.Check.TheVariants as check
 use Rattle.refinement.specs.Floor.{over}
 use Rattle.pass_options.specs.Pass.{Pass, Passed, field, faulty, PassFacts}
 use Rattle.calls.specs.declared.Lengths.{Lengths}
@@ -17,8 +16,9 @@ use Rattle.calls.specs.Checks.{Call, Lent, lengths_of, points_in, triangles_in, 
 use Rattle.calls.specs.Solve.{first_floor, first_pass, refined_by, second_floor, second_pass, without_threshold, extended, wiped, solved_once, after_second, after_first, after_checks, solve_of}
 use Rattle.calls.proofs.Ready.{sound-ready}
 use Rattle.calls.proofs.Room.{points-in, second-few}
+use Rattle.refusals.specs.Refusal.{Verdict}
 
-fine-room : (c : Call) (l : Lengths) → check_solve c l ≡ check.Sound → is_adaptive c.options ≡ true → points_in c + 3 * triangles_in c ≤ l.fine
+fine-room : (c : Call) (l : Lengths) → check_solve c l ≡ Ok tt → is_adaptive c.options ≡ true → points_in c + 3 * triangles_in c ≤ l.fine
 unfolding most_points
 fine-room c l s h = (sound-ready c l s).fine-room h
 
@@ -30,7 +30,7 @@ module _ (pass : Pass) (facts : PassFacts pass) (c : Call) (lent : Lent) where
   wiped-lengths : (coarse fine : List Float) → length coarse ≡ length lent.coarse → length fine ≡ length lent.fine → lengths_of (wiped lent coarse fine) ≡ lengths_of lent
   wiped-lengths coarse fine e g = rw (e, g, length-replicate (length lent.work) (lit 0), length-replicate {A = ℕ} (length lent.words) 0)
 
-  module _ (s : check_solve c (lengths_of lent) ≡ check.Sound) where
+  module _ (s : check_solve c (lengths_of lent) ≡ Ok tt) where
     coarse-kept : (alpha : List Float) → first_pass pass c ≡ field alpha → length (over alpha lent.coarse) ≡ length lent.coarse
     coarse-kept alpha f = over-length alpha lent.coarse (omega (arith, facts.as_many (first_floor c) c.options c.guidance c.iterations alpha f, points-in c.points, (sound-ready c (lengths_of lent) s).coarse-room))
 
@@ -54,6 +54,6 @@ module _ (pass : Pass) (facts : PassFacts pass) (c : Call) (lent : Lent) where
   unfolding solve_of
   lengths-kept = go (check_solve c (lengths_of lent)) refl
     where
-      go : (k : Check) → check_solve c (lengths_of lent) ≡ k → lengths_of (after_checks pass c lent k).lent ≡ lengths_of lent
-      go (check.Refused x) e = refl
-      go check.Sound e = first-kept e (first_pass pass c) refl
+      go : (k : Verdict) → check_solve c (lengths_of lent) ≡ k → lengths_of (after_checks pass c lent k).lent ≡ lengths_of lent
+      go (Err x) e = refl
+      go (Ok tt) e = first-kept e (first_pass pass c) refl

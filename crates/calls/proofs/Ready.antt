@@ -9,7 +9,7 @@ use borrow.Author.Tests.{eqb-true, eqb-false, ltb-false, leb-false, not-false}
 use lib.Dec.{eqb, ltb, leb}
 use lib.ListN.{length, get_or}
 use lib.Ieee.{Float}
-use Rattle.floor.specs.declared.Check.TheVariants.{Sound}
+use Rattle.std.specs.Prelude.{Ok}
 use Rattle.floor.specs.Checks.{lowest, bad_corner}
 use Rattle.floor.proofs.Lowest.{lowest-before}
 use Rattle.floor.proofs.Rows.{or-none, Whole, whole-slices}
@@ -23,7 +23,7 @@ use Rattle.pass_options.proofs.Table.{first-sound}
 use Rattle.calls.specs.declared.Lengths.{Lengths}
 use Rattle.calls.specs.Checks.{Call, points_in, triangles_in, is_adaptive, most_points, most_triangles, short, table, check_solve, Ready}
 
-pub row-passed : (c : Call) (l : Lengths) → check_solve c l ≡ Sound → (j : ℕ) → j < 18 → (get_or (table c l) j no_row).holds ≡ false
+pub row-passed : (c : Call) (l : Lengths) → check_solve c l ≡ Ok tt → (j : ℕ) → j < 18 → (get_or (table c l) j no_row).holds ≡ false
 unfolding check_solve
 row-passed c l e j h = first-sound (table c l) e j h
 
@@ -79,7 +79,7 @@ roomy adaptive n t l e =
 
 -- ---- the call
 
-module _ (c : Call) (l : Lengths) (sound : check_solve c l ≡ Sound) where
+module _ (c : Call) (l : Lengths) (sound : check_solve c l ≡ Ok tt) where
   whole : Whole (length c.points) (length c.corners)
   whole = whole-slices (length c.points) (length c.corners) (not-false _ (row-passed c l sound 0 (omega arith)))
 

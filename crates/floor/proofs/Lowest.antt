@@ -8,7 +8,8 @@ use mathlib.Core.Path.{◌≡◌, refl, sym, ap, ◌∙◌}
 use mathlib.Core.Bool.{Bool, true, false, cond}
 use borrow.Author.Tests.{ltb-true, ltb-false, lt-ltb, le-ltb}
 use lib.Dec.{ltb}
-use Rattle.floor.specs.Checks.{lowest}
+use Rattle.std.specs.Prelude.{Option, Some, None, MatchOption}
+use Rattle.floor.specs.Checks.{lowest, found_below}
 
 pub lowest-none : (p : ℕ → Bool) → 0 ≡ lowest p 0
 unfolding lowest
@@ -83,3 +84,27 @@ lowest-holds p (suc n) h = go (ltb (lowest p n) n) (p n) refl refl (lowest-holds
 -- an index at which it holds and below which it does not is the lowest
 pub lowest-is : (p : ℕ → Bool) (n i : ℕ) → i < n → p i ≡ true → ((j : ℕ) → j < i → p j ≡ false) → lowest p n ≡ i
 lowest-is p n i l h g = sym (lowest-found p i n (sym (lowest-clear p i g)) h l)
+
+-- what a search below n finds: an index at which it holds and below which it does not, or none where it holds at none
+pub found-by : (p : ℕ → Bool) (n : ℕ) (r : Option ℕ)
+    → MatchOption r ((k : ℕ) → 0 ≤ k → k < n → p k ≡ false) (λ i. (0 ≤ i) × (i < n) × (p i ≡ true) × ((k : ℕ) → 0 ≤ k → k < i → p k ≡ false)) → r ≡ found_below p n
+unfolding found_below
+found-by p n None h = rw (lowest-clear p n (λ k l. h k (omega arith) l), le-ltb n n (omega arith))
+found-by p n (Some i) h = let e = lowest-is p n i h.1 h.2 (λ k l. h.3 k (omega arith) l) in rw (e, lt-ltb i n h.1)
+
+-- what it is that was found, or was not
+pub found-some : (p : ℕ → Bool) (n i : ℕ) {r : Option ℕ} → r ≡ found_below p n → r ≡ Some i → (i ≡ lowest p n) × (i < n)
+unfolding found_below
+found-some p n i f s = go (ltb (lowest p n) n) refl (sym s ∙ f)
+  where
+    go : (b : Bool) → ltb (lowest p n) n ≡ b → Some i ≡ cond b (Some (lowest p n)) None → (i ≡ lowest p n) × (i < n)
+    go true q h = let e : i ≡ lowest p n = cc in (e, rw e (ltb-true (lowest p n) n q))
+    go false q h = absurd (cc)
+
+pub found-none : (p : ℕ → Bool) (n : ℕ) {r : Option ℕ} → r ≡ found_below p n → ((i : ℕ) → r ≡ Some i → ⊥) → n ≤ lowest p n
+unfolding found_below
+found-none p n {r = r} f none = go (ltb (lowest p n) n) refl f
+  where
+    go : (b : Bool) → ltb (lowest p n) n ≡ b → r ≡ cond b (Some (lowest p n)) None → n ≤ lowest p n
+    go true q h = absurd (none (lowest p n) h)
+    go false q h = ltb-false (lowest p n) n q

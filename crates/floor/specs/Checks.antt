@@ -1,12 +1,10 @@
 -- Rows 1 and 3 to 8 of document 01's table, as they are tested: what is wrong with a floor, and where first. Definitions only.
-use Rattle.std.specs.Prelude.{ℕ, zero, suc, ◌+◌, ◌*◌, ◌/◌, ◌%◌, Bool, not, cond, ◌&&◌, ◌||◌, List, eqb, ltb, leb, length, get_or, Float}
+use Rattle.std.specs.Prelude.{ℕ, zero, suc, ◌+◌, ◌*◌, ◌/◌, ◌%◌, Bool, not, cond, ◌&&◌, ◌||◌, List, eqb, ltb, leb, length, get_or, Float, Option, Some, None, Ok, Err}
 use Rattle.std.specs.Float.{nan}
 use Rattle.std.specs.Float.Ieee.{lt}
 use Rattle.float.specs.Double.{lit, is_finite, not_positive}
 use Rattle.mesh.specs.Points.{x_of, y_of}
-use Rattle.refusals.specs.Refusal.{row, row_at}
-use Rattle.floor.specs.declared.Check.{Check}
-use Rattle.floor.specs.declared.Check.TheVariants.{Sound, Refused}
+use Rattle.refusals.specs.Refusal.{row, row_at, Verdict}
 
 -- what was found below i, or else i where it holds here, or else the next
 abbrev pub or_here : Bool → ℕ → ℕ → ℕ
@@ -16,6 +14,10 @@ or_here here i found = cond (ltb found i) found (cond here i (suc i))
 unfoldable pub lowest : (ℕ → Bool) → ℕ → ℕ
 lowest p zero = zero
 lowest p (suc i) = or_here (p i) i (lowest p i)
+
+-- that index, where there is one
+unfoldable pub found_below : (ℕ → Bool) → ℕ → Option ℕ
+found_below p n = cond (ltb (lowest p n) n) (Some (lowest p n)) None
 
 -- the most that row 1 lets through
 abbrev pub MOST-POINTS : ℕ
@@ -45,20 +47,20 @@ unfoldable pub bad_corner : List ℕ → ℕ → ℕ → Bool
 bad_corner triangles n i = leb n (get_or triangles (3 * i) 0) || (leb n (get_or triangles (3 * i + 1) 0) || leb n (get_or triangles (3 * i + 2) 0))
 
 -- a row whose place is the lowest of n at which p holds, and the rows after it
-abbrev pub row_by : ℕ → (ℕ → Bool) → ℕ → Check → Check
-row_by k p n rest = cond (ltb (lowest p n) n) (Refused (row_at k (lowest p n))) rest
+abbrev pub row_by : ℕ → (ℕ → Bool) → ℕ → Verdict → Verdict
+row_by k p n rest = cond (ltb (lowest p n) n) (Err (row_at k (lowest p n))) rest
 
 -- the rows after those that a check has passed
-abbrev pub and_then : Check → Check → Check
-and_then Sound rest = rest
-and_then (Refused r) rest = Refused r
+abbrev pub and_then : Verdict → Verdict → Verdict
+and_then (Ok tt) rest = rest
+and_then (Err r) rest = Err r
 
 -- rows 3 to 8, in table order
-unfoldable pub check_floor : List Float → List ℕ → List Float → Check
+unfoldable pub check_floor : List Float → List ℕ → List Float → Verdict
 check_floor points triangles sizes =
-    cond (eqb (length points / 3) 0) (Refused (row 3))
-    (cond (eqb (length triangles / 3) 0) (Refused (row 4))
-    (cond (not (eqb (length sizes) (length points / 3))) (Refused (row 5))
+    cond (eqb (length points / 3) 0) (Err (row 3))
+    (cond (eqb (length triangles / 3) 0) (Err (row 4))
+    (cond (not (eqb (length sizes) (length points / 3))) (Err (row 5))
     (row_by 6 (bad_point points) (length points / 3)
     (row_by 7 (bad_size sizes) (length sizes)
-    (row_by 8 (bad_corner triangles (length points / 3)) (length triangles / 3) Sound)))))
+    (row_by 8 (bad_corner triangles (length points / 3)) (length triangles / 3) (Ok tt))))))

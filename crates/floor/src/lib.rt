@@ -3,16 +3,9 @@
 
 ghost use Rattle.std.specs.Prelude.{◌≡◌, ◌+◌, ◌*◌, ◌/◌, ◌≤◌, length, get_or};
 ghost use Rattle.std.specs.Float.{nan};
-ghost use Rattle.refusals.specs.Refusal.{row_at};
-ghost use Rattle.floor.specs.Checks.{lowest, well_formed, bad_point, bad_size, bad_corner, not_finite_or_below_zero, check_floor};
+ghost use Rattle.floor.specs.Checks.{found_below, well_formed, bad_point, bad_size, bad_corner, not_finite_or_below_zero, check_floor};
 
-use refusals::Refusal;
-
-#[derive(Clone, Copy)]
-pub enum Check {
-    Sound,
-    Refused(Refusal),
-}
+use refusals::{Refusal, refused};
 
 // The most that row 1 lets through.
 pub const MOST_POINTS: usize = 16384;
@@ -73,89 +66,52 @@ fn bad_corner(triangles: &[u32], n: usize, i: usize) -> bool
     n <= mesh::index(c.b) || n <= mesh::index(c.c)
 }
 
-// Row 6: the lowest point that is not finite, or n.
-pub fn first_bad_point(points: &[f64], n: usize) -> usize
+// Row 6: the lowest point that is not finite.
+pub fn first_bad_point(points: &[f64], n: usize) -> Option<usize>
     requires { 3 * n ≤ length points.now }
-    ensures { result ≡ lowest (bad_point points.now) n }
+    ensures { result ≡ found_below (bad_point points.now) n }
 {
-    let mut i = 0;
-    while i < n {
-        if bad_point(points, i) {
-            return i;
-        }
-        i += 1;
-    }
-    i
+    (0..n).find(|&i| bad_point(points, i))
 }
 
-// Row 7: the lowest size that is not finite and positive, or how many there are.
-pub fn first_bad_size(sizes: &[f64]) -> usize
-    ensures { result ≡ lowest (bad_size sizes.now) (length sizes.now) }
+// Row 7: the lowest size that is not finite and positive.
+pub fn first_bad_size(sizes: &[f64]) -> Option<usize>
+    ensures { result ≡ found_below (bad_size sizes.now) (length sizes.now) }
 {
-    let mut i = 0;
-    while i < sizes.len() {
-        if bad_size(sizes, i) {
-            return i;
-        }
-        i += 1;
-    }
-    i
+    (0..sizes.len()).find(|&i| bad_size(sizes, i))
 }
 
-// Row 8: the lowest triangle with a corner at or above n, or t.
-pub fn first_bad_corner(triangles: &[u32], t: usize, n: usize) -> usize
+// Row 8: the lowest triangle with a corner at or above n, among the first t.
+pub fn first_bad_corner(triangles: &[u32], t: usize, n: usize) -> Option<usize>
     requires { 3 * t ≤ length triangles.now }
-    ensures { result ≡ lowest (bad_corner triangles.now n) t }
+    ensures { result ≡ found_below (bad_corner triangles.now n) t }
 {
-    let mut i = 0;
-    while i < t {
-        if bad_corner(triangles, n, i) {
-            return i;
-        }
-        i += 1;
-    }
-    i
-}
-
-// A refusal by its row and place.
-pub fn refused(number: u64, place: usize) -> Check
-    ensures { result ≡ Check.Refused (row_at number place) }
-{
-    Check::Refused(Refusal {
-        number,
-        place: place as u64,
-        other: 0,
-        pass: 0,
-        reason: 0,
-    })
+    (0..t).find(|&i| bad_corner(triangles, n, i))
 }
 
 // Rows 3 to 8.
-pub fn check_floor(points: &[f64], triangles: &[u32], sizes: &[f64]) -> Check
+pub fn check_floor(points: &[f64], triangles: &[u32], sizes: &[f64]) -> Result<(), Refusal>
     ensures { result ≡ check_floor points.now triangles.now sizes.now }
 {
     let n = points.len() / 3;
     let t = triangles.len() / 3;
     if n == 0 {
-        return refused(3, 0);
+        return Err(refused(3, 0));
     }
     if t == 0 {
-        return refused(4, 0);
+        return Err(refused(4, 0));
     }
     if sizes.len() != n {
-        return refused(5, 0);
+        return Err(refused(5, 0));
     }
-    let p = first_bad_point(points, n);
-    if p < n {
-        return refused(6, p);
+    if let Some(i) = first_bad_point(points, n) {
+        return Err(refused(6, i));
     }
-    let s = first_bad_size(sizes);
-    if s < sizes.len() {
-        return refused(7, s);
+    if let Some(i) = first_bad_size(sizes) {
+        return Err(refused(7, i));
     }
-    let c = first_bad_corner(triangles, t, n);
-    if c < t {
-        return refused(8, c);
+    if let Some(i) = first_bad_corner(triangles, t, n) {
+        return Err(refused(8, i));
     }
-    Check::Sound
+    Ok(())
 }

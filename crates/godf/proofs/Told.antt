@@ -6,8 +6,7 @@ use lib.Ieee.{Float}
 use Rattle.pass_options.specs.declared.Options.{Options}
 use Rattle.pass.specs.declared.Asked.{Asked}
 use Rattle.pass.specs.Pass.{pass_of}
-use Rattle.calls.specs.declared.Outcome.{Outcome}
-use Rattle.calls.specs.Checks.{Lent}
+use Rattle.calls.specs.Checks.{Lent, Outcome}
 use Rattle.calls.specs.Solve.{solve_of, Ends, number_of}
 use Rattle.solve.specs.Passes.{call_for}
 use Rattle.godf.specs.Solve.{report_of, SolveTold}

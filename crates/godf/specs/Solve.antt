@@ -1,6 +1,6 @@
 -- What C gives a solve beside its slices, and what it is told of one: options and reports as lists of seven numbers, lengths by row 18, the part that is
 -- the answer. Definitions only.
-use Rattle.std.specs.Prelude.{ℕ, ◌+◌, ◌*◌, ◌≡◌, Bool, not, cond, ◌||◌, List, [], ◌∷◌, eqb, ltb, length, get_or, take, Float}
+use Rattle.std.specs.Prelude.{ℕ, ◌+◌, ◌*◌, ◌≡◌, Bool, not, cond, ◌||◌, List, [], ◌∷◌, eqb, ltb, length, get_or, take, Float, Ok, Err}
 use Rattle.std.specs.Float.{nan}
 use Rattle.std.specs.Float.Ieee.{eq, ne, lt}
 use Rattle.float.specs.Double.{lit}
@@ -9,9 +9,7 @@ use Rattle.pass_options.specs.declared.Options.{Options}
 use Rattle.pass_options.specs.declared.BoundaryMode.{BoundaryMode}
 use Rattle.pass_options.specs.declared.BoundaryMode.TheVariants.{None, Tangent, Weak}
 use Rattle.pass.specs.declared.Asked.{Asked}
-use Rattle.calls.specs.declared.Outcome.{Outcome}
-use Rattle.calls.specs.declared.Outcome.TheVariants.{Solved, Refused}
-use Rattle.calls.specs.Checks.{most_points, most_triangles}
+use Rattle.calls.specs.Checks.{most_points, most_triangles, Outcome}
 use Rattle.calls.specs.Solve.{Ended, answer_part, number_of}
 use Rattle.godf.specs.declared.solve_call.Most.{Most}
 
@@ -43,8 +41,8 @@ asked_of guided weight iterations = record { guided = not (eqb guided 0); weight
 
 -- the numbers of a godf_report, in its order: number, place, other place, pass, reason, flagged triangles, cut sides; each 0 where there is none
 abbrev pub report_of : Outcome → List ℕ
-report_of (Solved c) = 0 ∷ 0 ∷ 0 ∷ 0 ∷ 0 ∷ c.flagged ∷ c.cut ∷ []
-report_of (Refused x) = x.number ∷ x.place ∷ x.other ∷ x.pass ∷ x.reason ∷ 0 ∷ 0 ∷ []
+report_of (Ok c) = 0 ∷ 0 ∷ 0 ∷ 0 ∷ 0 ∷ c.flagged ∷ c.cut ∷ []
+report_of (Err x) = x.number ∷ x.place ∷ x.other ∷ x.pass ∷ x.reason ∷ 0 ∷ 0 ∷ []
 
 -- the solve as C sees it: the number that it returns, the four slices and the report
 pub record SolveTold (e : Ended) (number : ℕ) (coarse fine work : List Float) (words report : List ℕ) : Type 0 where

@@ -5,6 +5,7 @@ use mathlib.Core.Path.{◌≡◌, refl}
 use mathlib.Core.Bool.{Bool, true, false, cond}
 use mathlib.Core.List.{List}
 use lib.Ieee.{Float}
+use Rattle.std.specs.Prelude.{Ok, Err}
 use Rattle.mesh.specs.Mesh.{All}
 use Rattle.mesh.proofs.Whole.{all-distinct}
 use Rattle.floor.specs.Floor.{Floor, point_count}
@@ -14,18 +15,16 @@ use Rattle.refusals.specs.Refusal.{gave_up}
 use Rattle.pass_options.specs.declared.Options.{Options}
 use Rattle.pass_options.specs.Options.{Guidance}
 use Rattle.pass_options.specs.Pass.{Passed, field, faulty, PassFacts}
-use Rattle.pass_setup.specs.declared.Setup.{Setup}
-use Rattle.pass_setup.specs.declared.Setup.TheVariants.{Edges, Refused}
-use Rattle.pass_setup.specs.Setup.{setup_of}
+use Rattle.pass_setup.specs.Setup.{setup_of, Setup}
 use Rattle.pass_setup.proofs.Floors.{setup-good}
 use Rattle.pass_branches.specs.Branches.{branch_of}
 use Rattle.pass_branches.proofs.Fields.{branch-field}
 use Rattle.pass.specs.Pass.{traces_in, built_of, after_traces, after_setup, field_over, pass_of}
 
 -- an accepted pass had its floor set up, and its traces passed
-set-up : (s : Setup) (next : Passed) (alpha : List Float) → after_setup s next ≡ field alpha → ((m : ℕ) × (s ≡ Edges m)) × (next ≡ field alpha)
-set-up (Edges m) next alpha e = ((m, refl), e)
-set-up (Refused x) next alpha e = let z : ◌≡◌ {A = ℕ} 0 1 = cc in absurd (omega arith)
+set-up : (s : Setup) (next : Passed) (alpha : List Float) → after_setup s next ≡ field alpha → ((m : ℕ) × (s ≡ Ok m)) × (next ≡ field alpha)
+set-up (Ok m) next alpha e = ((m, refl), e)
+set-up (Err x) next alpha e = let z : ◌≡◌ {A = ℕ} 0 1 = cc in absurd (omega arith)
 
 traced : (t : Traces) (next : Passed) (alpha : List Float) → after_traces t next ≡ field alpha → next ≡ field alpha
 traced t next alpha = go (not_positive t.energy) (not_positive t.mass)
@@ -36,7 +35,7 @@ traced t next alpha = go (not_positive t.energy) (not_positive t.mass)
     go false false e = e
 
 module _ (f : Floor) (o : Options) (g : Guidance) (k : ℕ) (alpha : List Float) (e : pass_of f o g k ≡ field alpha) where
-  pub was-set-up : ((m : ℕ) × (setup_of f ≡ Edges m)) × (field_over f o g k ≡ field alpha)
+  pub was-set-up : ((m : ℕ) × (setup_of f ≡ Ok m)) × (field_over f o g k ≡ field alpha)
   unfolding pass_of
   was-set-up = set-up (setup_of f) (field_over f o g k) alpha e
 

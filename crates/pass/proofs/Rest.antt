@@ -7,14 +7,13 @@ use mathlib.Core.Bool.{Bool, true, false, cond}
 use mathlib.Core.List.{List}
 use lib.ListN.{length, get_or}
 use lib.Ieee.{Float, nan}
+use Rattle.std.specs.Prelude.{Ok, Err}
 use Rattle.linear_cells.proofs.Regions.{length-put}
 use Rattle.linear_cells.proofs.Cells.{length-put_c}
 use Rattle.linear_hermitian.specs.Work.{shift_matrix, ShiftRoom}
 use Rattle.float.specs.Double.{not_positive}
 use Rattle.refusals.specs.declared.Refusal.{Refusal}
-use Rattle.refusals.specs.declared.Stage.{Stage}
-use Rattle.refusals.specs.declared.Stage.TheVariants.{Done, Refused}
-use Rattle.refusals.specs.Refusal.{gave_up}
+use Rattle.refusals.specs.Refusal.{gave_up, Verdict}
 use Rattle.pass_assembly.specs.declared.shift.Traces.{Traces}
 use Rattle.pass_assembly.specs.Shift.{shift_of}
 use Rattle.pass_assembly.specs.Work.{traces_stage}
@@ -47,7 +46,7 @@ pub record Alike (l : Layout) (reals words : ℕ) (w w₁ : List Float) (u u₁ 
 
 -- what was found from the ones, with more kept, was found from the others too
 pub finds-from : (l : Layout) {reals reals₁ words words₁ : ℕ} → l.angles + l.points ≤ reals → reals ≤ reals₁ → words ≤ words₁ → (p q : Passed) (w w₁ : List Float) (u u₁ : List ℕ)
-    {w₂ : List Float} {u₂ : List ℕ} {r : Stage} → p ≡ q → Alike l reals words w w₁ u u₁ → Finds l reals₁ words₁ p w₁ u₁ w₂ u₂ r → Finds l reals words q w u w₂ u₂ r
+    {w₂ : List Float} {u₂ : List ℕ} {r : Verdict} → p ≡ q → Alike l reals words w w₁ u u₁ → Finds l reals₁ words₁ p w₁ u₁ w₂ u₂ r → Finds l reals words q w u w₂ u₂ r
 finds-from l ra rr ww p q w w₁ u u₁ e s f = record {
   answer = f.answer ∙ ap stage_of e;
   found = λ alpha h. f.found alpha (e ∙ h);
@@ -63,7 +62,7 @@ finds-from l ra rr ww p q w w₁ u u₁ e s f = record {
 
 -- a refusal
 pub refusal-found : (l : Layout) {reals words : ℕ} → l.angles + l.points ≤ reals → (p : Passed) (x : Refusal) (w w₁ : List Float) (u u₁ : List ℕ) → p ≡ faulty x → Alike l reals words w w₁ u u₁
-    → Finds l reals words p w u w₁ u₁ (Refused x)
+    → Finds l reals words p w u w₁ u₁ (Err x)
 refusal-found l ra p x w w₁ u u₁ e s = record {
   answer = sym (ap stage_of e);
   found = λ alpha h. let z : ◌≡◌ {A = ℕ} 0 1 = cc in absurd (omega arith);
@@ -79,27 +78,27 @@ refusal-found l ra p x w w₁ u u₁ e s = record {
 
 -- ---- by the traces
 
-traces-cases : (t : Traces) (next : Passed) → ((traces_stage t ≡ Done) × (after_traces t next ≡ next)) ⊎ ((x : Refusal) × (traces_stage t ≡ Refused x) × (after_traces t next ≡ faulty x))
+traces-cases : (t : Traces) (next : Passed) → ((traces_stage t ≡ Ok tt) × (after_traces t next ≡ next)) ⊎ ((x : Refusal) × (traces_stage t ≡ Err x) × (after_traces t next ≡ faulty x))
 unfolding traces_stage
 traces-cases t next = go (not_positive t.energy) (not_positive t.mass)
   where
-    go : (e m : Bool) → ((cond e (Refused (gave_up 1 0)) (cond m (Refused (gave_up 2 0)) Done) ≡ Done) × (cond e (faulty (gave_up 1 0)) (cond m (faulty (gave_up 2 0)) next) ≡ next)) ⊎
-        ((x : Refusal) × (cond e (Refused (gave_up 1 0)) (cond m (Refused (gave_up 2 0)) Done) ≡ Refused x) × (cond e (faulty (gave_up 1 0)) (cond m (faulty (gave_up 2 0)) next) ≡ faulty x))
+    go : (e m : Bool) → ((cond e (Err (gave_up 1 0)) (cond m (Err (gave_up 2 0)) (Ok tt)) ≡ Ok tt) × (cond e (faulty (gave_up 1 0)) (cond m (faulty (gave_up 2 0)) next) ≡ next)) ⊎
+        ((x : Refusal) × (cond e (Err (gave_up 1 0)) (cond m (Err (gave_up 2 0)) (Ok tt)) ≡ Err x) × (cond e (faulty (gave_up 1 0)) (cond m (faulty (gave_up 2 0)) next) ≡ faulty x))
     go true m = inr (gave_up 1 0, refl, refl)
     go false true = inr (gave_up 2 0, refl, refl)
     go false false = inl (refl, refl)
 
-pub traces-done : (t : Traces) (next : Passed) → traces_stage t ≡ Done → after_traces t next ≡ next
+pub traces-done : (t : Traces) (next : Passed) → traces_stage t ≡ Ok tt → after_traces t next ≡ next
 traces-done t next d = go (traces-cases t next)
   where
-    go : ((traces_stage t ≡ Done) × (after_traces t next ≡ next)) ⊎ ((x : Refusal) × (traces_stage t ≡ Refused x) × (after_traces t next ≡ faulty x)) → after_traces t next ≡ next
+    go : ((traces_stage t ≡ Ok tt) × (after_traces t next ≡ next)) ⊎ ((x : Refusal) × (traces_stage t ≡ Err x) × (after_traces t next ≡ faulty x)) → after_traces t next ≡ next
     go (inl (a, b)) = b
     go (inr (x, a, b)) = let z : ◌≡◌ {A = ℕ} 0 1 = cc in absurd (omega arith)
 
-pub traces-refused : (t : Traces) (next : Passed) (x : Refusal) → traces_stage t ≡ Refused x → after_traces t next ≡ faulty x
+pub traces-refused : (t : Traces) (next : Passed) (x : Refusal) → traces_stage t ≡ Err x → after_traces t next ≡ faulty x
 traces-refused t next x d = go (traces-cases t next)
   where
-    go : ((traces_stage t ≡ Done) × (after_traces t next ≡ next)) ⊎ ((y : Refusal) × (traces_stage t ≡ Refused y) × (after_traces t next ≡ faulty y)) → after_traces t next ≡ faulty x
+    go : ((traces_stage t ≡ Ok tt) × (after_traces t next ≡ next)) ⊎ ((y : Refusal) × (traces_stage t ≡ Err y) × (after_traces t next ≡ faulty y)) → after_traces t next ≡ faulty x
     go (inl (a, b)) = let z : ◌≡◌ {A = ℕ} 0 1 = cc in absurd (omega arith)
     go (inr (y, a, b)) = cc
 
@@ -126,15 +125,15 @@ module _ (l : Layout) (m : ℕ) (w : List Float) (u : List ℕ) (o : Options) (a
   pub shift_fits : ShiftRoom (length w₁) (energy_at l m) (mass_at l m)
   shift_fits = subst (λ (k : ℕ). ShiftRoom k (energy_at l m) (mass_at l m)) (sym work-length) (shift-room l m ok s.edged.few)
 
-  pub rest-refused : (r : Stage) (x : Refusal) → r ≡ traces_stage t → r ≡ Refused x → Finds l l.mass l.table (field_in l o a w u) w u w₁ u r
+  pub rest-refused : (r : Verdict) (x : Refusal) → r ≡ traces_stage t → r ≡ Err x → Finds l l.mass l.table (field_in l o a w u) w u w₁ u r
   unfolding field_in field_over
   rest-refused r x e d =
-      subst (λ (z : Stage). Finds l l.mass l.table (field_in l o a w u) w u w₁ u z) (sym d)
+      subst (λ (z : Verdict). Finds l l.mass l.table (field_in l o a w u) w u w₁ u z) (sym d)
       (refusal-found l (omega arith) (field_in l o a w u) x w w₁ u u
       (ap (λ (z : Traces). after_traces z (branch_of (built_of o (floor_in l w u)) (floor_in l w u) o (guidance_at l a w) a.iterations)) (sym same-traces) ∙ traces-refused t _ x (sym e ∙ d))
       alike)
 
-  module _ (r : Stage) (e : r ≡ traces_stage t) (d : r ≡ Done) (w₂ : List Float) (shifted : w₂ ≡ shift_matrix w₁ (energy_at l m) (shift_of t) (mass_at l m)) where
+  module _ (r : Verdict) (e : r ≡ traces_stage t) (d : r ≡ Ok tt) (w₂ : List Float) (shifted : w₂ ≡ shift_matrix w₁ (energy_at l m) (shift_of t) (mass_at l m)) where
     abbrev search : Search
     search = record { guided = a.guided; weight = a.weight; trace = t.energy; iterations = a.iterations }
 
@@ -173,7 +172,7 @@ module _ (l : Layout) (m : ℕ) (w : List Float) (u : List ℕ) (o : Options) (a
     pub ordered-then : Ordered l (length w₂) (length u)
     ordered-then = subst (λ (k : ℕ). Ordered l k (length u)) (sym shifted-length) ok
 
-    pub rest-found : {w₃ : List Float} {u₃ : List ℕ} {q : Stage} → Finds l l.energy l.table (sought_in l m o search w₂ u) w₂ u w₃ u₃ q
+    pub rest-found : {w₃ : List Float} {u₃ : List ℕ} {q : Verdict} → Finds l l.energy l.table (sought_in l m o search w₂ u) w₂ u w₃ u₃ q
         → Finds l l.mass l.table (field_in l o a w u) w u w₃ u₃ q
     rest-found f = finds-from l (omega arith) (omega arith) (omega arith) _ _ w w₂ u u same-field (record {
       all-reals = shifted-length;

@@ -8,6 +8,7 @@ use mathlib.Core.List.{List, [], ◌∷◌}
 use lib.Dec.{T, eqb}
 use lib.ListN.{length}
 use lib.Ieee.{Float, lt}
+use Rattle.std.specs.Prelude.{Ok, Err}
 use Rattle.float.specs.Double.{lit, not_positive}
 use Rattle.complex.specs.declared.Complex.{Complex}
 use Rattle.mesh.specs.Mesh.{count, All, Distinct}
@@ -26,9 +27,7 @@ use Rattle.pass_options.specs.declared.BoundaryMode.TheVariants.{None, Tangent, 
 use Rattle.pass_options.specs.Options.{Guidance}
 use Rattle.pass_options.specs.Pass.{Passed, field, faulty}
 use Rattle.pass_boundary.specs.Boundary.{boundary_sides}
-use Rattle.pass_setup.specs.declared.Setup.{Setup}
-use Rattle.pass_setup.specs.declared.Setup.TheVariants.{Edges, Refused}
-use Rattle.pass_setup.specs.Setup.{setup_of}
+use Rattle.pass_setup.specs.Setup.{setup_of, Setup}
 use Rattle.pass_setup.specs.Rows.{SoundFloor, RefusedFloor, AcceptedFloor}
 use Rattle.pass_setup.proofs.Floors.{setup-good}
 use Rattle.pass_setup.proofs.Triangles.{Tests, passed, failed}
@@ -126,8 +125,8 @@ module _ (f : Floor) (o : Options) (g : Guidance) (k : ℕ) (ok : SoundFloor f) 
           by-solver (record { traced = record { floor = a; energy = no p; mass = no q }; bounded = passed (tests-23 o f (is-distinct a)) r }) w.0 w.1.0 w.1.1.1 (z ∙ ap faulty w.1.1.0) w.1.1.0
 
       set-up : (s : Setup) → setup_of f ≡ s → RefusedPass f o g k x
-      set-up (Refused y) e = let z : faulty y ≡ faulty x = sym (to-pass y (by-floor ((setup-rows f ok y).0 e))) ∙ h in by-floor (subst (RefusedFloor f) (sym (same z)) ((setup-rows f ok y).0 e))
-      set-up (Edges m) e =
+      set-up (Err y) e = let z : faulty y ≡ faulty x = sym (to-pass y (by-floor ((setup-rows f ok y).0 e))) ∙ h in by-floor (subst (RefusedFloor f) (sym (same z)) ((setup-rows f ok y).0 e))
+      set-up (Ok m) e =
           let a = setup-accepted f ok m e in
           traces a _ _ _ refl refl refl (sym (after a _ _ _ refl refl refl) ∙ h)
 

@@ -1,7 +1,7 @@
 -- One pass: the Rust's solve_mesh as one function of lists, every operation rounded once, in the order that the Rust writes it, without its checks (lines
 -- 1230 to 1234), which `solve_of` makes once and which hold in the second pass too (`second-sound`, crate solve). A floor has no z, so that no pass depends
 -- on one. Definitions only.
-use Rattle.std.specs.Prelude.{ℕ, cond}
+use Rattle.std.specs.Prelude.{ℕ, cond, Ok, Err}
 use Rattle.floor.specs.Floor.{Floor, point_count, triangle_count}
 use Rattle.linear_hermitian.specs.Hermitian.{Matrix}
 use Rattle.pass_terms.specs.declared.Mode.{Mode}
@@ -14,9 +14,7 @@ use Rattle.refusals.specs.Refusal.{gave_up}
 use Rattle.pass_options.specs.declared.Options.{Options}
 use Rattle.pass_options.specs.Options.{Guidance}
 use Rattle.pass_options.specs.Pass.{Passed, faulty}
-use Rattle.pass_setup.specs.declared.Setup.{Setup}
-use Rattle.pass_setup.specs.declared.Setup.TheVariants.{Edges, Refused}
-use Rattle.pass_setup.specs.Setup.{wound_of, areas_of, edges_of, lowers_of, uppers_of, transports_of, setup_of}
+use Rattle.pass_setup.specs.Setup.{wound_of, areas_of, edges_of, lowers_of, uppers_of, transports_of, setup_of, Setup}
 use Rattle.pass_branches.specs.Branches.{Built, branch_of}
 
 -- ---- the matrices, lines 1293 to 1418
@@ -52,8 +50,8 @@ unfoldable pub field_over : Floor → Options → Guidance → ℕ → Passed
 field_over f o g iterations = after_traces (traces_in o f) (branch_of (built_of o f) f o g iterations)
 
 abbrev pub after_setup : Setup → Passed → Passed
-after_setup (Edges m) next = next
-after_setup (Refused x) next = faulty x
+after_setup (Ok m) next = next
+after_setup (Err x) next = faulty x
 
 unfoldable pub pass_of : Floor → Options → Guidance → ℕ → Passed
 pass_of f o g iterations = after_setup (setup_of f) (field_over f o g iterations)

@@ -1,5 +1,5 @@
 -- How the work slices hold a floor and the two matrices, what the functions require of them, and the iterations of the loop on lists; what the traces' check answers. Definitions only.
-use Rattle.std.specs.Prelude.{ℕ, ◌+◌, ◌*◌, ◌≤◌, ◌<◌, ◌≡◌, cond, List, [], ◌∷◌, get_or, set, replicate, Float}
+use Rattle.std.specs.Prelude.{ℕ, ◌+◌, ◌*◌, ◌≤◌, ◌<◌, ◌≡◌, cond, List, [], ◌∷◌, get_or, set, replicate, Float, Ok, Err}
 use Rattle.std.specs.Float.{nan}
 use Rattle.float.specs.Double.{lit, not_positive, ◌⊕◌}
 use Rattle.complex.specs.declared.Complex.{Complex}
@@ -16,9 +16,7 @@ use Rattle.linear_cells.specs.Region.{tab, region, put}
 use Rattle.linear_cells.specs.Cell.{get_c, flat, region_c, put_c}
 use Rattle.linear_cells.specs.Spans.{Span, span, laid, Ranged}
 use Rattle.linear_hermitian.specs.declared.Hermitian.{Hermitian}
-use Rattle.refusals.specs.declared.Stage.{Stage}
-use Rattle.refusals.specs.declared.Stage.TheVariants.{Done, Refused}
-use Rattle.refusals.specs.Refusal.{gave_up}
+use Rattle.refusals.specs.Refusal.{gave_up, Verdict}
 use Rattle.pass_assembly.specs.declared.Triple.{Triple}
 use Rattle.pass_assembly.specs.declared.AssemblyPlan.{AssemblyPlan}
 use Rattle.pass_assembly.specs.declared.shift.Traces.{Traces}
@@ -168,8 +166,8 @@ cleared h w = put (put w h.diagonal (replicate h.size (lit 0))) h.off (replicate
 -- ---- the traces
 
 -- what `check` answers: reason 1, and then reason 2
-unfoldable pub traces_stage : Traces → Stage
-traces_stage t = cond (not_positive t.energy) (Refused (gave_up 1 0)) (cond (not_positive t.mass) (Refused (gave_up 2 0)) Done)
+unfoldable pub traces_stage : Traces → Verdict
+traces_stage t = cond (not_positive t.energy) (Err (gave_up 1 0)) (cond (not_positive t.mass) (Err (gave_up 2 0)) (Ok tt))
 
 pub record TraceRoom (len : ℕ) (mass energy : Hermitian) : Type 0 where
   pub mass-in : mass.diagonal + mass.size ≤ len

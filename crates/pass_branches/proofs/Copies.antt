@@ -24,11 +24,11 @@ use Rattle.linear_conjugate_gradient.proofs.Lays.{same-room}
 use Rattle.pass_inverse_iteration.specs.declared.Outer.{Outer}
 use Rattle.pass_soft.specs.Work.{system_in}
 use Rattle.pass_field.specs.Work.{FieldRoom}
-use Rattle.refusals.specs.declared.Stage.{Stage}
 use Rattle.pass_options.specs.Pass.{Passed}
 use Rattle.pass_branches.specs.declared.solver.BranchPlan.{BranchPlan}
 use Rattle.pass_branches.specs.Work.{Leaves, LeavesLinear, LeavesVector, CopyRoom, CopyBehind, Copies}
 use Rattle.pass_branches.proofs.Ends.{leaves_after}
+use Rattle.refusals.specs.Refusal.{Verdict}
 
 module _ (plan : BranchPlan) where
   abbrev h : Hermitian
@@ -120,15 +120,15 @@ module _ (plan : BranchPlan) where
           cells-kept u c e k.ready w h made ew l.residual h.size (apart c.entries (2 * c.slots) l.residual (2 * h.size) (omega (arith, room.entries_below, ok.vector-room.vectors-in))) in
           λ i. record { matrix = one-matrix i; rhs = r i }
 
-      kept : {w₂ : List Float} {p : Passed} {r : Stage} → Leaves w₁ w₂ plan p r → Leaves w w₂ plan p r
+      kept : {w₂ : List Float} {p : Passed} {r : Verdict} → Leaves w₁ w₂ plan p r → Leaves w w₂ plan p r
       kept a =
           leaves_after plan copied-length (λ j z. copied-before j (omega (arith, room.angles-before))) (λ j d o. copied-before j (omega (arith, room.diagonal-before)))
           (λ j z. copied_behind j (omega (arith, ok.vector-room.vectors-in))) a
 
-      pub leaves-linear : {w₂ : List Float} {r : Stage} → LeavesLinear w₁ w₂ plan from to r → LeavesLinear w w₂ plan from to r
+      pub leaves-linear : {w₂ : List Float} {r : Verdict} → LeavesLinear w₁ w₂ plan from to r → LeavesLinear w w₂ plan from to r
       leaves-linear a = kept (rw same-system at a)
 
-      pub leaves-vector : CopyBehind plan → {w₂ : List Float} {r : Stage} → LeavesVector w₁ w₂ plan from to r
+      pub leaves-vector : CopyBehind plan → {w₂ : List Float} {r : Verdict} → LeavesVector w₁ w₂ plan from to r
           → LeavesVector w w₂ plan from to r
       leaves-vector b a =
           kept (rw (one-matrix, matrix-before mass b.mass-before b.mass-off-before, before o.x h.size b.x-before, before o.y h.size b.y-before) at a)

@@ -5,6 +5,7 @@ use Prim.Native.Nat.{ℕ, ◌+◌, ◌*◌, ◌≤◌, ◌<◌}
 use native.Mathlib.Omega.{arith}
 use lib.Ieee.{Float, nan}
 use lib.ListN.{length, get_or}
+use Rattle.std.specs.Prelude.{Ok}
 use Rattle.complex.specs.declared.Complex.{Complex}
 use Rattle.linear_cells.specs.Region.{region, put}
 use Rattle.linear_cells.specs.Cell.{flat, region_c}
@@ -19,8 +20,6 @@ use Rattle.linear_conjugate_gradient.specs.Work.{read, lay, VectorRoom, SolverRo
 use Rattle.linear_conjugate_gradient.specs.Solve.{State}
 use Rattle.linear_conjugate_gradient.proofs.Lays.{Sized, read-sized}
 use Rattle.refusals.specs.declared.Refusal.{Refusal}
-use Rattle.refusals.specs.declared.Stage.{Stage}
-use Rattle.refusals.specs.declared.Stage.TheVariants.{Done}
 use Rattle.pass_options.specs.Pass.{Passed, field, faulty, stage_of}
 use Rattle.linear_conjugate_gradient.specs.Found.{Found, vector, gave}
 use Rattle.pass_solution.specs.Solution.{linear_most}
@@ -36,15 +35,16 @@ use Rattle.pass_systems.specs.Work.{Makes}
 use Rattle.pass_branches.specs.declared.solver.BranchPlan.{BranchPlan}
 use Rattle.pass_branches.specs.Branches.{after_angles, after_vector, linear}
 use Rattle.pass_branches.specs.Work.{Leaves, LeavesLinear}
+use Rattle.refusals.specs.Refusal.{Verdict}
 
 -- ---- answers
 
-stage-gave : (f : Found) {s : Stage} → s ≡ solution.found_stage f → (s ≡ Done → ⊥) → s ≡ stage_of (after_vector f)
+stage-gave : (f : Found) {s : Verdict} → s ≡ solution.found_stage f → (s ≡ Ok tt → ⊥) → s ≡ stage_of (after_vector f)
 unfolding solution.found_stage
 stage-gave (vector v) e h = absurd (h e)
 stage-gave (gave r i) e h = e
 
-no_field : (f : Found) {s : Stage} → s ≡ solution.found_stage f → (s ≡ Done → ⊥) → (alpha : List Float) → after_vector f ≡ field alpha → ⊥
+no_field : (f : Found) {s : Verdict} → s ≡ solution.found_stage f → (s ≡ Ok tt → ⊥) → (alpha : List Float) → after_vector f ≡ field alpha → ⊥
 unfolding solution.found_stage
 no_field (vector v) e h alpha q = h e
 no_field (gave r i) e h alpha q = let z : ◌≡◌ {A = ℕ} 0 1 = cc in omega arith
@@ -79,7 +79,7 @@ module _ (plan : BranchPlan) where
 
   -- ---- what came before left these places as they were
 
-  pub leaves_after : {w w₁ w₂ : List Float} {p : Passed} {r : Stage} → length w₁ ≡ length w
+  pub leaves_after : {w w₁ w₂ : List Float} {p : Passed} {r : Verdict} → length w₁ ≡ length w
       → ((j : ℕ) → j < at + h.size → get_or w₁ j nan ≡ get_or w j nan) → ((j : ℕ) → j < h.diagonal → j < h.off → get_or w₁ j nan ≡ get_or w j nan)
       → ((j : ℕ) → l.inverse + h.size ≤ j → get_or w₁ j nan ≡ get_or w j nan) → Leaves w₁ w₂ plan p r → Leaves w w₂ plan p r
   leaves_after e low mid past a = record {
@@ -92,7 +92,7 @@ module _ (plan : BranchPlan) where
     reals-behind = λ j k. a.reals-behind j k ∙ past j k;
   }
 
-  module _ (w : List Float) (ok : SolverRoom (length w) h l) (below : at + h.size ≤ l.x) {w₁ : List Float} {t : State} {f : Found} {s : Stage} (a : solution.Answers w w₁ h.size l t f s) where
+  module _ (w : List Float) (ok : SolverRoom (length w) h l) (below : at + h.size ≤ l.x) {w₁ : List Float} {t : State} {f : Found} {s : Verdict} (a : solution.Answers w w₁ h.size l t f s) where
     abbrev n : ℕ
     n = h.size
 
@@ -105,7 +105,7 @@ module _ (plan : BranchPlan) where
     past : (j : ℕ) → l.inverse + n ≤ j → get_or w₁ j nan ≡ get_or w j nan
     past j k = region-one nan w w₁ j (framed-behind w n l room a.frame j 1 k)
 
-    pub leaves-refused : (s ≡ Done → ⊥) → Leaves w w₁ plan (after_vector f) s
+    pub leaves-refused : (s ≡ Ok tt → ⊥) → Leaves w w₁ plan (after_vector f) s
     leaves-refused e = record {
       answer = stage-gave f a.stage e;
       found = λ alpha q. absurd (no_field f a.stage e alpha q);
@@ -123,7 +123,7 @@ module _ (plan : BranchPlan) where
     long = framed-length w n l a.frame
 
     -- what `angles_from` then leaves, of what it found
-    angles-left : (g : Angles) → field_of x ≡ g → {w₂ : List Float} {r : Stage} → w₂ ≡ written w₁ at g → r ≡ fields.angles_stage g → Leaves w w₂ plan (after_angles g) r
+    angles-left : (g : Angles) → field_of x ≡ g → {w₂ : List Float} {r : Verdict} → w₂ ≡ written w₁ at g → r ≡ fields.angles_stage g → Leaves w w₂ plan (after_angles g) r
     unfolding written
     angles-left (angles v) e {w₂} {r} e₂ er =
         let k : length v ≡ n = (field-cross x v e).as_many ∙ length-region_c w₁ l.x n in
@@ -158,27 +158,27 @@ module _ (plan : BranchPlan) where
         never : (alpha : List Float) → after_angles endless ≡ field alpha → ⊥
         never alpha q = let z : ◌≡◌ {A = ℕ} 0 1 = cc in omega arith
 
-    pub leaves-angles : s ≡ Done → {w₂ : List Float} {r : Stage} → Fields w₁ w₂ l.x at n r → Leaves w w₂ plan (after_vector f) r
+    pub leaves-angles : s ≡ Ok tt → {w₂ : List Float} {r : Verdict} → Fields w₁ w₂ l.x at n r → Leaves w w₂ plan (after_vector f) r
     leaves-angles d b = rw (found_at w n l a d) (angles-left (field_of x) refl b.work b.stage)
 
   -- ---- a system's solution
 
   module _ (w : List Float) (from to : List ℕ) (ok : SolverRoom (length w) h l × (at + h.size ≤ l.x)) {most : ℕ} (em : most ≡ linear_most h.size plan.outer.iterations)
-      {w₁ : List Float} {s : Stage} (a : solution.Solves w w₁ h l from to most s) where
+      {w₁ : List Float} {s : Verdict} (a : solution.Solves w w₁ h l from to most s) where
     solved : solution.Solves w w₁ h l from to (linear_most h.size plan.outer.iterations) s
     solved = rw em at a
 
-    pub linear-refused : (s ≡ Done → ⊥) → LeavesLinear w w₁ plan from to s
+    pub linear-refused : (s ≡ Ok tt → ⊥) → LeavesLinear w w₁ plan from to s
     unfolding linear
     linear-refused d = leaves-refused w ok.0 ok.1 solved d
 
-    pub linear-angles : s ≡ Done → {w₂ : List Float} {r : Stage} → Fields w₁ w₂ l.x at h.size r → LeavesLinear w w₂ plan from to r
+    pub linear-angles : s ≡ Ok tt → {w₂ : List Float} {r : Verdict} → Fields w₁ w₂ l.x at h.size r → LeavesLinear w w₂ plan from to r
     unfolding linear
     linear-angles d b = leaves-angles w ok.0 ok.1 solved d b
 
   -- ---- a system that was made, and its solution
 
-  pub leaves-made : {len : ℕ} {w w₁ w₂ : List Float} {from to : List ℕ} {x : List Complex} {s : System} {r : Stage} → SolverRoom len h l
+  pub leaves-made : {len : ℕ} {w w₁ w₂ : List Float} {from to : List ℕ} {x : List Complex} {s : System} {r : Verdict} → SolverRoom len h l
       → at + h.size ≤ h.diagonal → at + h.size ≤ h.off → Makes w w₁ plan.system from to x s → LeavesLinear w₁ w₂ plan from to r
       → Leaves w w₂ plan (linear h.size plan.outer.iterations s) r
   leaves-made {len} {w} {w₁} {w₂} {from} {to} {x} {s} ok d o m a =

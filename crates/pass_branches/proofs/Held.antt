@@ -9,6 +9,7 @@ use borrow.Author.Tests.{eq-eqb, ne_eqb}
 use lib.Dec.{eqb}
 use lib.Ieee.{Float, nan}
 use lib.ListN.{length, get_or}
+use Rattle.std.specs.Prelude.{Err}
 use Rattle.complex.specs.declared.Complex.{Complex}
 use Rattle.linear_cells.specs.Region.{region, put}
 use Rattle.linear_cells.specs.Cell.{region_c, put_c}
@@ -27,9 +28,7 @@ use Rattle.pass_boundary.proofs.Points.{length-flags, length-targets, target-off
 use Rattle.pass_boundary.proofs.After.{targets-after, flags-after}
 use Rattle.pass_constraints.specs.Constraints.{on}
 use Rattle.pass_constraints.proofs.Systems.{boundary-data}
-use Rattle.refusals.specs.declared.Stage.{Stage}
-use Rattle.refusals.specs.declared.Stage.TheVariants.{Refused}
-use Rattle.refusals.specs.Refusal.{row_at}
+use Rattle.refusals.specs.Refusal.{row_at, Verdict}
 use Rattle.pass_soft.specs.Soft.{Term, term_of, guided_targets, aligned_targets}
 use Rattle.pass_soft.specs.Work.{terms_in}
 use Rattle.pass_inverse_iteration.specs.Work.{start_in}
@@ -84,7 +83,7 @@ idle None b n flags flags' targets targets' start ts k e = refl
 idle Tangent b n flags flags' targets targets' start ts k e = let z : ◌≡◌ {A = ℕ} 0 1 = cc in absurd (omega arith)
 idle (Weak weight) b n flags flags' targets targets' start ts k e = rw e
 
-pub idle-finds : (l : Layout) (m : ℕ) (o : Options) (s : Search) (w : List Float) (u : List ℕ) → Ordered l (length w) (length u) → {b : Bool} → b ≡ acts o.boundary → b ≡ false → {w₁ : List Float} {u₁ : List ℕ} {r : Stage}
+pub idle-finds : (l : Layout) (m : ℕ) (o : Options) (s : Search) (w : List Float) (u : List ℕ) → Ordered l (length w) (length u) → {b : Bool} → b ≡ acts o.boundary → b ≡ false → {w₁ : List Float} {u₁ : List ℕ} {r : Verdict}
     → LeavesPacked l m o s w w₁ u u₁ r → Finds l l.energy l.table (sought_in l m o s w u) w u w₁ u₁ r
 idle-finds l m o s w u ok eb e {w₁} {u₁} {r} a =
     let q : acts o.boundary ≡ false = sym eb ∙ e in
@@ -230,7 +229,7 @@ module _ (l : Layout) (m : ℕ) (w : List Float) (u : List ℕ) (ok : Ordered l 
 
     module _ (o : Options) (s : Search) (a : acts o.boundary ≡ true) where
       -- row 23
-      pub held-refused : sides ≡ 0 → {r : Stage} → r ≡ Refused (row_at 23 0) → Finds l l.energy l.table (sought_in l m o s w u) w u w₁ u₁ r
+      pub held-refused : sides ≡ 0 → {r : Verdict} → r ≡ Err (row_at 23 0) → Finds l l.energy l.table (sought_in l m o s w u) w u w₁ u₁ r
       held-refused z er =
           let q : sought_in l m o s w u ≡ faulty (row_at 23 0) = sought-is l m o s w u ∙ rw (a, eq-eqb _ _ (sym b.sides ∙ z)) in
           rw q (record {
@@ -249,7 +248,7 @@ module _ (l : Layout) (m : ℕ) (w : List Float) (u : List ℕ) (ok : Ordered l 
           never : (alpha : List Float) → faulty (row_at 23 0) ≡ field alpha → ⊥
           never alpha h = let y : ◌≡◌ {A = ℕ} 0 1 = cc in omega arith
 
-      pub held-finds : (sides ≡ 0 → ⊥) → {w₂ : List Float} {u₂ : List ℕ} {r : Stage} → LeavesPacked l m o s w₁ w₂ u₁ u₂ r → Finds l l.energy l.table (sought_in l m o s w u) w u w₂ u₂ r
+      pub held-finds : (sides ≡ 0 → ⊥) → {w₂ : List Float} {u₂ : List ℕ} {r : Verdict} → LeavesPacked l m o s w₁ w₂ u₁ u₂ r → Finds l l.energy l.table (sought_in l m o s w u) w u w₂ u₂ r
       held-finds z {w₂} {u₂} {r} c =
           let q : sought_in l m o s w u ≡ mode_in l m o s w u F T = sought-is l m o s w u ∙ rw (a, ne_eqb _ _ (λ h. z (b.sides ∙ h))) in
           let p : mode_in l m o s w₁ u₁ (flags_at l u₁) (region_c w₁ l.targets l.points) ≡ sought_in l m o s w u =

@@ -12,7 +12,6 @@ use Rattle.linear_conjugate_gradient.specs.declared.Vectors.{Vectors}
 use Rattle.linear_conjugate_gradient.specs.Work.{SolverRoom}
 use Rattle.pass_inverse_iteration.specs.declared.Outer.{Outer}
 use Rattle.pass_inverse_iteration.specs.Work.{PencilRoom, PlanesBelow}
-use Rattle.refusals.specs.declared.Stage.{Stage}
 use Rattle.pass_soft.specs.declared.Terms.{Terms}
 use Rattle.pass_soft.specs.Soft.{Term, System, term_of}
 use Rattle.pass_soft.specs.Work.{terms_in}
@@ -23,6 +22,7 @@ use Rattle.pass_branches.specs.declared.solver.BranchPlan.{BranchPlan}
 use Rattle.pass_branches.specs.Branches.{no_terms, linear, free}
 use Rattle.pass_branches.specs.Work.{Leaves, pencil_at, BranchRoom, none_acts, LeavesLinear, LeavesSoft, LeavesVector, LeavesFree, LeavesWeak, LeavesTangent, LeavesBy}
 use Rattle.pass_branches.proofs.Ends.{leaves-made}
+use Rattle.refusals.specs.Refusal.{Verdict}
 
 -- ---- whether a soft term acts
 
@@ -82,13 +82,13 @@ module _ (plan : BranchPlan) where
     pub pencil-room : PencilRoom len (pencil_at plan)
     pencil-room = let s = ok.system-room.soft-room in record { one_size = s.shift-room.one_size; mass-room = s.mass-room; energy-room = s.h-room }
 
-    pub leaves-system : {w w₁ w₂ : List Float} {from to : List ℕ} {x : List Complex} {s : System} {r : Stage} → Makes w w₁ plan.system from to x s → LeavesLinear w₁ w₂ plan from to r
+    pub leaves-system : {w w₁ w₂ : List Float} {from to : List ℕ} {x : List Complex} {s : System} {r : Verdict} → Makes w w₁ plan.system from to x s → LeavesLinear w₁ w₂ plan from to r
         → Leaves w w₂ plan (linear h.size o.iterations s) r
     leaves-system m a = leaves-made plan ok.system-room.soft-room.h-room ok.angles-below ok.angles-below-off m a
 
   -- ---- the soft terms
 
-  module _ (w w₁ : List Float) (from to : List ℕ) {r : Stage} {b : Bool} (eb : b ≡ none_acts t) where
+  module _ (w w₁ : List Float) (from to : List ℕ) {r : Verdict} {b : Bool} (eb : b ≡ none_acts t) where
     pub free_vector : b ≡ true → LeavesVector w w₁ plan from to r → LeavesFree w w₁ plan from to r
     unfolding free
     free_vector e a = let q : no_terms (terms_in w h t) ≡ true = sym (none_is w h t) ∙ sym eb ∙ e in rw q a
@@ -99,7 +99,7 @@ module _ (plan : BranchPlan) where
 
   -- ---- the mode
 
-  module _ (mode : BoundaryMode) (w w₁ : List Float) (flags from to : List ℕ) {r : Stage} where
+  module _ (mode : BoundaryMode) (w w₁ : List Float) (flags from to : List ℕ) {r : Verdict} where
     pub by-none : mode ≡ None → LeavesFree w w₁ plan from to r → LeavesBy mode w w₁ plan flags from to r
     by-none e a = subst (λ (k : BoundaryMode). LeavesBy k w w₁ plan flags from to r) (sym e) a
 

@@ -18,7 +18,6 @@ use Rattle.linear_packing.specs.Pack as pack
 use Rattle.linear_packing.proofs.Slots.{slots-all}
 use Rattle.linear_packing.proofs.Whole.{before-kept, behind-same, from-kept, to-kept, length-kept, ready}
 use Rattle.linear_pairs.proofs.Product.{ends_of}
-use Rattle.refusals.specs.declared.Stage.{Stage}
 use Rattle.pass_options.specs.declared.Options.{Options}
 use Rattle.pass_options.specs.declared.BoundaryMode.TheVariants.{Tangent}
 use Rattle.pass_layout.specs.declared.Layout.{Layout}
@@ -28,6 +27,7 @@ use Rattle.pass_layout.specs.Work.{from_list, to_list, Edged}
 use Rattle.pass_layout.proofs.Regions.{countable, pack-room}
 use Rattle.pass_branches.specs.declared.Search.{Search}
 use Rattle.pass_branches.specs.Work.{flags_at, Bounds, LeavesAt, Packs, LeavesPacked}
+use Rattle.refusals.specs.Refusal.{Verdict}
 
 -- what the code has for the copy's places is the layout's
 module _ (l : Layout) (m : ℕ) (u : List ℕ) {t : Packing} (et : t ≡ packing_at l m) {s : Source} (es : s ≡ source_at l m) where
@@ -90,7 +90,7 @@ module _ (l : Layout) (m : ℕ) (u : List ℕ) {reals : ℕ} (ok : Ordered l rea
       pub packed-bounds : (o.boundary ≡ Tangent → Bounds l w u) → o.boundary ≡ Tangent → Bounds l w u₁
       packed-bounds f t = rw flags-kept (f t)
 
-      pub leaves-packed : {w₁ : List Float} {r : Stage} → LeavesAt l m o s w w₁ u₁ r → LeavesPacked l m o s w w₁ u u₁ r
+      pub leaves-packed : {w₁ : List Float} {r : Verdict} → LeavesAt l m o s w w₁ u₁ r → LeavesPacked l m o s w w₁ u u₁ r
       leaves-packed a = record {
         leaves = rw (lower, upper, flags-kept) at a;
         words = b;

@@ -16,7 +16,6 @@ use Rattle.linear_packing.specs.declared.Source.{Source}
 use Rattle.linear_conjugate_gradient.specs.declared.Vectors.{Vectors}
 use Rattle.pass_constraints.specs.Constraints.{boundary_data}
 use Rattle.pass_inverse_iteration.specs.Work.{Graphs}
-use Rattle.refusals.specs.declared.Stage.{Stage}
 use Rattle.pass_soft.specs.declared.Terms.{Terms}
 use Rattle.pass_systems.specs.Work.{TargetRoom, targets_at}
 use Rattle.pass_options.specs.declared.Options.{Options}
@@ -28,6 +27,7 @@ use Rattle.pass_layout.specs.Work.{from_list, to_list}
 use Rattle.pass_branches.specs.declared.Search.{Search}
 use Rattle.pass_branches.specs.declared.solver.BranchPlan.{BranchPlan}
 use Rattle.pass_branches.specs.Work.{pencil_at, BranchRoom, CopyRoom, CopyBehind, Copies, Packs, terms_at, outer_at, plan_at, flags_at, Bounds, LeavesBy, LeavesAt}
+use Rattle.refusals.specs.Refusal.{Verdict}
 
 -- a part of the u32 work, as the code takes it
 abbrev part : List ℕ → ℕ → ℕ → List ℕ
@@ -87,6 +87,6 @@ module _ (l : Layout) (m : ℕ) (o : Options) (s : Search) (w : List Float) (u :
         rw (eh, em, et, ev, ec, eg, from_is, to_is, flag_is)
         ((branch-room l m o s ok e.few, target_room l m o s ok e.few), ((graphs, length-region 0 u l.flags l.points), (b, ((copy-room l m o s ok e.few, copy-behind l m o s ok e.few), copies))))
 
-    pub at-leaves : {w₁ : List Float} {r : Stage}
+    pub at-leaves : {w₁ : List Float} {r : Verdict}
         → LeavesBy o.boundary w w₁ made (part u l.flags l.points) (part u l.from m) (part u l.to m) r → LeavesAt l m o s w w₁ u r
     at-leaves a = rw (eh, em, et, ev, ec, eg, from_is, to_is, flag_is) at a

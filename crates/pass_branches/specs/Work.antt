@@ -20,7 +20,6 @@ use Rattle.pass_constraints.specs.Constraints.{boundary_data}
 use Rattle.pass_systems.specs.Systems.{soft_system}
 use Rattle.pass_systems.specs.Work.{SystemRoom, mass_in, energy_in, targets_at, soft_in}
 use Rattle.refusals.specs.declared.Refusal.{Refusal}
-use Rattle.refusals.specs.declared.Stage.{Stage}
 use Rattle.pass_options.specs.declared.Options.{Options}
 use Rattle.pass_options.specs.declared.BoundaryMode.{BoundaryMode}
 use Rattle.pass_options.specs.Options.{guidance_of}
@@ -31,6 +30,7 @@ use Rattle.pass_layout.specs.Work.{floor_in, guidance_in, from_list, to_list}
 use Rattle.pass_branches.specs.declared.Search.{Search}
 use Rattle.pass_branches.specs.declared.solver.BranchPlan.{BranchPlan}
 use Rattle.pass_branches.specs.Branches.{Built, after_vector, linear, free, weak, tangent, by_mode, branch_of}
+use Rattle.refusals.specs.Refusal.{Verdict}
 
 -- the matrices with m edges that stand in the slices
 abbrev pub built_in : Layout → ℕ → Float → List Float → List ℕ → Built
@@ -43,7 +43,7 @@ sought_in l m o s w u = branch_of (built_in l m s.trace w u) (floor_in l w u) o 
 -- what a pass found, in the slices: the answer, and the field where there is one; where there is none the angles are as they were. In the f64 work all before
 -- the angles, all from behind them up to `reals`, and all behind the solver's last vector stays as it was; in the u32 work all before `words`, and all behind
 -- the marks. The rest is free
-pub record Finds (l : Layout) (reals words : ℕ) (p : Passed) (w : List Float) (u : List ℕ) (w' : List Float) (u' : List ℕ) (r : Stage) : Type 0 where
+pub record Finds (l : Layout) (reals words : ℕ) (p : Passed) (w : List Float) (u : List ℕ) (w' : List Float) (u' : List ℕ) (r : Verdict) : Type 0 where
   pub answer : r ≡ stage_of p
   pub found : (alpha : List Float) → p ≡ field alpha → region nan w' l.angles l.points ≡ alpha
   pub all-reals : length w' ≡ length w
@@ -58,7 +58,7 @@ pub record Finds (l : Layout) (reals words : ℕ) (p : Passed) (w : List Float) 
 -- ---- the f64 work alone
 
 -- the same of it, by a branch's plan: all before the angles, all from behind them up to the energy matrix, and all behind the vectors stays
-pub record Leaves (w w' : List Float) (b : BranchPlan) (p : Passed) (r : Stage) : Type 0 where
+pub record Leaves (w w' : List Float) (b : BranchPlan) (p : Passed) (r : Verdict) : Type 0 where
   pub answer : r ≡ stage_of p
   pub found : (alpha : List Float) → p ≡ field alpha → region nan w' b.angles b.system.energy.size ≡ alpha
   pub all-reals : length w' ≡ length w
@@ -111,11 +111,11 @@ none_acts t = not (lt (lit 0) t.alignment) && not (t.guided && lt (lit 0) t.weig
 
 -- ---- the branches' promises, over the matrices in the slice
 
-abbrev pub LeavesLinear : (w w' : List Float) (b : BranchPlan) (from to : List ℕ) → Stage → Type 0
+abbrev pub LeavesLinear : (w w' : List Float) (b : BranchPlan) (from to : List ℕ) → Verdict → Type 0
 LeavesLinear w w' b from to r =
     Leaves w w' b (linear b.system.energy.size b.outer.iterations (system_in w b.system.energy b.system.vectors from to)) r
 
-abbrev pub LeavesSoft : (w w' : List Float) (b : BranchPlan) (from to : List ℕ) → Stage → Type 0
+abbrev pub LeavesSoft : (w w' : List Float) (b : BranchPlan) (from to : List ℕ) → Verdict → Type 0
 LeavesSoft w w' b from to r =
     Leaves w w' b
     (linear b.system.energy.size b.outer.iterations (soft_system (mass_in w b.system from to) (energy_in w b.system from to) (soft_in w b.system) b.system.energy.size))
@@ -129,29 +129,29 @@ pair_in w b from to = record { mass = mass_in w b.system from to; energy = energ
 abbrev pub start_at : List Float → BranchPlan → List Complex
 start_at w b = start_in w b.outer b.system.energy.size
 
-abbrev pub LeavesVector : (w w' : List Float) (b : BranchPlan) (from to : List ℕ) → Stage → Type 0
+abbrev pub LeavesVector : (w w' : List Float) (b : BranchPlan) (from to : List ℕ) → Verdict → Type 0
 LeavesVector w w' b from to r =
     Leaves w w' b
     (after_vector (inverse_of (mass_in w b.system from to) (energy_in w b.system from to) b.outer.trace b.outer.iterations (start_at w b)))
     r
 
-abbrev pub LeavesFree : (w w' : List Float) (b : BranchPlan) (from to : List ℕ) → Stage → Type 0
+abbrev pub LeavesFree : (w w' : List Float) (b : BranchPlan) (from to : List ℕ) → Verdict → Type 0
 LeavesFree w w' b from to r =
     Leaves w w' b (free (pair_in w b from to) b.system.energy.size (start_at w b) (soft_in w b.system) b.outer.iterations) r
 
-abbrev pub LeavesWeak : (w w' : List Float) (b : BranchPlan) (weight : Float) (flags from to : List ℕ) → Stage → Type 0
+abbrev pub LeavesWeak : (w w' : List Float) (b : BranchPlan) (weight : Float) (flags from to : List ℕ) → Verdict → Type 0
 LeavesWeak w w' b weight flags from to r =
     Leaves w w' b
     (weak weight (pair_in w b from to) b.system.energy.size flags (targets_at w b.system) (soft_in w b.system) b.outer.iterations)
     r
 
-abbrev pub LeavesTangent : (w w' : List Float) (b : BranchPlan) (flags from to : List ℕ) → Stage → Type 0
+abbrev pub LeavesTangent : (w w' : List Float) (b : BranchPlan) (flags from to : List ℕ) → Verdict → Type 0
 LeavesTangent w w' b flags from to r =
     Leaves w w' b
     (tangent (pair_in w b from to) b.system.energy.size flags (targets_at w b.system) (soft_in w b.system) b.outer.iterations)
     r
 
-abbrev pub LeavesBy : (mode : BoundaryMode) (w w' : List Float) (b : BranchPlan) (flags from to : List ℕ) → Stage → Type 0
+abbrev pub LeavesBy : (mode : BoundaryMode) (w w' : List Float) (b : BranchPlan) (flags from to : List ℕ) → Verdict → Type 0
 LeavesBy mode w w' b flags from to r =
     Leaves w w' b
     (by_mode mode (pair_in w b from to) b.system.energy.size flags (targets_at w b.system) (start_at w b) (soft_in w b.system) b.outer.iterations)
@@ -174,7 +174,7 @@ plan_at l m o s = record {
 abbrev pub flags_at : Layout → List ℕ → List ℕ
 flags_at l u = region 0 u l.flags l.points
 
-abbrev pub LeavesAt : (l : Layout) (m : ℕ) (o : Options) (s : Search) (w w' : List Float) (u : List ℕ) → Stage → Type 0
+abbrev pub LeavesAt : (l : Layout) (m : ℕ) (o : Options) (s : Search) (w w' : List Float) (u : List ℕ) → Verdict → Type 0
 LeavesAt l m o s w w' u r =
     LeavesBy o.boundary w w' (plan_at l m o s) (flags_at l u) (from_list l m u) (to_list l m u) r
 
@@ -189,7 +189,7 @@ pub record Packs (l : Layout) (m : ℕ) (u : List ℕ) : Type 0 where
   pub ready : Ready u (packing_at l m) (source_at l m)
 
 -- what `packed_field` leaves: the field, and in the u32 work the packed copy's numbers and nothing else
-pub record LeavesPacked (l : Layout) (m : ℕ) (o : Options) (s : Search) (w w' : List Float) (u u' : List ℕ) (r : Stage) : Type 0 where
+pub record LeavesPacked (l : Layout) (m : ℕ) (o : Options) (s : Search) (w w' : List Float) (u u' : List ℕ) (r : Verdict) : Type 0 where
   pub leaves : LeavesAt l m o s w w' u r
   pub words : u' ≡ packed_in (packing_at l m) (source_at l m) u
   pub all_words : length u' ≡ length u

@@ -8,6 +8,7 @@ use native.Mathlib.Omega.{arith}
 use borrow.Author.Tests.{not-true, not-false}
 use lib.Ieee.{Float, nan}
 use lib.ListN.{length, get_or, set}
+use Rattle.std.specs.Prelude.{Ok, Err}
 use Rattle.complex.specs.declared.Complex.{Complex}
 use Rattle.complex.specs.Complex.{cnan}
 use Rattle.complex.specs.Angle.{cross_angle, IsCross}
@@ -18,9 +19,7 @@ use Rattle.linear_cells.proofs.Loops.{length-tab, get_or-tab, tab-ext}
 use Rattle.linear_cells.proofs.Regions.{length-region, put-region}
 use Rattle.linear_cells.proofs.Cells.{length-region_c, get_or-region_c, region_c-put-else}
 use Rattle.linear_cells.proofs.Over.{over, over_none, length_over, over-all, over-region}
-use Rattle.refusals.specs.declared.Stage.{Stage}
-use Rattle.refusals.specs.declared.Stage.TheVariants.{Done, Refused}
-use Rattle.refusals.specs.Refusal.{gave_up}
+use Rattle.refusals.specs.Refusal.{gave_up, Verdict}
 use Rattle.pass_field.specs.Field.{angles, endless, finite, all_finite, cross_angles, field_of}
 use Rattle.pass_field.specs.Work.{FieldRoom, written, angles_stage, Fields}
 
@@ -107,13 +106,13 @@ module _ (w : List Float) (x at n : ℕ) where
 -- ---- angles_from
 
 module _ (w : List Float) (x at n : ℕ) {b : Bool} (eb : b ≡ all_finite (region_c w x n)) where
-  pub from-endless : not b ≡ true → {r : Stage} → r ≡ Refused (gave_up 13 0) → Fields w w x at n r
+  pub from-endless : not b ≡ true → {r : Verdict} → r ≡ Err (gave_up 13 0) → Fields w w x at n r
   unfolding field_of written angles_stage
   from-endless t e =
       let q : all_finite (region_c w x n) ≡ false = sym eb ∙ not-true b t in
       record { work = rw q; stage = rw q e }
 
-  pub from-angles : not b ≡ false → {w₁ : List Float} → w₁ ≡ put w at (cross_angles (region_c w x n)) → Fields w w₁ x at n Done
+  pub from-angles : not b ≡ false → {w₁ : List Float} → w₁ ≡ put w at (cross_angles (region_c w x n)) → Fields w w₁ x at n (Ok tt)
   unfolding field_of written angles_stage
   from-angles t e =
       let q : all_finite (region_c w x n) ≡ true = sym eb ∙ not-false b t in

@@ -15,12 +15,12 @@ use Rattle.edges.specs.Numbering.{Below}
 use Rattle.refinement.specs.Guidance.{mid_angles, more_angles}
 use Rattle.refinement.proofs.Triangles.{tris-held}
 use Rattle.edges.specs.declared.Table.{Table}
-use Rattle.refusals.specs.declared.Stage.{Stage}
 use Rattle.pass_options.specs.declared.Options.{Options}
 use Rattle.pass_options.specs.Pass.{stage_of}
 use Rattle.pass.specs.declared.Asked.{Asked}
 use Rattle.pass_floor.specs.Lay.{pass_over, pass_at, LaidRoom, Made}
 use Rattle.pass_floor.specs.First.{first_base, first_over, FirstRoom}
+use Rattle.refusals.specs.Refusal.{Verdict}
 
 -- no cut sides
 abbrev pub no-cuts : Table
@@ -75,7 +75,7 @@ module _ (o : Options) (a : Asked) (points : List Float) (corners : List ℕ) (s
   same-pass =
       rw (none-cut u₁, same_points points, same-sizes sizes, same-angles angles, tris-held 0 (length corners / 3) u₁ corners (λ j h. stands j (omega (arith, ok.whole-corners))))
 
-  pub first_made : {w' : List Float} {u' : List ℕ} {r : Stage} → Made (first_base (length points) (length corners)) (pass_at (first_base (length points) (length corners)) o a no-cuts points sizes angles u₁) w w' u₁ u' r
+  pub first_made : {w' : List Float} {u' : List ℕ} {r : Verdict} → Made (first_base (length points) (length corners)) (pass_at (first_base (length points) (length corners)) o a no-cuts points sizes angles u₁) w w' u₁ u' r
       → Made (first_base (length points) (length corners)) (first_over o a points corners sizes angles) w w' u u' r
   first_made m = record {
     answer = m.answer ∙ ap stage_of same-pass;

@@ -21,7 +21,6 @@ use Rattle.edges.specs.declared.Table.{Table}
 use Rattle.pass_floor.specs.declared.inputs.Mean.TheVariants.{Half, Angle}
 use Rattle.pass_floor.specs.Planes.{coordinate_at, coordinate_plane, mean_of, mean_on, value_plane}
 use Rattle.pass_floor.proofs.Points.{cuts-length, length-plane}
-use Rattle.refusals.specs.declared.Stage.{Stage}
 use Rattle.pass_layout.specs.declared.Base.{Base}
 use Rattle.pass_layout.specs.declared.Layout.{Layout}
 use Rattle.pass_layout.specs.Layout.{reals_of, layout_of, Fits, Ordered}
@@ -35,6 +34,7 @@ use Rattle.pass.specs.declared.Asked.{Asked}
 use Rattle.pass.specs.Work.{pass_in}
 use Rattle.edges.specs.Table.{cuts_in}
 use Rattle.pass_floor.specs.Lay.{points_laid, guidance_laid, pass_over, pass_at, LayRoom, GuidanceRoom, LaidRoom, Made}
+use Rattle.refusals.specs.Refusal.{Verdict}
 
 -- ---- the planes are those of the refined floor
 
@@ -197,7 +197,7 @@ module _ (at : Base) (o : Options) (a : Asked) (points sizes angles : List Float
   unfolding pass_in pass_over
   same-pass = rw (floor-laid at a.guided points sizes angles t w u ok, guidance-same at a.guided points sizes angles t w u ok a.weight)
 
-  made-before : {w₃ : List Float} {u₃ : List ℕ} {r : Stage} → Finds (layout_of at) (layout_of at).areas (layout_of at).wound (pass_in (layout_of at) o a before u) before u w₃ u₃ r → Made at (pass_at at o a t points sizes angles u) w w₃ u u₃ r
+  made-before : {w₃ : List Float} {u₃ : List ℕ} {r : Verdict} → Finds (layout_of at) (layout_of at).areas (layout_of at).wound (pass_in (layout_of at) o a before u) before u w₃ u₃ r → Made at (pass_at at o a t points sizes angles u) w w₃ u u₃ r
   unfolding layout_of
   made-before f = record {
     answer = f.answer ∙ ap stage_of same-pass;
@@ -217,7 +217,7 @@ module _ (at : Base) (o : Options) (a : Asked) (points sizes angles : List Float
       subst (λ (n : ℕ). Fits at n (length u)) (sym k) ok.fits
 
   pub made : {w₁ w₂ : List Float} → w₁ ≡ points_laid points sizes (cuts_in t u) (layout_of at) w → w₂ ≡ guidance_laid a.guided angles (cuts_in t u) (layout_of at) w₁
-      → {w₃ : List Float} {u₃ : List ℕ} {r : Stage} → Finds (layout_of at) (layout_of at).areas (layout_of at).wound (pass_in (layout_of at) o a w₂ u) w₂ u w₃ u₃ r
+      → {w₃ : List Float} {u₃ : List ℕ} {r : Verdict} → Finds (layout_of at) (layout_of at).areas (layout_of at).wound (pass_in (layout_of at) o a w₂ u) w₂ u w₃ u₃ r
       → Made at (pass_at at o a t points sizes angles u) w w₃ u u₃ r
   made e₁ e₂ {w₃} {u₃} {r} f =
       made-before (subst (λ (x : List Float). Finds (layout_of at) (layout_of at).areas (layout_of at).wound (pass_in (layout_of at) o a x u) x u w₃ u₃ r) (e₂ ∙ ap (guidance_laid a.guided angles (cuts_in t u) (layout_of at)) e₁) f)

@@ -14,12 +14,12 @@ use Rattle.pass_layout.specs.declared.Base.{Base}
 use Rattle.pass_layout.specs.declared.Layout.{Layout}
 use Rattle.pass_layout.specs.Layout.{reals_of, words_of, Fits}
 use Rattle.refusals.specs.declared.Refusal.{Refusal}
-use Rattle.refusals.specs.declared.Stage.{Stage}
 use Rattle.pass_options.specs.declared.Options.{Options}
 use Rattle.pass_options.specs.Options.{guidance_of}
 use Rattle.pass_options.specs.Pass.{Passed, field, faulty, stage_of, floor_of}
 use Rattle.pass.specs.declared.Asked.{Asked}
 use Rattle.pass.specs.Pass.{pass_of}
+use Rattle.refusals.specs.Refusal.{Verdict}
 
 -- ---- the slice with the planes
 
@@ -64,7 +64,7 @@ pub record LaidRoom (at : Base) (guided : Bool) (points sizes guidance : ℕ) (t
 
 -- ---- a pass that was made where it begins at `at`: its answer, and its angles where it has some, else what stood there. In both slices all before the pass and
 -- all behind its room is as it was; the rest of its room is free
-pub record Made (at : Base) (p : Passed) (w w' : List Float) (u u' : List ℕ) (r : Stage) : Type 0 where
+pub record Made (at : Base) (p : Passed) (w w' : List Float) (u u' : List ℕ) (r : Verdict) : Type 0 where
   pub answer : r ≡ stage_of p
   pub found : (alpha : List Float) → p ≡ field alpha → region nan w' at.reals at.points ≡ alpha
   pub all-reals : length w' ≡ length w

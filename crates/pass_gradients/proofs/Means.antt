@@ -11,10 +11,9 @@ use lib.Dec.{eqb, ltb}
 use lib.ListN.{length, length-set, get_or, set}
 use lib.Seq.{get_or-set_same, get_or-set_other}
 use lib.Ieee.{Float, nan}
+use Rattle.std.specs.Prelude.{Ok, Err}
 use Rattle.float.specs.Double.{◌⊘◌}
-use Rattle.floor.specs.declared.Check.{Check}
-use Rattle.floor.specs.declared.Check.TheVariants.{Sound, Refused}
-use Rattle.refusals.specs.Refusal.{row_at}
+use Rattle.refusals.specs.Refusal.{row_at, Verdict}
 use Rattle.floor.specs.Checks.{lowest}
 use Rattle.floor.proofs.Lowest.{lowest-none, lowest-again, lowest-found, lowest-most, lowest-same}
 use Rattle.pass_geometries.specs.Work.{coords_from}
@@ -61,11 +60,11 @@ found_first : (g n i : ℕ) (w : List Float) → not (eqb (row_of_point (sums_x 
 unfolding first_refused
 found_first g n i w b s h = lowest-found _ i n s b h
 
-check-refused : (X Y W : ℕ → Float) (n : ℕ) {i r : ℕ} → i ≡ first_refused X Y W n → r ≡ row_of_point X Y W i → i < n → Refused (row_at r i) ≡ check_means X Y W n
+check-refused : (X Y W : ℕ → Float) (n : ℕ) {i r : ℕ} → i ≡ first_refused X Y W n → r ≡ row_of_point X Y W i → i < n → Err (row_at r i) ≡ check_means X Y W n
 unfolding check_means
 check-refused X Y W n {i} {r} p q h = rw (← p, ← q, lt-ltb i n h)
 
-check_sound : (X Y W : ℕ → Float) (n : ℕ) → n ≡ first_refused X Y W n → Sound ≡ check_means X Y W n
+check_sound : (X Y W : ℕ → Float) (n : ℕ) → n ≡ first_refused X Y W n → (Ok tt) ≡ check_means X Y W n
 unfolding check_means
 check_sound X Y W n p = rw (← p, le-ltb n n (omega arith))
 
@@ -120,7 +119,7 @@ module _ {g n i : ℕ} {w₀ w : List Float} (h : i < n) (room : g + 3 * n ≤ l
       still j (inr (inl q)) = inr (inl (omega arith, q.1))
       still j (inr (inr q)) = inr (inr (omega arith))
 
-  pub to-found : {w' : List Float} {r : ℕ} {f : Check} → r ≢ 0 → DividedPoint g n i w w' r → f ≡ Refused (row_at r i)
+  pub to-found : {w' : List Float} {r : ℕ} {f : Verdict} → r ≢ 0 → DividedPoint g n i w w' r → f ≡ Err (row_at r i)
       → Divided g n w₀ w' f
   to-found {w'} {r} {f} z s a =
       let bad : not (eqb (row_of_point (sums_x g n w₀) (sums_y g n w₀) (weights g n w₀) i) 0) ≡ true = ap not (ne_eqb _ 0 (λ q. z (s.row ∙ same_row ∙ q))) in
@@ -132,10 +131,10 @@ module _ {g n i : ℕ} {w₀ w : List Float} (h : i < n) (room : g + 3 * n ≤ l
       found b = found_first g n i w₀ b k.sound h
 
       told : i ≡ first_refused (sums_x g n w₀) (sums_y g n w₀) (weights g n w₀) n → r ≡ row_of_point (sums_x g n w₀) (sums_y g n w₀) (weights g n w₀) i
-          → Refused (row_at r i) ≡ check_means (sums_x g n w₀) (sums_y g n w₀) (weights g n w₀) n
+          → Err (row_at r i) ≡ check_means (sums_x g n w₀) (sums_y g n w₀) (weights g n w₀) n
       told p q = check-refused (sums_x g n w₀) (sums_y g n w₀) (weights g n w₀) n p q h
 
-pub to-done : {g n i : ℕ} {w₀ w : List Float} → i ≡ n → To g n i w₀ w → Divided g n w₀ w Sound
+pub to-done : {g n i : ℕ} {w₀ w : List Float} → i ≡ n → To g n i w₀ w → Divided g n w₀ w (Ok tt)
 to-done {g} {n} {i} {w₀} {w} e k =
     let first : n ≡ first_refused (sums_x g n w₀) (sums_y g n w₀) (weights g n w₀) n = rw e at k.sound in
     record { answer = check_sound (sums_x g n w₀) (sums_y g n w₀) (weights g n w₀) n first; means = subst (λ (m : ℕ). DividedTo g n m w₀ w) (e ∙ first) k.means }
@@ -151,17 +150,17 @@ check-same X Y W X' Y' W' n p q r =
     same : (v : ℕ) → v < n → row_of_point X Y W v ≡ row_of_point X' Y' W' v
     same v h = rw (p v h, q v h, r v h)
 
-    go : (k : ℕ) {k' : ℕ} → k ≡ k' → (b : Bool) → ltb k n ≡ b → cond (ltb k n) (Refused (row_at (row_of_point X Y W k) k)) Sound ≡ cond (ltb k' n) (Refused (row_at (row_of_point X' Y' W' k') k')) Sound
+    go : (k : ℕ) {k' : ℕ} → k ≡ k' → (b : Bool) → ltb k n ≡ b → cond (ltb k n) (Err (row_at (row_of_point X Y W k) k)) (Ok tt) ≡ cond (ltb k' n) (Err (row_at (row_of_point X' Y' W' k') k')) (Ok tt)
     go k e true h = rw (← e, h, same k (ltb-true k n h))
     go k e false h = rw (← e, h)
 
-pub sound-all : (X Y W : ℕ → Float) (n : ℕ) → check_means X Y W n ≡ Sound → first_refused X Y W n ≡ n
+pub sound-all : (X Y W : ℕ → Float) (n : ℕ) → check_means X Y W n ≡ Ok tt → first_refused X Y W n ≡ n
 unfolding check_means
 sound-all X Y W n h = go (ltb (first_refused X Y W n) n) refl h
   where
     most : first_refused X Y W n ≤ n
     most = unfold first_refused in lowest-most _ n
 
-    go : (b : Bool) → ltb (first_refused X Y W n) n ≡ b → cond b (Refused (row_at (row_of_point X Y W (first_refused X Y W n)) (first_refused X Y W n))) Sound ≡ Sound → first_refused X Y W n ≡ n
+    go : (b : Bool) → ltb (first_refused X Y W n) n ≡ b → cond b (Err (row_at (row_of_point X Y W (first_refused X Y W n)) (first_refused X Y W n))) (Ok tt) ≡ Ok tt → first_refused X Y W n ≡ n
     go true e z = let y : ◌≡◌ {A = ℕ} 0 1 = cc in absurd (omega arith)
     go false e z = omega (arith, ltb-false (first_refused X Y W n) n e, most)

@@ -1,13 +1,11 @@
 -- The size gradient at each point of a pass, the mean of its triangles' gradients weighed by their areas: the first two loops of the Rust's solve_mesh,
 -- as far as they make `gradient`. Rows 20 and 21. Definitions only.
 -- Triangle t has the corners ts t, counter-clockwise, and the area A t; point v has the coordinates X v and Y v and the size S v.
-use Rattle.std.specs.Prelude.{ℕ, zero, suc, Bool, cond, not, ◌||◌, eqb, ltb, Float}
+use Rattle.std.specs.Prelude.{ℕ, zero, suc, Bool, cond, not, ◌||◌, eqb, ltb, Float, Ok, Err}
 use Rattle.float.specs.Double.{lit, is_finite, not_positive, ◌⊕◌, ◌⊗◌, ◌⊘◌}
 use Rattle.plane.specs.declared.Pair.{Pair}
 use Rattle.mesh.specs.Mesh.{Tri, tri}
-use Rattle.floor.specs.declared.Check.{Check}
-use Rattle.floor.specs.declared.Check.TheVariants.{Sound, Refused}
-use Rattle.refusals.specs.Refusal.{row_at}
+use Rattle.refusals.specs.Refusal.{row_at, Verdict}
 use Rattle.floor.specs.Checks.{lowest}
 use Rattle.geometry.specs.Triangle.{gradient, at}
 
@@ -52,5 +50,5 @@ row_of_point X Y W v = row_of (X v) (Y v) (W v)
 unfoldable pub first_refused : (ℕ → Float) → (ℕ → Float) → (ℕ → Float) → ℕ → ℕ
 first_refused X Y W n = lowest (λ v. not (eqb (row_of_point X Y W v) 0)) n
 
-unfoldable pub check_means : (ℕ → Float) → (ℕ → Float) → (ℕ → Float) → ℕ → Check
-check_means X Y W n = cond (ltb (first_refused X Y W n) n) (Refused (row_at (row_of_point X Y W (first_refused X Y W n)) (first_refused X Y W n))) Sound
+unfoldable pub check_means : (ℕ → Float) → (ℕ → Float) → (ℕ → Float) → ℕ → Verdict
+check_means X Y W n = cond (ltb (first_refused X Y W n) n) (Err (row_at (row_of_point X Y W (first_refused X Y W n)) (first_refused X Y W n))) (Ok tt)

@@ -5,11 +5,11 @@ use Rattle.float.specs.Double.{◌⊕◌, ◌⊘◌}
 use Rattle.plane.specs.declared.Pair.{Pair}
 use Rattle.mesh.specs.Mesh.{Tri, tri}
 use Rattle.edges.specs.Numbering.{tri_from}
-use Rattle.floor.specs.declared.Check.{Check}
 use Rattle.geometry.specs.Triangle.{gradient, at}
 use Rattle.pass_geometries.specs.Work.{coords_from}
 use Rattle.pass_gradients.specs.declared.GradientsPlan.{GradientsPlan}
 use Rattle.pass_gradients.specs.Gradients.{gradient_on, sum_to, weighed_x, weighed_y, row_of_point, first_refused, check_means}
+use Rattle.refusals.specs.Refusal.{Verdict}
 
 -- there is room: coordinates, sizes and areas before the sums, three for each point; corners
 pub record GradientsRoom (p : GradientsPlan) (reals words : ℕ) : Type 0 where
@@ -79,6 +79,6 @@ pub record DividedPoint (g n v : ℕ) (w w' : List Float) (r : ℕ) : Type 0 whe
   pub work : w' ≡ cond (eqb r 0) (divide_at g n v w) w
 
 -- the answer, and the points before the first that is refused
-pub record Divided (g n : ℕ) (w w' : List Float) (r : Check) : Type 0 where
+pub record Divided (g n : ℕ) (w w' : List Float) (r : Verdict) : Type 0 where
   pub answer : r ≡ check_means (sums_x g n w) (sums_y g n w) (weights g n w) n
   pub means : DividedTo g n (first_refused (sums_x g n w) (sums_y g n w) (weights g n w) n) w w'

@@ -6,6 +6,7 @@ use Prim.Native.Nat.{ℕ, suc, ◌+◌, ◌-◌, ◌≤◌, ◌<◌}
 use native.Mathlib.Omega.{arith}
 use lib.Ieee.{Float, nan, le}
 use lib.ListN.{length}
+use Rattle.std.specs.Prelude.{Ok, Err}
 use Rattle.float.specs.Double.{is_finite, not_positive}
 use Rattle.complex.specs.declared.Complex.{Complex}
 use Rattle.linear_cells.specs.Region.{region}
@@ -22,9 +23,7 @@ use Rattle.linear_packing.specs.declared.Packing.{Packing}
 use Rattle.linear_conjugate_gradient.specs.Work.{read, lay, VectorRoom, SolverRoom, Engine}
 use Rattle.linear_conjugate_gradient.proofs.Iterations.{engine-still}
 use Rattle.linear_conjugate_gradient.proofs.Lays.{Sized, read-sized, lay-read, get-x, get-r, put-x, put-r}
-use Rattle.refusals.specs.declared.Stage.{Stage}
-use Rattle.refusals.specs.declared.Stage.TheVariants.{Done, Refused}
-use Rattle.refusals.specs.Refusal.{gave_up}
+use Rattle.refusals.specs.Refusal.{gave_up, Verdict}
 use Rattle.pass_inverse_iteration.specs.Start.{ramped_by, start_of}
 use Rattle.linear_conjugate_gradient.specs.Found.{Found, vector, gave}
 use Rattle.linear_conjugate_gradient.specs.Method.{mass_squared, normalized_of}
@@ -42,7 +41,7 @@ use Rattle.pass_inverse_iteration.specs.Memory.{Step, going, ended, outer_judged
 use Rattle.pass_inverse_iteration.specs.Work.{PencilRoom, pencil, progress_of, carried, ending_of, Steps, Judges, IteratesOnce, TakesNext, Iterates, start_in, Starts, Inverts}
 
 -- the mass matrix's own size is the energy's
-resized : (w w₁ : List Float) (mass : Hermitian) (l : Vectors) (from to : List ℕ) (n : ℕ) {r : Stage} → mass.size ≡ n → Normalizes w w₁ mass l from to r
+resized : (w w₁ : List Float) (mass : Hermitian) (l : Vectors) (from to : List ℕ) (n : ℕ) {r : Verdict} → mass.size ≡ n → Normalizes w w₁ mass l from to r
     → Answers w w₁ n l (normalized_left (matrix w mass from to) (read w n l)) (normalized_of (matrix w mass from to) (region_c w l.x n)) r
 resized w w₁ mass l from to n {r} e a =
     subst (λ (k : ℕ). Answers w w₁ k l (normalized_left (matrix w mass from to) (read w k l)) (normalized_of (matrix w mass from to) (region_c w l.x k)) r) e a
@@ -72,12 +71,12 @@ step-going (going v) x e h = ap going (sym (h v refl))
 step-going (ended f) x e h = let z : ◌≡◌ {A = ℕ} 0 1 = cc in absurd (omega arith)
 
 -- the method ends with this iteration: with its answer, what it carried, and the vectors that it left
-pub record EndedBy (i : Step) (f : List Complex → Found) (t : State) (k : State → State) (r : Stage) : Type 0 where
+pub record EndedBy (i : Step) (f : List Complex → Found) (t : State) (k : State → State) (r : Verdict) : Type 0 where
   pub found : outer_after i f ≡ carried i
   pub left : after_left i t k ≡ t
   pub stage : r ≡ found_stage (carried i)
 
-step-ended : (i : Step) (f : List Complex → Found) (t : State) (k : State → State) {p : Progress} {q r : Stage} → p ≡ progress_of i → p ≡ Ended q → r ≡ ending_of p
+step-ended : (i : Step) (f : List Complex → Found) (t : State) (k : State → State) {p : Progress} {q r : Verdict} → p ≡ progress_of i → p ≡ Ended q → r ≡ ending_of p
     → EndedBy i f t k r
 unfolding progress_of carried outer_after after_left ending_of
 step-ended (going v) f t k e h er = let z : ◌≡◌ {A = ℕ} 0 1 = cc in absurd (omega arith)
@@ -142,17 +141,17 @@ module _ (plan : PencilPlan) where
       pub next-engine : (u : List ℕ) (t : Packing) → Engine w energy l from to u t → Engine w₁ energy l from to u t
       next-engine u t g = engine-still w energy l from to u t ok.energy-room g ready ready-sized ready-is
 
-      module _ {w₂ : List Float} {s : Stage} (b : Solves w₁ w₂ energy l from to o.most s) where
+      module _ {w₂ : List Float} {s : Verdict} (b : Solves w₁ w₂ energy l from to o.most s) where
         pub solved-next : Answers w w₂ n l (solved_left p.energy p.most ready) (solution_of p.energy p.most rhs) s
         solved-next =
             let m : matrix w₁ energy from to ≡ p.energy = framed-matrix w energy l ok.energy-room n refl framed-ready from to in
             answers-after w n l room framed-ready b (rw (m, left_in w n l room ready ready-sized ready-is)) (rw (m, rhs-is))
 
-        pub next-refused : (s ≡ Done → ⊥) → TakesNext w w₂ plan from to o s
+        pub next-refused : (s ≡ Ok tt → ⊥) → TakesNext w w₂ plan from to o s
         unfolding next_of next_left read
         next-refused h = ends-first w n l (normalized_of p.mass) (normalized_left p.mass) solved-next h
 
-        pub next-normalized : s ≡ Done → {w₃ : List Float} {t : Stage} → Normalizes w₂ w₃ mass l from to t → TakesNext w w₃ plan from to o t
+        pub next-normalized : s ≡ Ok tt → {w₃ : List Float} {t : Verdict} → Normalizes w₂ w₃ mass l from to t → TakesNext w w₃ plan from to o t
         unfolding next_of next_left read
         next-normalized d {w₃} c =
             let f : Framed w w₂ n l = solved-next.frame in
@@ -161,19 +160,19 @@ module _ (plan : PencilPlan) where
 
     -- ---- an iteration
 
-    judged-gave : (f : Found) (g : List Complex → Step) {s : Stage} → s ≡ found_stage f → (s ≡ Done → ⊥) → judged_from f g ≡ ended f
+    judged-gave : (f : Found) (g : List Complex → Step) {s : Verdict} → s ≡ found_stage f → (s ≡ Ok tt → ⊥) → judged_from f g ≡ ended f
     unfolding judged_from found_stage
     judged-gave (vector v) g e h = absurd (h e)
     judged-gave (gave r i) g e h = refl
 
-    module _ {w₁ : List Float} {s : Stage} (a : TakesNext w w₁ plan from to o s) where
-      pub iteration-refused : (s ≡ Done → ⊥) → IteratesOnce w w₁ plan from to o (Ended s)
+    module _ {w₁ : List Float} {s : Verdict} (a : TakesNext w w₁ plan from to o s) where
+      pub iteration-refused : (s ≡ Ok tt → ⊥) → IteratesOnce w w₁ plan from to o (Ended s)
       unfolding outer_iteration iteration_left progress_of carried read
       iteration-refused h =
           rw (judged-gave (next_of p x) (outer_judged p) a.stage h, left-gave (next_of p x) (next_left p (read w n l)) (judged_left p) a.stage h)
           (record { frame = a.frame; left = a.left; progress = ap Ended a.stage; held = a.held })
 
-      pub iteration-judged : s ≡ Done → {w₂ : List Float} {t : Progress} → Judges w₁ w₂ plan from to o t → IteratesOnce w w₂ plan from to o t
+      pub iteration-judged : s ≡ Ok tt → {w₂ : List Float} {t : Progress} → Judges w₁ w₂ plan from to o t → IteratesOnce w w₂ plan from to o t
       unfolding outer_iteration iteration_left judged_from left_by read
       iteration-judged d {w₂} {t} b =
           let c : Steps w₁ w₂ n l (judged_left p (read w₁ n l)) (outer_judged p (region_c w₁ l.x n)) t = rw (pencil-stays a.frame) at b in
@@ -258,14 +257,14 @@ module _ (plan : PencilPlan) where
             left = left_is ∙ ap (λ u. after_left u step_left (iterated_left p (k - (i + 1)))) s ∙ ap (iterated_left p (k - (i + 1))) (sym steps.left);
           }
 
-      pub reach-ended : {s q : Stage} → t ≡ Ended q → s ≡ ending_of t → Iterates w w₂ plan from to o k s
+      pub reach-ended : {s q : Verdict} → t ≡ Ended q → s ≡ ending_of t → Iterates w w₂ plan from to o k s
       reach-ended {s} g es =
           let p : Pencil = pencil w plan from to o in
           let e : EndedBy step (iterated p (k - (i + 1))) step_left (iterated_left p (k - (i + 1))) s =
           step-ended step (iterated p (k - (i + 1))) step_left (iterated_left p (k - (i + 1))) steps.progress g es in
           rw (whole_is ∙ e.found, left_is ∙ e.left) (record { frame = both; left = steps.left; stage = e.stage; held = steps.held })
 
-    pub reach-done : {w₁ : List Float} {i : ℕ} {r : Stage} → i ≤ k → k ≤ i → Reached w₁ i → r ≡ Refused (gave_up 12 0) → Iterates w w₁ plan from to o k r
+    pub reach-done : {w₁ : List Float} {i : ℕ} {r : Verdict} → i ≤ k → k ≤ i → Reached w₁ i → r ≡ Err (gave_up 12 0) → Iterates w w₁ plan from to o k r
     unfolding iterated iterated_left found_stage
     reach-done {w₁} {i} g h a e =
         let z : k - i ≡ 0 = omega arith in
@@ -278,7 +277,7 @@ module _ (plan : PencilPlan) where
 
   -- ---- the start
 
-  pub start-normalized : (w : List Float) (from to : List ℕ) (o : Outer) → SolverRoom (length w) mass l → {w₁ w₂ : List Float} {r : Stage}
+  pub start-normalized : (w : List Float) (from to : List ℕ) (o : Outer) → SolverRoom (length w) mass l → {w₁ w₂ : List Float} {r : Verdict}
       → w₁ ≡ put_c w l.x (start_in w o mass.size) → Normalizes w₁ w₂ mass l from to r → Starts w w₂ plan from to o r
   unfolding start_left
   start-normalized w from to o ok {w₁} e b =
@@ -299,7 +298,7 @@ module _ (plan : PencilPlan) where
   -- ---- the whole
 
   module _ (w : List Float) (from to : List ℕ) (o : Outer) (ok : PencilRoom (length w) plan)
-      {w₁ : List Float} {s : Stage} (a : Starts w w₁ plan from to o s) where
+      {w₁ : List Float} {s : Verdict} (a : Starts w w₁ plan from to o s) where
     abbrev first : List Complex
     first = start_in w o energy.size
 
@@ -309,11 +308,11 @@ module _ (plan : PencilPlan) where
     start : Answers w w₁ energy.size l (start_left m first (read w energy.size l)) (normalized_of m first) s
     start = subst (λ (k : ℕ). Answers w w₁ k l (start_left m (start_in w o k) (read w k l)) (normalized_of m (start_in w o k)) s) ok.one_size a
 
-    pub inverse-refused : (s ≡ Done → ⊥) → Inverts w w₁ plan from to o s
+    pub inverse-refused : (s ≡ Ok tt → ⊥) → Inverts w w₁ plan from to o s
     unfolding inverse_of inverse_left
     inverse-refused h = ends-first w energy.size l _ _ start h
 
-    pub inverse-iterated : s ≡ Done → {c : Float} {most : ℕ} {w₂ : List Float} {r : Stage} → c ≡ average_of o.trace energy.size → most ≡ inner_most energy.size
+    pub inverse-iterated : s ≡ Ok tt → {c : Float} {most : ℕ} {w₂ : List Float} {r : Verdict} → c ≡ average_of o.trace energy.size → most ≡ inner_most energy.size
         → Iterates w₁ w₂ plan from to (record { average = c; most = most }) o.iterations r → Inverts w w₂ plan from to o r
     unfolding inverse_of inverse_left pencil_of
     inverse-iterated d {c} {most} {w₂} {r} ec em b =

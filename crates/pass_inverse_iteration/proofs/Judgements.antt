@@ -6,6 +6,7 @@ use Prim.Native.Nat.{ℕ}
 use native.Mathlib.Omega.{arith}
 use lib.Ieee.{Float, le}
 use lib.ListN.{length}
+use Rattle.std.specs.Prelude.{Ok, Err}
 use Rattle.float.specs.Double.{lit, is_finite, max_of, not_positive, ◌⊘◌}
 use Rattle.root.specs.Root.{root_of}
 use Rattle.complex.specs.declared.Complex.{Complex}
@@ -23,9 +24,7 @@ use Rattle.linear_conjugate_gradient.specs.Method.{mass_squared}
 use Rattle.linear_conjugate_gradient.specs.Solve.{State}
 use Rattle.linear_conjugate_gradient.specs.Work.{read, lay, VectorRoom}
 use Rattle.linear_conjugate_gradient.proofs.Lays.{Sized, read-sized, lay-read, get-x, get-p, get-q, get-matrix, put-p, put-q, lay-then}
-use Rattle.refusals.specs.declared.Stage.{Stage}
-use Rattle.refusals.specs.declared.Stage.TheVariants.{Done, Refused}
-use Rattle.refusals.specs.Refusal.{gave_up}
+use Rattle.refusals.specs.Refusal.{gave_up, Verdict}
 use Rattle.linear_conjugate_gradient.specs.Found.{vector, gave}
 use Rattle.pass_solution.specs.Work.{found_stage}
 use Rattle.pass_solution.proofs.Stages.{framed, left_in}
@@ -164,7 +163,7 @@ module _ (plan : PencilPlan) where
     mass-not-positive : {b : Bool} → b ≡ not_positive q.denominator → not_positive (mass_squared p.mass next) ≡ b
     mass-not-positive e = sym (e ∙ ap (λ u. not_positive u) a.denominator)
 
-    pub judge-denominator : {b : Bool} {t : Stage} → b ≡ not_positive q.denominator → b ≡ true → t ≡ Refused (gave_up 10 0) → Judges w w₁ plan from to o (Ended t)
+    pub judge-denominator : {b : Bool} {t : Verdict} → b ≡ not_positive q.denominator → b ≡ true → t ≡ Err (gave_up 10 0) → Judges w w₁ plan from to o (Ended t)
     unfolding outer_judged judged_left progress_of carried found_stage read
     judge-denominator eb tb et =
         let u : not_positive (mass_squared p.mass next) ≡ true = mass-not-positive eb ∙ tb in
@@ -182,7 +181,7 @@ module _ (plan : PencilPlan) where
       finite : is_finite (estimate_of p next) ≡ g
       finite = sym (eg ∙ ap (λ u. is_finite u) estimate-is)
 
-      pub judge-estimate : {t : Stage} → not g ≡ true → t ≡ Refused (gave_up 11 0) → Judges w w₁ plan from to o (Ended t)
+      pub judge-estimate : {t : Verdict} → not g ≡ true → t ≡ Err (gave_up 11 0) → Judges w w₁ plan from to o (Ended t)
       unfolding outer_judged judged_left progress_of carried found_stage read
       judge-estimate fg et =
           let u : not (is_finite (estimate_of p next)) ≡ true = ap not finite ∙ fg in
@@ -221,7 +220,7 @@ module _ (plan : PencilPlan) where
         next-stays : region_c w₂ l.x energy.size ≡ next
         next-stays = ap (λ v. region_c v l.x energy.size) last-is ∙ get-x w energy.size l vectors last last-sized ∙ (unfold subtracted quoted read in refl)
 
-        pub judge-converged : le r outer_tolerance ≡ true → Judges w w₂ plan from to o (Ended Done)
+        pub judge-converged : le r outer_tolerance ≡ true → Judges w w₂ plan from to o (Ended (Ok tt))
         unfolding outer_judged judged_left progress_of carried found_stage read
         judge-converged t =
             let u : le (relative_of p next) outer_tolerance ≡ true = rw relative-is at t in

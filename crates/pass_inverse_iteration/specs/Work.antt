@@ -1,5 +1,5 @@
 -- What the functions of the inverse iteration require of a work slice, and leave there. n is the energy's size, and the mass matrix has the same.
-use Rattle.std.specs.Prelude.{◌≡◌, List, ℕ, ◌+◌, ◌≤◌, Float}
+use Rattle.std.specs.Prelude.{◌≡◌, List, ℕ, ◌+◌, ◌≤◌, Float, Err}
 use Rattle.std.specs.Float.{nan}
 use Rattle.float.specs.Double.{◌⊘◌}
 use Rattle.complex.specs.declared.Complex.{Complex}
@@ -11,9 +11,7 @@ use Rattle.linear_conjugate_gradient.specs.declared.Vectors.{Vectors}
 use Rattle.linear_conjugate_gradient.specs.Method.{mass_squared, normalized_of}
 use Rattle.linear_conjugate_gradient.specs.Solve.{State}
 use Rattle.linear_conjugate_gradient.specs.Work.{read, lay, SolverRoom}
-use Rattle.refusals.specs.declared.Stage.{Stage}
-use Rattle.refusals.specs.declared.Stage.TheVariants.{Refused}
-use Rattle.refusals.specs.Refusal.{gave_up}
+use Rattle.refusals.specs.Refusal.{gave_up, Verdict}
 use Rattle.pass_inverse_iteration.specs.Start.{start_of}
 use Rattle.linear_conjugate_gradient.specs.Found.{Found, vector}
 use Rattle.pass_solution.specs.Work.{found_stage, Framed, Answers}
@@ -81,8 +79,8 @@ carried (going x) = vector x
 carried (ended f) = f
 
 -- how the method ends with an iteration: one that leads on, with none after it, is reason 12
-unfoldable pub ending_of : Progress → Stage
-ending_of Going = Refused (gave_up 12 0)
+unfoldable pub ending_of : Progress → Verdict
+ending_of Going = Err (gave_up 12 0)
 ending_of (Ended s) = s
 
 -- w' is w with the solver's vectors as they are in t. A vector that the iteration leads on with, or that it found, stands at the solver's x
@@ -111,7 +109,7 @@ IteratesOnce w w' p from to o r =
     r
 
 -- `next`
-abbrev pub TakesNext : (w w' : List Float) (p : PencilPlan) (from to : List ℕ) (o : Limits) → Stage → Type 0
+abbrev pub TakesNext : (w w' : List Float) (p : PencilPlan) (from to : List ℕ) (o : Limits) → Verdict → Type 0
 TakesNext w w' p from to o r =
     Answers w w' p.energy.size p.vectors
     (next_left (pencil w p from to o) (vectors_in w p))
@@ -119,7 +117,7 @@ TakesNext w w' p from to o r =
     r
 
 -- `iterate`
-abbrev pub Iterates : (w w' : List Float) (p : PencilPlan) (from to : List ℕ) (o : Limits) (k : ℕ) → Stage → Type 0
+abbrev pub Iterates : (w w' : List Float) (p : PencilPlan) (from to : List ℕ) (o : Limits) (k : ℕ) → Verdict → Type 0
 Iterates w w' p from to o k r =
     Answers w w' p.energy.size p.vectors
     (iterated_left (pencil w p from to o) k (vectors_in w p))
@@ -131,7 +129,7 @@ abbrev pub start_in : List Float → Outer → ℕ → List Complex
 start_in w o n = start_of (region nan w o.x n) (region nan w o.y n)
 
 -- `begin`
-abbrev pub Starts : (w w' : List Float) (p : PencilPlan) (from to : List ℕ) (o : Outer) → Stage → Type 0
+abbrev pub Starts : (w w' : List Float) (p : PencilPlan) (from to : List ℕ) (o : Outer) → Verdict → Type 0
 Starts w w' p from to o r =
     Answers w w' p.mass.size p.vectors
     (start_left (matrix w p.mass from to) (start_in w o p.mass.size) (read w p.mass.size p.vectors))
@@ -139,7 +137,7 @@ Starts w w' p from to o r =
     r
 
 -- `inverse_iteration`
-abbrev pub Inverts : (w w' : List Float) (p : PencilPlan) (from to : List ℕ) (o : Outer) → Stage → Type 0
+abbrev pub Inverts : (w w' : List Float) (p : PencilPlan) (from to : List ℕ) (o : Outer) → Verdict → Type 0
 Inverts w w' p from to o r =
     Answers w w' p.energy.size p.vectors
     (inverse_left (matrix w p.mass from to) (matrix w p.energy from to) o.trace o.iterations (start_in w o p.energy.size) (vectors_in w p))

@@ -1,5 +1,5 @@
 -- What a pass gets and answers, and the facts that demand 3 rests on, for any pass. Definitions only.
-use Rattle.std.specs.Prelude.{ℕ, ◌/◌, ◌<◌, ◌≡◌, List, length, get_or, Float}
+use Rattle.std.specs.Prelude.{ℕ, ◌/◌, ◌<◌, ◌≡◌, List, length, get_or, Float, Ok, Err}
 use Rattle.std.specs.Float.{nan}
 use Rattle.complex.specs.Angle.{IsCross}
 use Rattle.linear_cells.specs.Region.{tab}
@@ -8,10 +8,9 @@ use Rattle.mesh.specs.Mesh.{Tri, Distinct, All}
 use Rattle.mesh.specs.Claim.{InRange}
 use Rattle.floor.specs.Floor.{Floor, point_count}
 use Rattle.refusals.specs.declared.Refusal.{Refusal}
-use Rattle.refusals.specs.declared.Stage.{Stage}
-use Rattle.refusals.specs.declared.Stage.TheVariants.{Done, Refused}
 use Rattle.pass_options.specs.declared.Options.{Options}
 use Rattle.pass_options.specs.Options.{Guidance}
+use Rattle.refusals.specs.Refusal.{Verdict}
 
 -- an angle for each point, or what is wrong, rows 19 to 24
 pub data Passed : Type 0 where
@@ -19,9 +18,9 @@ pub data Passed : Type 0 where
   faulty : Refusal → Passed
 
 -- the same as a stage's answer, which leaves the angles in the work slice
-abbrev pub stage_of : Passed → Stage
-stage_of (field alpha) = Done
-stage_of (faulty x) = Refused x
+abbrev pub stage_of : Passed → Verdict
+stage_of (field alpha) = Ok tt
+stage_of (faulty x) = Err x
 
 -- the floor of points that are given as x, y and z of each, of triangles and of a size for each point
 abbrev pub floor_of : List Float → List Tri → List Float → Floor

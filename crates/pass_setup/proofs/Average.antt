@@ -10,13 +10,12 @@ use borrow.Author.Tests.{le-ltb}
 use lib.Dec.{eqb}
 use lib.ListN.{length, get_or}
 use lib.Ieee.{Float, nan}
+use Rattle.std.specs.Prelude.{Ok, Err}
 use Rattle.float.specs.Double.{◌⊘◌}
 use Rattle.linear_cells.specs.Region.{tab, region}
 use Rattle.linear_cells.proofs.Loops.{tab-ext}
 use Rattle.edges.specs.Numbering.{tri_from}
 use Rattle.refusals.specs.declared.Refusal.{Refusal}
-use Rattle.floor.specs.declared.Check.{Check}
-use Rattle.floor.specs.declared.Check.TheVariants as check
 use Rattle.floor.specs.Checks.{lowest}
 use Rattle.floor.proofs.Lowest.{lowest-most, lowest-same}
 use Rattle.floor.specs.Floor.{Floor, point_count, triangle_count, value_at, triangle_at}
@@ -31,10 +30,8 @@ use Rattle.pass_layout.specs.declared.Layout.{Layout}
 use Rattle.pass_layout.specs.Layout.{Ordered}
 use Rattle.pass_layout.specs.Work.{floor_in}
 use Rattle.pass_layout.proofs.Regions.{floor-stays}
-use Rattle.refusals.specs.Refusal.{row_at}
-use Rattle.pass_setup.specs.declared.Setup.{Setup}
-use Rattle.pass_setup.specs.declared.Setup.TheVariants.{Refused}
-use Rattle.pass_setup.specs.Setup.{wound_of, areas_of, sum_x, sum_y, weight_of, means_of, gradients_x, gradients_y, setup_of}
+use Rattle.refusals.specs.Refusal.{row_at, Verdict}
+use Rattle.pass_setup.specs.Setup.{wound_of, areas_of, sum_x, sum_y, weight_of, means_of, gradients_x, gradients_y, setup_of, Setup}
 use Rattle.pass_setup.specs.Work.{gradients_at, Wound, refused_point, Summed, Averaged, Unjoined, SetUp}
 use Rattle.pass_setup.proofs.Slices.{value-at, points-of, triangles-of, all-x, all-y, all-sizes, Stays, none-refused, refused-by}
 
@@ -91,7 +88,7 @@ module _ (l : Layout) (w : List Float) (u : List ℕ) (f : Floor) (o : Ordered l
     unfolding means_of
     checked = check-same _ _ _ (sum_x f) (sum_y f) (weight_of f) l.points sum-x sum-y weight ∙ ap (check_means (sum_x f) (sum_y f) (weight_of f)) (sym n-of)
 
-    module _ {w₂ : List Float} {c : Check} (d : Divided l.gradients l.points w₁ w₂ c) where
+    module _ {w₂ : List Float} {c : Verdict} (d : Divided l.gradients l.points w₁ w₂ c) where
       pub answered : c ≡ means_of f
       answered = d.answer ∙ checked
 
@@ -138,15 +135,15 @@ module _ (l : Layout) (w : List Float) (u : List ℕ) (f : Floor) (o : Ordered l
         words-behind = λ j h. refl;
       }
 
-      to-all : c ≡ check.Sound → DividedTo l.gradients l.points l.points w₁ w₂
+      to-all : c ≡ Ok tt → DividedTo l.gradients l.points l.points w₁ w₂
       to-all e = subst (λ (i : ℕ). DividedTo l.gradients l.points i w₁ w₂) (sound-all _ _ _ l.points (sym d.answer ∙ e)) d.means
 
-      means-x : c ≡ check.Sound → region nan w₂ l.gradients l.points ≡ gradients_x f
+      means-x : c ≡ Ok tt → region nan w₂ l.gradients l.points ≡ gradients_x f
       unfolding region gradients_x
       means-x e =
           tab-ext _ (λ v. sum_x f v ⊘ weight_of f v) l.points (λ v h. (to-all e).mean-x v h ∙ ap₂ ◌⊘◌ (sum-x v h) (weight v h)) ∙ ap (tab (λ v. sum_x f v ⊘ weight_of f v)) (sym n-of)
 
-      means-y : c ≡ check.Sound → region nan w₂ (l.gradients + l.points) l.points ≡ gradients_y f
+      means-y : c ≡ Ok tt → region nan w₂ (l.gradients + l.points) l.points ≡ gradients_y f
       unfolding region gradients_y
       means-y e =
           tab-ext _ (λ v. sum_y f v ⊘ weight_of f v) l.points (λ v h. (to-all e).mean-y v h ∙ ap₂ ◌⊘◌ (sum-y v h) (weight v h)) ∙ ap (tab (λ v. sum_y f v ⊘ weight_of f v)) (sym n-of)
@@ -165,7 +162,7 @@ module _ (l : Layout) (w : List Float) (u : List ℕ) (f : Floor) (o : Ordered l
         corners-below = t.corners-below;
       }
 
-      pub averaged : c ≡ check.Sound → Averaged l f w₂ u
+      pub averaged : c ≡ Ok tt → Averaged l f w₂ u
       averaged e = record {
         turned = still-turned;
         sound = sym answered ∙ e;
@@ -174,27 +171,27 @@ module _ (l : Layout) (w : List Float) (u : List ℕ) (f : Floor) (o : Ordered l
         all-y = means-y e;
       }
 
-all_sound : (f : Floor) → point_count f ≤ refused_point f → means_of f ≡ check.Sound
+all_sound : (f : Floor) → point_count f ≤ refused_point f → means_of f ≡ Ok tt
 unfolding means_of refused_point check_means
 all_sound f h = rw (le-ltb (first_refused (sum_x f) (sum_y f) (weight_of f) (point_count f)) (point_count f) h)
 
 -- rows 20 and 21
 module _ (l : Layout) (w : List Float) (u : List ℕ) (o : Ordered l (length w) (length u)) (t : Wound l (floor_in l w u) w u) {w₁ w₂ : List Float}
-    (g : GatheredTo (gradients_at l) l.triangles u w w₁) {c : Check} (d : Divided l.gradients l.points w₁ w₂ c) where
-  pub row-20 : (x : Refusal) → c ≡ check.Refused x → {s : Setup} → s ≡ Refused (row_at x.number x.place) → SetUp l w u w₂ u s
+    (g : GatheredTo (gradients_at l) l.triangles u w w₁) {c : Verdict} (d : Divided l.gradients l.points w₁ w₂ c) where
+  pub row-20 : (x : Refusal) → c ≡ Err x → {s : Setup} → s ≡ Err (row_at x.number x.place) → SetUp l w u w₂ u s
   row-20 x e q =
       refused-by (row_at x.number x.place) (stays l w u (floor_in l w u) o t g d) q told (λ h. absurd (omega (arith, none-refused t))) (λ h. still-turned l w u (floor_in l w u) o t g d)
       (λ h. summed l w u (floor_in l w u) o t g d) (λ h. unjoined l w u (floor_in l w u) o t g d) (λ h p. absurd (some p))
     where
       some : l.points ≤ refused_point (floor_in l w u) → ⊥
       some p =
-          let s : means_of (floor_in l w u) ≡ check.Sound = all_sound (floor_in l w u) (omega (arith, n-of l w u (floor_in l w u) o t)) in
+          let s : means_of (floor_in l w u) ≡ Ok tt = all_sound (floor_in l w u) (omega (arith, n-of l w u (floor_in l w u) o t)) in
           let q : c ≡ means_of (floor_in l w u) = answered l w u (floor_in l w u) o t g d in
           let z : ◌≡◌ {A = ℕ} 0 1 = cc in
           omega arith
 
-      told : Refused (row_at x.number x.place) ≡ setup_of (floor_in l w u)
+      told : Err (row_at x.number x.place) ≡ setup_of (floor_in l w u)
       told = unfold setup_of in rw (t.none, le-ltb (triangle_count (floor_in l w u)) (triangle_count (floor_in l w u)) (omega arith), ← answered l w u (floor_in l w u) o t g d, e)
 
-  pub still-averaged : c ≡ check.Sound → Averaged l (floor_in l w₂ u) w₂ u
+  pub still-averaged : c ≡ Ok tt → Averaged l (floor_in l w₂ u) w₂ u
   still-averaged e = subst (λ (f : Floor). Averaged l f w₂ u) (sym (stays l w u (floor_in l w u) o t g d).floor) (averaged l w u (floor_in l w u) o t g d e)

@@ -6,6 +6,7 @@ use mathlib.Core.List.{List}
 use borrow.Author.Tests.{le-ltb}
 use lib.ListN.{length, get_or, take, drop}
 use lib.Ieee.{Float, nan}
+use Rattle.std.specs.Prelude.{Ok, Err}
 use Rattle.complex.specs.declared.Complex.{Complex}
 use Rattle.linear_cells.specs.Region.{region}
 use Rattle.linear_cells.specs.Cell.{region_c, put_c}
@@ -13,7 +14,6 @@ use Rattle.linear_cells.proofs.Loops.{apart, length-tab, tab-ext}
 use Rattle.linear_cells.proofs.Cells.{length-region_c, put_c-else-real}
 use Rattle.linear_hermitian.specs.Work.{Graph}
 use Rattle.linear_cells.proofs.Changes.{part-region}
-use Rattle.floor.specs.declared.Check.TheVariants as check
 use Rattle.floor.specs.Floor.{Floor, triangle_count}
 use Rattle.floor.proofs.Lowest.{lowest-most}
 use Rattle.pass_gradients.specs.Gradients.{first_refused}
@@ -30,14 +30,12 @@ use Rattle.pass_layout.specs.Matrices.{mass_at}
 use Rattle.pass_layout.specs.Work.{floor_in}
 use Rattle.pass_layout.proofs.Regions.{floor-stays}
 use Rattle.refusals.specs.Refusal.{between}
-use Rattle.pass_setup.specs.declared.Setup.{Setup}
-use Rattle.pass_setup.specs.declared.Setup.TheVariants.{Edges, Refused}
-use Rattle.pass_setup.specs.Setup.{degenerate_of, edges_of, lowers_of, uppers_of, points_in, transports_of, means_of, after_transports, setup_of}
+use Rattle.pass_setup.specs.Setup.{degenerate_of, edges_of, lowers_of, uppers_of, points_in, transports_of, means_of, after_transports, setup_of, Setup}
 use Rattle.pass_setup.specs.Work.{transports_at, Wound, refused_point, Summed, Joined, Stands, SetUp}
 use Rattle.pass_setup.proofs.Slices.{points-of, all-x, all-y, all-sizes, Stays, none-refused, means-sound, refused-by}
 
 -- the answer of a floor that rows 19 to 21 let pass
-rest : (f : Floor) {a : Answer} → degenerate_of f ≡ triangle_count f → means_of f ≡ check.Sound → transports_answer (points_in f) (lowers_of f) (uppers_of f) ≡ a → setup_of f ≡ after_transports (length (edges_of f)) a
+rest : (f : Floor) {a : Answer} → degenerate_of f ≡ triangle_count f → means_of f ≡ Ok tt → transports_answer (points_in f) (lowers_of f) (uppers_of f) ≡ a → setup_of f ≡ after_transports (length (edges_of f)) a
 unfolding setup_of
 rest f none sound e = rw (none, le-ltb (triangle_count f) (triangle_count f) (omega arith), sound, e)
 
@@ -158,7 +156,7 @@ module _ {l : Layout} {m : ℕ} {w : List Float} {u : List ℕ} (o : Ordered l (
       edged = j.edged;
     })
 
-    row-22 : (a b : ℕ) → r ≡ answer.MeanSize a b → {s : Setup} → s ≡ Refused (between a b) → SetUp l w u w₁ u s
+    row-22 : (a b : ℕ) → r ≡ answer.MeanSize a b → {s : Setup} → s ≡ Err (between a b) → SetUp l w u w₁ u s
     row-22 a b e q = refused-by (between a b) stays q (sym (rest (floor_in l w u) t.none j.averaged.sound (sym answered ∙ e))) (λ h. absurd (omega (arith, none-refused t))) (λ h. still-turned)
         (λ h. still-summed) (means-sound j.averaged.sound) (λ h p. still-joined)
 
@@ -169,9 +167,9 @@ module _ {l : Layout} {m : ℕ} {w : List Float} {u : List ℕ} (o : Ordered l (
         ∙ transported-region (transports_at l) _ _ w w₁ (room refl) d e
         ∙ coefficients-same (points_from w (transports_at l)) (points_in (floor_in l w u)) l.points _ _ ends point
 
-    done : r ≡ answer.Done → SetUp l w u w₁ u (Edges m)
+    done : r ≡ answer.Done → SetUp l w u w₁ u (Ok m)
     done e = record {
-      answer = ap Edges j.all_edges ∙ sym (rest (floor_in l w u) t.none j.averaged.sound (sym answered ∙ e));
+      answer = ap Ok j.all_edges ∙ sym (rest (floor_in l w u) t.none j.averaged.sound (sym answered ∙ e));
       all-reals = stays.all-reals;
       all_words = refl;
       reals-below = stays.reals-below;
@@ -203,8 +201,8 @@ module _ {l : Layout} {m : ℕ} {w : List Float} {u : List ℕ} (o : Ordered l (
   over-lists : Transported (transports_at l) (lowers_of (floor_in l w u)) (uppers_of (floor_in l w u)) w w₁ r
   over-lists = rw (← e, ← h) d
 
-  pub refused-22 : (a b : ℕ) → r ≡ answer.MeanSize a b → {s : Setup} → s ≡ Refused (between a b) → SetUp l w u w₁ u s
+  pub refused-22 : (a b : ℕ) → r ≡ answer.MeanSize a b → {s : Setup} → s ≡ Err (between a b) → SetUp l w u w₁ u s
   refused-22 = row-22 o j over-lists
 
-  pub all_done : r ≡ answer.Done → SetUp l w u w₁ u (Edges m)
+  pub all_done : r ≡ answer.Done → SetUp l w u w₁ u (Ok m)
   all_done = done o j over-lists

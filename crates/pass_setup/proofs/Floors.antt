@@ -10,13 +10,12 @@ use borrow.Author.Tests.{ltb-false}
 use lib.Dec.{ltb}
 use lib.ListN.{length, get_or}
 use lib.Ieee.{nan}
+use Rattle.std.specs.Prelude.{Ok, Err}
 use Rattle.mesh.specs.Mesh.{Tri, tri, Good, All}
 use Rattle.pass_setup.proofs.Keyed.{Keyed, cuts-keyed}
 use Rattle.linear_cells.proofs.Loops.{length-tab, get_or-tab}
 use Rattle.edges.specs.Sides.{lower, upper}
 use Rattle.edges.proofs.Split.{length-map}
-use Rattle.floor.specs.declared.Check.{Check}
-use Rattle.floor.specs.declared.Check.TheVariants as check
 use Rattle.floor.specs.Floor.{Floor, point_count, triangle_count, value_at, triangle_at}
 use Rattle.floor.proofs.Lowest.{lowest-holds}
 use Rattle.pass_geometries.specs.Geometries.{geometry_on, is_degenerate, corners_of, area_of, first_degenerate}
@@ -28,10 +27,8 @@ use Rattle.pass_transports.specs.declared.Answer.TheVariants as answer
 use Rattle.pass_transports.specs.Transports as transports
 use Rattle.pass_transports.proofs.Lists.{length-coefficients}
 use Rattle.mesh.specs.Claim.{InRange}
-use Rattle.refusals.specs.Refusal.{row_at}
-use Rattle.pass_setup.specs.declared.Setup.{Setup}
-use Rattle.pass_setup.specs.declared.Setup.TheVariants.{Edges, Refused}
-use Rattle.pass_setup.specs.Setup.{geometry_at, degenerate_of, wound_of, areas_of, means_of, gradients_x, gradients_y, edges_of, lowers_of, uppers_of, points_in, transports_of, triangle_refusal, after_transports, after_means, setup_of}
+use Rattle.refusals.specs.Refusal.{row_at, Verdict}
+use Rattle.pass_setup.specs.Setup.{geometry_at, degenerate_of, wound_of, areas_of, means_of, gradients_x, gradients_y, edges_of, lowers_of, uppers_of, points_in, transports_of, triangle_refusal, after_transports, after_means, setup_of, Setup}
 
 -- ---- what holds of all of a list, place by place
 
@@ -138,16 +135,16 @@ module _ (f : Floor) where
 
 -- ---- the answer
 
-after-means : (c : Check) (next : Setup) {m : ℕ} → after_means c next ≡ Edges m → (c ≡ check.Sound) × (next ≡ Edges m)
-after-means check.Sound next h = (refl, h)
-after-means (check.Refused x) next h = let z : ◌≡◌ {A = ℕ} 0 1 = cc in absurd (omega arith)
+after-means : (c : Verdict) (next : Setup) {m : ℕ} → after_means c next ≡ Ok m → (c ≡ Ok tt) × (next ≡ Ok m)
+after-means (Ok tt) next h = (refl, h)
+after-means (Err x) next h = let z : ◌≡◌ {A = ℕ} 0 1 = cc in absurd (omega arith)
 
-after-transports : (k : ℕ) (a : Answer) {m : ℕ} → after_transports k a ≡ Edges m → (a ≡ answer.Done) × (k ≡ m)
+after-transports : (k : ℕ) (a : Answer) {m : ℕ} → after_transports k a ≡ Ok m → (a ≡ answer.Done) × (k ≡ m)
 after-transports k answer.Done h = (refl, cc)
 after-transports k (answer.MeanSize i j) h = let z : ◌≡◌ {A = ℕ} 0 1 = cc in absurd (omega arith)
 
-module _ (f : Floor) {m : ℕ} (h : setup_of f ≡ Edges m) where
-  passed : (degenerate_of f ≡ triangle_count f) × (after_means (means_of f) (after_transports (length (edges_of f)) (transports.transports_answer (points_in f) (lowers_of f) (uppers_of f))) ≡ Edges m)
+module _ (f : Floor) {m : ℕ} (h : setup_of f ≡ Ok m) where
+  passed : (degenerate_of f ≡ triangle_count f) × (after_means (means_of f) (after_transports (length (edges_of f)) (transports.transports_answer (points_in f) (lowers_of f) (uppers_of f))) ≡ Ok m)
   unfolding setup_of
   passed = go (ltb (degenerate_of f) (triangle_count f)) refl h
     where
@@ -155,8 +152,8 @@ module _ (f : Floor) {m : ℕ} (h : setup_of f ≡ Edges m) where
       most = unfold degenerate_of in first-most (value_at f.xs) (value_at f.ys) (triangle_at f.triangles) (triangle_count f)
 
       go : (b : Bool) → ltb (degenerate_of f) (triangle_count f) ≡ b
-          → cond b (Refused (triangle_refusal (geometry_at f (degenerate_of f)))) (after_means (means_of f) (after_transports (length (edges_of f)) (transports.transports_answer (points_in f) (lowers_of f) (uppers_of f)))) ≡ Edges m
-          → (degenerate_of f ≡ triangle_count f) × (after_means (means_of f) (after_transports (length (edges_of f)) (transports.transports_answer (points_in f) (lowers_of f) (uppers_of f))) ≡ Edges m)
+          → cond b (Err (triangle_refusal (geometry_at f (degenerate_of f)))) (after_means (means_of f) (after_transports (length (edges_of f)) (transports.transports_answer (points_in f) (lowers_of f) (uppers_of f)))) ≡ Ok m
+          → (degenerate_of f ≡ triangle_count f) × (after_means (means_of f) (after_transports (length (edges_of f)) (transports.transports_answer (points_in f) (lowers_of f) (uppers_of f))) ≡ Ok m)
       go true e z = let y : ◌≡◌ {A = ℕ} 0 1 = cc in absurd (omega arith)
       go false e z = (omega (arith, ltb-false (degenerate_of f) (triangle_count f) e, most), z)
 

@@ -9,11 +9,11 @@ use lib.Dec.{T, eqb}
 use lib.Ieee.{Float, binary64, lt, fits}
 use lib.Ieee.Fits.{mul-fits}
 use lib.Ieee.Positive.{positive, above}
+use Rattle.std.specs.Prelude.{Ok, Err}
 use Rattle.float.specs.Double.{HALF, lit, mag, is_finite, not_positive, ◌⊘◌}
 use Rattle.float.proofs.Above.{above-fails, zero-not-positive}
 use Rattle.plane.specs.declared.Pair.{Pair}
 use Rattle.mesh.specs.Mesh.{Tri, tri}
-use Rattle.floor.specs.declared.Check.TheVariants as check
 use Rattle.refusals.specs.Refusal.{row_at}
 use Rattle.floor.specs.Floor.{Floor, point_count, triangle_count, value_at, triangle_at}
 use Rattle.floor.proofs.Lowest.{lowest-most, lowest-before, lowest-clear, lowest-holds, lowest-is}
@@ -27,7 +27,6 @@ use Rattle.pass_geometries.specs.Geometries as geo
 use Rattle.pass_geometries.proofs.Good.{no-refusal}
 use Rattle.pass_gradients.specs.Gradients.{not_finite, row_of, row_of_point, first_refused, check_means}
 use Rattle.pass_gradients.proofs.Weights.{Misses, so-sum, none-sum}
-use Rattle.pass_setup.specs.declared.Setup.TheVariants.{Refused}
 use Rattle.pass_setup.specs.Setup.{geometry_at, degenerate_of, wound_of, areas_of, sum_x, sum_y, weight_of, means_of}
 use Rattle.pass_setup.specs.Rows.{corner_at, signed_on, area_on, Degenerate, IsCorner, Row20, Row21, NoPointBefore}
 use Rattle.pass_setup.proofs.Floors.{area-at, turned-at}
@@ -159,11 +158,11 @@ module _ (f : Floor) (none : degenerate_of f ≡ triangle_count f) where
       go (inl r) = n.0 v l r
       go (inr r) = n.1 v l r
 
-  pub means-clear : NoPointBefore f (point_count f) → means_of f ≡ check.Sound
+  pub means-clear : NoPointBefore f (point_count f) → means_of f ≡ Ok tt
   unfolding means_of check_means first_refused
   means-clear n = rw (lowest-clear (λ v. not (eqb (row_at_point v) 0)) (point_count f) (no_row n), le-ltb (point_count f) (point_count f) (omega arith))
 
-  pub means-at : (v : ℕ) → v < point_count f → Row20 f v ⊎ Row21 f v → NoPointBefore f v → means_of f ≡ check.Refused (row_at (row_at_point v) v)
+  pub means-at : (v : ℕ) → v < point_count f → Row20 f v ⊎ Row21 f v → NoPointBefore f v → means_of f ≡ Err (row_at (row_at_point v) v)
   unfolding means_of check_means first_refused
   means-at v l r n =
       rw (lowest-is (λ v. not (eqb (row_at_point v) 0)) (point_count f) v l ((tests-point v).1 r) (λ j h. failed (tests-point j) (λ q. absurd (go j h q))), lt-ltb v (point_count f) l)

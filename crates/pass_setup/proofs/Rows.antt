@@ -9,14 +9,13 @@ use lib.Dec.{T, ltb}
 use lib.ListN.{length, get_or}
 use lib.Ieee.{Float, le}
 use lib.Ieee.Positive.{positive, above}
+use Rattle.std.specs.Prelude.{Ok, Err}
 use Rattle.float.specs.Double.{HALF, lit, is_finite, not_positive, ◌⊕◌, ◌⊗◌}
 use Rattle.float.proofs.Above.{above-test, passes-positive, mean-above}
 use Rattle.mesh.specs.Mesh.{Side, side, All}
 use Rattle.complex.specs.declared.Complex.{Complex}
 use Rattle.edges.specs.Sides.{lower, upper}
-use Rattle.floor.specs.declared.Check.{Check}
-use Rattle.floor.specs.declared.Check.TheVariants as check
-use Rattle.refusals.specs.Refusal.{row_at, between}
+use Rattle.refusals.specs.Refusal.{row_at, between, Verdict}
 use Rattle.floor.specs.Floor.{Floor, point_count, triangle_count, value_at}
 use Rattle.floor.proofs.Lowest.{lowest-most, lowest-before, lowest-clear, lowest-holds, lowest-is}
 use Rattle.geometry.specs.declared.Transport.TheVariants.{Coefficient, MeanSize}
@@ -26,9 +25,7 @@ use Rattle.pass_transports.specs.declared.Answer.{Answer}
 use Rattle.pass_transports.specs.declared.Answer.TheVariants as answer
 use Rattle.pass_transports.specs.Transports as transports
 use Rattle.refusals.specs.declared.Refusal.{Refusal}
-use Rattle.pass_setup.specs.declared.Setup.{Setup}
-use Rattle.pass_setup.specs.declared.Setup.TheVariants.{Edges, Refused}
-use Rattle.pass_setup.specs.Setup.{degenerate_of, sum_x, sum_y, weight_of, means_of, edges_of, lowers_of, uppers_of, points_in, after_transports, after_means, setup_of}
+use Rattle.pass_setup.specs.Setup.{degenerate_of, sum_x, sum_y, weight_of, means_of, edges_of, lowers_of, uppers_of, points_in, after_transports, after_means, setup_of, Setup}
 use Rattle.pass_setup.specs.Rows.{SoundFloor, Row20, Row21, lower_of, upper_of, Row22, NoneBefore, NoPointBefore, RefusedFloor, by-19, by-20, by-21, by-22, AcceptedFloor}
 use Rattle.pass_setup.proofs.Keyed.{Keyed}
 use Rattle.pass_setup.proofs.Floors.{at_all, get_d_map, length-lowers, fault-19, wound-good, edges-keyed}
@@ -115,32 +112,32 @@ module _ (f : Floor) where
   abbrev after_triangles : Setup
   after_triangles = after_means (means_of f) (after_transports (length (edges_of f)) (transports.transports_answer (points_in f) (lowers_of f) (uppers_of f)))
 
-  abbrev by_means : Check → Setup
+  abbrev by_means : Verdict → Setup
   by_means k = after_means k (after_transports (length (edges_of f)) (transports.transports_answer (points_in f) (lowers_of f) (uppers_of f)))
 
   past-19 : degenerate_of f ≡ triangle_count f → setup_of f ≡ after_triangles
   unfolding setup_of
   past-19 e = rw (e, le-ltb (triangle_count f) (triangle_count f) (omega arith))
 
-  at-19 : (t : ℕ) → degenerate_of f ≡ t → t < triangle_count f → setup_of f ≡ Refused (row_at 19 t)
+  at-19 : (t : ℕ) → degenerate_of f ≡ t → t < triangle_count f → setup_of f ≡ Err (row_at 19 t)
   unfolding setup_of
   at-19 t e l = let k : degenerate_of f < triangle_count f = rw e l in rw (fault-19 f k, e, lt-ltb t (triangle_count f) l)
 
   module _ (ok : SoundFloor f) where
-    to-setup : (x : Refusal) → RefusedFloor f x → setup_of f ≡ Refused x
-    to-setup x (by-19 t l r n e) = at-19 t (is-19 f t l r n) l ∙ ap Refused (sym e)
+    to-setup : (x : Refusal) → RefusedFloor f x → setup_of f ≡ Err x
+    to-setup x (by-19 t l r n e) = at-19 t (is-19 f t l r n) l ∙ ap Err (sym e)
     to-setup x (by-20 n v l r b e) =
         let c = clear-19 f n in
-        past-19 c ∙ ap by_means (means-at f c v l (inl r) b ∙ ap (λ (k : ℕ). check.Refused (row_at k v)) (row-20 f c v r)) ∙ ap Refused (sym e)
+        past-19 c ∙ ap by_means (means-at f c v l (inl r) b ∙ ap (λ (k : ℕ). Err (row_at k v)) (row-20 f c v r)) ∙ ap Err (sym e)
     to-setup x (by-21 n v l m r b e) =
         let c = clear-19 f n in
-        past-19 c ∙ ap by_means (means-at f c v l (inr r) b ∙ ap (λ (k : ℕ). check.Refused (row_at k v)) (row-21 f c v m r)) ∙ ap Refused (sym e)
+        past-19 c ∙ ap by_means (means-at f c v l (inr r) b ∙ ap (λ (k : ℕ). Err (row_at k v)) (row-21 f c v m r)) ∙ ap Err (sym e)
     to-setup x (by-22 n b i l r m e) =
         let c = clear-19 f n in
-        past-19 c ∙ ap by_means (means-clear f c b) ∙ ap (after_transports (length (edges_of f))) (answer_at c ok i l r m) ∙ ap Refused (sym e)
+        past-19 c ∙ ap by_means (means-clear f c b) ∙ ap (after_transports (length (edges_of f))) (answer_at c ok i l r m) ∙ ap Err (sym e)
 
     -- where none of them holds
-    pub accepted-setup : AcceptedFloor f → setup_of f ≡ Edges (length (edges_of f))
+    pub accepted-setup : AcceptedFloor f → setup_of f ≡ Ok (length (edges_of f))
     accepted-setup a =
         let c = clear-19 f a.no-19 in
         past-19 c ∙ ap by_means (means-clear f c a.no-20-or-21) ∙ ap (after_transports (length (edges_of f))) (answer-clear c ok a.no-22)
@@ -176,25 +173,25 @@ module _ (f : Floor) where
         triangles false e = let c : degenerate_of f ≡ triangle_count f = omega (arith, ltb-false (degenerate_of f) (triangle_count f) e, most-19 f) in points c (ltb (first_refused (sum_x f) (sum_y f) (weight_of f) (point_count f)) (point_count f)) refl
 
     -- "given exactly if"
-    pub setup-rows : (x : Refusal) → (setup_of f ≡ Refused x) ↔ RefusedFloor f x
+    pub setup-rows : (x : Refusal) → (setup_of f ≡ Err x) ↔ RefusedFloor f x
     setup-rows x = (λ h. from decided h, to-setup x)
       where
-        from : ((y : Refusal) × RefusedFloor f y) ⊎ AcceptedFloor f → setup_of f ≡ Refused x → RefusedFloor f x
-        from (inl y) h = let z : Refused y.0 ≡ Refused x = sym (to-setup y.0 y.1) ∙ h in subst (RefusedFloor f) (same z) y.1
+        from : ((y : Refusal) × RefusedFloor f y) ⊎ AcceptedFloor f → setup_of f ≡ Err x → RefusedFloor f x
+        from (inl y) h = let z : Err y.0 ≡ Err x = sym (to-setup y.0 y.1) ∙ h in subst (RefusedFloor f) (same z) y.1
           where
-            same : {x y : Refusal} → Refused x ≡ Refused y → x ≡ y
+            same : {x y : Refusal} → Err x ≡ Err y → x ≡ y
             same e = cc
-        from (inr a) h = let z : Edges (length (edges_of f)) ≡ Refused x = sym (accepted-setup a) ∙ h in absurd (differ z)
+        from (inr a) h = let z : Ok (length (edges_of f)) ≡ Err x = sym (accepted-setup a) ∙ h in absurd (differ z)
           where
-            differ : Edges (length (edges_of f)) ≡ Refused x → ⊥
+            differ : Ok (length (edges_of f)) ≡ Err x → ⊥
             differ e = let z : ◌≡◌ {A = ℕ} 0 1 = cc in omega arith
 
-    pub setup-accepted : (m : ℕ) → setup_of f ≡ Edges m → AcceptedFloor f
+    pub setup-accepted : (m : ℕ) → setup_of f ≡ Ok m → AcceptedFloor f
     setup-accepted m h = from decided
       where
         from : ((y : Refusal) × RefusedFloor f y) ⊎ AcceptedFloor f → AcceptedFloor f
-        from (inl y) = let e : Refused y.0 ≡ Edges m = sym (to-setup y.0 y.1) ∙ h in absurd (differ e)
+        from (inl y) = let e : Err y.0 ≡ Ok m = sym (to-setup y.0 y.1) ∙ h in absurd (differ e)
           where
-            differ : Refused y.0 ≡ Edges m → ⊥
+            differ : Err y.0 ≡ Ok m → ⊥
             differ e = let z : ◌≡◌ {A = ℕ} 0 1 = cc in omega arith
         from (inr a) = a

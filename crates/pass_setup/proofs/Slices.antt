@@ -5,12 +5,12 @@ use mathlib.Core.Path.{◌≡◌, refl, sym, ap, ◌∙◌, subst}
 use mathlib.Core.List.{List}
 use lib.ListN.{length, get_or}
 use lib.Ieee.{Float, nan}
+use Rattle.std.specs.Prelude.{Ok, Err}
 use Rattle.mesh.specs.Mesh.{tri, All}
 use Rattle.linear_cells.specs.Region.{region}
 use Rattle.linear_cells.proofs.Regions.{length-region, get_or-region}
 use Rattle.edges.specs.Numbering.{tri_from, Below}
 use Rattle.edges.proofs.Numbering.{length-tris, tri-at}
-use Rattle.floor.specs.declared.Check.TheVariants.{Sound}
 use Rattle.floor.specs.Floor.{Floor, point_count, triangle_count, value_at, triangle_at}
 use Rattle.pass_geometries.specs.Work.{coords_from, Kept}
 use Rattle.pass_geometries.proofs.Steps.{corners-below}
@@ -20,9 +20,7 @@ use Rattle.pass_layout.specs.declared.Layout.{Layout}
 use Rattle.pass_layout.specs.Layout.{Ordered}
 use Rattle.pass_layout.specs.Work.{floor_in}
 use Rattle.refusals.specs.declared.Refusal.{Refusal}
-use Rattle.pass_setup.specs.declared.Setup.{Setup}
-use Rattle.pass_setup.specs.declared.Setup.TheVariants.{Refused}
-use Rattle.pass_setup.specs.Setup.{degenerate_of, sum_x, sum_y, weight_of, means_of, edges_of, setup_of}
+use Rattle.pass_setup.specs.Setup.{degenerate_of, sum_x, sum_y, weight_of, means_of, edges_of, setup_of, Setup}
 use Rattle.pass_setup.specs.Work.{geometries_at, Wound, refused_point, Summed, Joined, Stands, Unjoined, SetUp}
 use Rattle.pass_setup.proofs.Floors.{all-at}
 
@@ -67,7 +65,7 @@ pub none-refused : {l : Layout} {w : List Float} {u : List ℕ} → Wound l (flo
 none-refused {l} {w} {u} t = omega (arith, t.none, triangles-of l w u (floor_in l w u) refl)
 
 -- nor do rows 20 and 21 a point
-pub means-sound : {l : Layout} {w w₁ : List Float} {u u₁ : List ℕ} → means_of (floor_in l w u) ≡ Sound → refused_point (floor_in l w u) < l.points → Unjoined l w u w₁ u₁
+pub means-sound : {l : Layout} {w w₁ : List Float} {u u₁ : List ℕ} → means_of (floor_in l w u) ≡ Ok tt → refused_point (floor_in l w u) < l.points → Unjoined l w u w₁ u₁
 unfolding refused_point means_of
 means-sound {l} {w} {w₁} {u} {u₁} e h =
     let f : Floor = floor_in l w u in
@@ -87,7 +85,7 @@ pub record Stays (l : Layout) (w : List Float) (u : List ℕ) (w₁ : List Float
 pub ordered-now : {l : Layout} {w w₁ : List Float} {u u₁ : List ℕ} → Stays l w u w₁ u₁ → Ordered l (length w) (length u) → Ordered l (length w₁) (length u₁)
 ordered-now k o = rw (k.all-reals, k.all_words) o
 
-pub refused-by : {l : Layout} {w w₁ : List Float} {u u₁ : List ℕ} (x : Refusal) {r : Setup} → Stays l w u w₁ u₁ → r ≡ Refused x → Refused x ≡ setup_of (floor_in l w u)
+pub refused-by : {l : Layout} {w w₁ : List Float} {u u₁ : List ℕ} (x : Refusal) {r : Setup} → Stays l w u w₁ u₁ → r ≡ Err x → Err x ≡ setup_of (floor_in l w u)
     → (degenerate_of (floor_in l w u) < l.triangles → Kept (geometries_at l) w u w₁ u₁ (degenerate_of (floor_in l w u)))
     → (l.triangles ≤ degenerate_of (floor_in l w u) → Wound l (floor_in l w u) w₁ u₁) → (l.triangles ≤ degenerate_of (floor_in l w u) → Summed l (floor_in l w u) w₁)
     → (refused_point (floor_in l w u) < l.points → Unjoined l w u w₁ u₁)

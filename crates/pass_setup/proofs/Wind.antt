@@ -8,6 +8,7 @@ use mathlib.Core.List.{List}
 use borrow.Author.Tests.{lt-ltb}
 use lib.ListN.{length, get_or}
 use lib.Ieee.{Float, nan}
+use Rattle.std.specs.Prelude.{Err}
 use Rattle.linear_cells.specs.Region.{tab, region}
 use Rattle.linear_cells.proofs.Loops.{tab-ext}
 use Rattle.slices.proofs.Runs.{sets_behind}
@@ -25,9 +26,7 @@ use Rattle.pass_layout.specs.Layout.{Ordered}
 use Rattle.pass_layout.specs.Work.{floor_in}
 use Rattle.pass_layout.proofs.Regions.{floor-stays}
 use Rattle.refusals.specs.Refusal.{row_at}
-use Rattle.pass_setup.specs.declared.Setup.{Setup}
-use Rattle.pass_setup.specs.declared.Setup.TheVariants.{Refused}
-use Rattle.pass_setup.specs.Setup.{geometry_at, degenerate_of, areas_of, setup_of}
+use Rattle.pass_setup.specs.Setup.{geometry_at, degenerate_of, areas_of, setup_of, Setup}
 use Rattle.pass_setup.specs.Work.{geometries_at, Wound, Unjoined, SetUp}
 use Rattle.pass_setup.proofs.Floors.{wound-at, fault-19}
 use Rattle.pass_setup.proofs.Slices.{value-at, triangles-of, all-x, all-y, given-at, Stays, refused-by}
@@ -89,7 +88,7 @@ module _ (l : Layout) (w : List Float) (u : List ℕ) (o : Ordered l (length w) 
     pub unjoined : Unjoined l w u w₁ u₁
     unjoined = record { reals-behind = λ j h. reals-after j (omega arith); words-behind = words-after }
 
-    pub row-19 : r < l.triangles → {s : Setup} → s ≡ Refused (row_at 19 r) → SetUp l w u w₁ u₁ s
+    pub row-19 : r < l.triangles → {s : Setup} → s ≡ Err (row_at 19 r) → SetUp l w u w₁ u₁ s
     row-19 h e =
         refused-by (row_at 19 r) stays e told (λ g. subst (geometries.Kept (geometries_at l) w u w₁ u₁) first k) (λ g. absurd (omega (arith, first)))
         (λ g. absurd (omega (arith, first))) (λ g. unjoined) (λ g p. absurd (omega (arith, first)))
@@ -97,7 +96,7 @@ module _ (l : Layout) (w : List Float) (u : List ℕ) (o : Ordered l (length w) 
         below_all : degenerate_of (floor_in l w u) < triangle_count (floor_in l w u)
         below_all = rw (← first, triangles-of l w u (floor_in l w u) refl) h
 
-        told : Refused (row_at 19 r) ≡ setup_of (floor_in l w u)
+        told : Err (row_at 19 r) ≡ setup_of (floor_in l w u)
         told = unfold setup_of in rw (fault-19 (floor_in l w u) below_all, ← first, triangles-of l w u (floor_in l w u) refl, lt-ltb r l.triangles h)
 
     all-areas : l.triangles ≤ r → region nan w₁ l.areas l.triangles ≡ areas_of (floor_in l w u)

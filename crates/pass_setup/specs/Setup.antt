@@ -1,13 +1,11 @@
 -- The first part of a pass, over lists: the corners of each triangle counter-clockwise and its area (row 19), the size gradient at each point (rows 20
 -- and 21), the edges in the order first met, and the transport along each (row 22). Lines 1236 to 1291 of the Rust's solve_mesh. Definitions only.
-use Rattle.std.specs.Prelude.{ℕ, cond, List, [], map, ltb, length, get_or, Float}
+use Rattle.std.specs.Prelude.{ℕ, cond, List, [], map, ltb, length, get_or, Float, Ok, Err}
 use Rattle.float.specs.Double.{◌⊘◌}
 use Rattle.complex.specs.declared.Complex.{Complex}
 use Rattle.linear_cells.specs.Region.{tab}
 use Rattle.mesh.specs.Mesh.{Tri, Side, sides_after}
 use Rattle.edges.specs.Sides.{lower, upper}
-use Rattle.floor.specs.declared.Check.{Check}
-use Rattle.floor.specs.declared.Check.TheVariants as check
 use Rattle.floor.specs.Floor.{Floor, point_count, triangle_count, value_at, triangle_at}
 use Rattle.geometry.specs.declared.Geometry.{Geometry}
 use Rattle.geometry.specs.Triangle.{number, place}
@@ -17,9 +15,7 @@ use Rattle.pass_transports.specs.declared.Answer.{Answer}
 use Rattle.pass_transports.specs.declared.Answer.TheVariants as answer
 use Rattle.pass_transports.specs.Transports as transports
 use Rattle.refusals.specs.declared.Refusal.{Refusal}
-use Rattle.refusals.specs.Refusal.{row_at}
-use Rattle.pass_setup.specs.declared.Setup.{Setup}
-use Rattle.pass_setup.specs.declared.Setup.TheVariants.{Edges, Refused}
+use Rattle.refusals.specs.Refusal.{row_at, Verdict}
 
 -- ---- the triangles, lines 1245 to 1264
 
@@ -50,7 +46,7 @@ unfoldable pub weight_of : Floor → ℕ → Float
 weight_of f v = sum_to (triangle_at (wound_of f)) (value_at (areas_of f)) v (triangle_count f)
 
 -- rows 20 and 21, point by point
-unfoldable pub means_of : Floor → Check
+unfoldable pub means_of : Floor → Verdict
 means_of f = check_means (sum_x f) (sum_y f) (weight_of f) (point_count f)
 
 unfoldable pub gradients_x : Floor → List Float
@@ -89,15 +85,15 @@ abbrev pub edge_refusal : Answer → Refusal
 edge_refusal a = record { number = transports.number a; place = get_or (transports.place a) 0 0; other = get_or (transports.place a) 1 0; pass = 0; reason = 0 }
 
 abbrev pub after_transports : ℕ → Answer → Setup
-after_transports m answer.Done = Edges m
-after_transports m (answer.MeanSize a b) = Refused (edge_refusal (answer.MeanSize a b))
+after_transports m answer.Done = Ok m
+after_transports m (answer.MeanSize a b) = Err (edge_refusal (answer.MeanSize a b))
 
-abbrev pub after_means : Check → Setup → Setup
-after_means check.Sound next = next
-after_means (check.Refused x) next = Refused (row_at x.number x.place)
+abbrev pub after_means : Verdict → Setup → Setup
+after_means (Ok tt) next = next
+after_means (Err x) next = Err (row_at x.number x.place)
 
 unfoldable pub setup_of : Floor → Setup
 setup_of f =
-    cond (ltb (degenerate_of f) (triangle_count f)) (Refused (triangle_refusal (geometry_at f (degenerate_of f))))
+    cond (ltb (degenerate_of f) (triangle_count f)) (Err (triangle_refusal (geometry_at f (degenerate_of f))))
     (after_means (means_of f)
     (after_transports (length (edges_of f)) (transports.transports_answer (points_in f) (lowers_of f) (uppers_of f))))

@@ -1,11 +1,10 @@
 -- What the first part of a pass leaves in the work slices, stage by stage. Definitions only.
-use Rattle.std.specs.Prelude.{ℕ, ◌+◌, ◌*◌, ◌≤◌, ◌<◌, ◌≡◌, List, length, get_or, Float}
+use Rattle.std.specs.Prelude.{ℕ, ◌+◌, ◌*◌, ◌≤◌, ◌<◌, ◌≡◌, List, length, get_or, Float, Ok}
 use Rattle.std.specs.Float.{nan}
 use Rattle.linear_cells.specs.Region.{region}
 use Rattle.linear_cells.specs.Cell.{region_c}
 use Rattle.edges.specs.Table.{NumbersOf}
 use Rattle.edges.specs.Numbering.{tri_from, Below}
-use Rattle.floor.specs.declared.Check.TheVariants.{Sound}
 use Rattle.floor.specs.Floor.{Floor, point_count, triangle_count, triangle_at}
 use Rattle.pass_geometries.specs.declared.GeometriesPlan.{GeometriesPlan}
 use Rattle.pass_geometries.specs.Work.{Kept}
@@ -15,9 +14,7 @@ use Rattle.pass_gradients.specs.Gradients.{first_refused}
 use Rattle.pass_transports.specs.declared.TransportsPlan.{TransportsPlan}
 use Rattle.pass_layout.specs.declared.Layout.{Layout}
 use Rattle.pass_layout.specs.Work.{floor_in, from_list, to_list, Edged}
-use Rattle.pass_setup.specs.declared.Setup.{Setup}
-use Rattle.pass_setup.specs.declared.Setup.TheVariants.{Edges}
-use Rattle.pass_setup.specs.Setup.{degenerate_of, wound_of, areas_of, sum_x, sum_y, weight_of, means_of, gradients_x, gradients_y, edges_of, lowers_of, uppers_of, transports_of, setup_of}
+use Rattle.pass_setup.specs.Setup.{degenerate_of, wound_of, areas_of, sum_x, sum_y, weight_of, means_of, gradients_x, gradients_y, edges_of, lowers_of, uppers_of, transports_of, setup_of, Setup}
 
 -- ---- where the stages read and write
 
@@ -63,7 +60,7 @@ pub record Summed (l : Layout) (f : Floor) (w : List Float) : Type 0 where
 
 pub record Averaged (l : Layout) (f : Floor) (w : List Float) (u : List ℕ) : Type 0 where
   pub turned : Wound l f w u
-  pub sound : means_of f ≡ Sound
+  pub sound : means_of f ≡ Ok tt
   pub summed : Summed l f w
   pub all-x : region nan w l.gradients l.points ≡ gradients_x f
   pub all-y : region nan w (l.gradients + l.points) l.points ≡ gradients_y f
@@ -116,4 +113,4 @@ pub record SetUp (l : Layout) (w : List Float) (u : List ℕ) (w' : List Float) 
   pub summed : l.triangles ≤ degenerate_of (floor_in l w u) → Summed l (floor_in l w u) w'
   pub unjoined : refused_point (floor_in l w u) < l.points → Unjoined l w u w' u'
   pub joined : l.triangles ≤ degenerate_of (floor_in l w u) → l.points ≤ refused_point (floor_in l w u) → Joined l (length (edges_of (floor_in l w u))) (floor_in l w u) w' u'
-  pub stands : (m : ℕ) → r ≡ Edges m → Stands l m (floor_in l w u) w' u'
+  pub stands : (m : ℕ) → r ≡ Ok m → Stands l m (floor_in l w u) w' u'

@@ -6,6 +6,7 @@ use Prim.Native.Nat.{ℕ}
 use native.Mathlib.Omega.{arith}
 use lib.Ieee.{Float, nan}
 use lib.ListN.{length}
+use Rattle.std.specs.Prelude.{Ok, Err}
 use Rattle.float.specs.Double.{recip_of, not_positive}
 use Rattle.root.specs.Root.{root_of}
 use Rattle.complex.specs.declared.Complex.{Complex}
@@ -30,11 +31,10 @@ use Rattle.linear_conjugate_gradient.specs.Solve.{State, Outcome, solved, normal
 use Rattle.linear_conjugate_gradient.specs.Work.{read, lay, VectorRoom, SolverRoom, Solved, InMass}
 use Rattle.linear_conjugate_gradient.proofs.Lays.{Sized, read-sized, lay-read, get-x, get-all, put-x, put-p}
 use Rattle.linear_conjugate_gradient.proofs.Method.{answered, answered-held, solved-method, solved-sized}
-use Rattle.refusals.specs.declared.Stage.{Stage}
-use Rattle.refusals.specs.declared.Stage.TheVariants.{Done, Refused}
 use Rattle.linear_conjugate_gradient.specs.Found.{vector, gave}
 use Rattle.pass_solution.specs.Solution.{inner_tolerance, solution_of}
 use Rattle.pass_solution.specs.Work.{refusal_of, found_stage, Framed, Solves, normalized_left, Normalizes}
+use Rattle.refusals.specs.Refusal.{Verdict}
 
 -- ---- nothing but the solver's vectors is written
 
@@ -64,7 +64,7 @@ module _ (w : List Float) (h : Hermitian) (l : Vectors) (from to : List ℕ) (mo
   unfolding solution_of read
   found-is = sym (solved-method (matrix w h from to) inner_tolerance most (read w h.size l)) ∙ rw (← s.result, ← x-is)
 
-  solves : {r : Stage} → r ≡ found_stage (answered a (region_c w₁ l.x h.size)) → Solves w w₁ h l from to most r
+  solves : {r : Verdict} → r ≡ found_stage (answered a (region_c w₁ l.x h.size)) → Solves w w₁ h l from to most r
   solves e = record {
     frame = framed w h.size l ok.vector-room out.state out-sized s.work;
     left = left_in w h.size l ok.vector-room out.state out-sized s.work;
@@ -72,11 +72,11 @@ module _ (w : List Float) (h : Hermitian) (l : Vectors) (from to : List ℕ) (mo
     held = λ v q. answered-held a (region_c w₁ l.x h.size) v (sym found-is ∙ q);
   }
 
-  pub solve-done : {count : ℕ} → a ≡ Iterate count → Solves w w₁ h l from to most Done
+  pub solve-done : {count : ℕ} → a ≡ Iterate count → Solves w w₁ h l from to most (Ok tt)
   unfolding found_stage answered
   solve-done e = solves (rw e)
 
-  pub solve-gave : {r : Reason} {t : Stage} → a ≡ GaveUp r → t ≡ Refused (refusal_of r) → Solves w w₁ h l from to most t
+  pub solve-gave : {r : Reason} {t : Verdict} → a ≡ GaveUp r → t ≡ Err (refusal_of r) → Solves w w₁ h l from to most t
   unfolding found_stage answered
   solve-gave e f = solves (f ∙ rw e)
 
@@ -86,13 +86,13 @@ normal-held : (b : Bool) (x u v : List Complex) → cond b (gave 9 0) (vector u)
 normal-held true x u v e = let z : ◌≡◌ {A = ℕ} 0 1 = cc in absurd (omega arith)
 normal-held false x u v e = cc
 
-normal-done : (b : Bool) (u : List Complex) → normalized.Done ≡ cond b (normalized.GaveUp MassOfIterate) normalized.Done → Done ≡ found_stage (cond b (gave 9 0) (vector u))
+normal-done : (b : Bool) (u : List Complex) → normalized.Done ≡ cond b (normalized.GaveUp MassOfIterate) normalized.Done → (Ok tt) ≡ found_stage (cond b (gave 9 0) (vector u))
 unfolding found_stage
 normal-done true u e = let z : ◌≡◌ {A = ℕ} 0 1 = cc in absurd (omega arith)
 normal-done false u e = refl
 
 normal-gave : (b : Bool) (u : List Complex) (r : Reason) → normalized.GaveUp r ≡ cond b (normalized.GaveUp MassOfIterate) normalized.Done
-    → Refused (refusal_of r) ≡ found_stage (cond b (gave 9 0) (vector u))
+    → Err (refusal_of r) ≡ found_stage (cond b (gave 9 0) (vector u))
 unfolding found_stage reason place
 normal-gave true u r e = let q : r ≡ MassOfIterate = cc in rw q
 normal-gave false u r e = let z : ◌≡◌ {A = ℕ} 0 1 = cc in absurd (omega arith)
@@ -153,7 +153,7 @@ module _ (w : List Float) (mass : Hermitian) (l : Vectors) (from to : List ℕ) 
   normal-x : region_c w₁ l.x n ≡ normalized_vector squared x
   normal-x = ap (λ v. region_c v l.x n) laid-third ∙ get-x w n l ok.vector-room third third-sized
 
-  normalizes : {r : Stage} → r ≡ found_stage (normalized_of m x) → Normalizes w w₁ mass l from to r
+  normalizes : {r : Verdict} → r ≡ found_stage (normalized_of m x) → Normalizes w w₁ mass l from to r
   normalizes e = record {
     frame = framed w n l ok.vector-room third third-sized laid-third;
     left = left_in w n l ok.vector-room third third-sized laid-third ∙ (unfold normalized_left read in refl);
@@ -164,10 +164,10 @@ module _ (w : List Float) (mass : Hermitian) (l : Vectors) (from to : List ℕ) 
       held : (v : List Complex) → normalized_of m x ≡ vector v → region_c w₁ l.x n ≡ v
       held v q = normal-x ∙ (unfold normalized_vector in normal-held (not_positive squared) x (scaled_by (recip_of (root_of squared)) x) v (unfold normalized_of in q))
 
-  pub normalize-done : a ≡ normalized.Done → Normalizes w w₁ mass l from to Done
+  pub normalize-done : a ≡ normalized.Done → Normalizes w w₁ mass l from to (Ok tt)
   unfolding normalized_of normalized_answer
   normalize-done e = normalizes (normal-done (not_positive squared) _ (sym e ∙ s.result))
 
-  pub normalize-gave : {r : Reason} {t : Stage} → a ≡ normalized.GaveUp r → t ≡ Refused (refusal_of r) → Normalizes w w₁ mass l from to t
+  pub normalize-gave : {r : Reason} {t : Verdict} → a ≡ normalized.GaveUp r → t ≡ Err (refusal_of r) → Normalizes w w₁ mass l from to t
   unfolding normalized_of normalized_answer
   normalize-gave {r} e f = normalizes (f ∙ normal-gave (not_positive squared) _ r (sym e ∙ s.result))

@@ -1,5 +1,5 @@
 -- What the solver's calls leave in a work slice, and answer.
-use Rattle.std.specs.Prelude.{◌≡◌, List, ℕ, Float}
+use Rattle.std.specs.Prelude.{◌≡◌, List, ℕ, Float, Ok, Err}
 use Rattle.complex.specs.declared.Complex.{Complex}
 use Rattle.linear_cells.specs.Cell.{region_c}
 use Rattle.linear_hermitian.specs.declared.Hermitian.{Hermitian}
@@ -13,9 +13,7 @@ use Rattle.linear_conjugate_gradient.specs.Method.{mass_squared, normalized_of}
 use Rattle.linear_conjugate_gradient.specs.Solve.{State, solved, normalized_vector}
 use Rattle.linear_conjugate_gradient.specs.Work.{read, lay}
 use Rattle.refusals.specs.declared.Refusal.{Refusal}
-use Rattle.refusals.specs.declared.Stage.{Stage}
-use Rattle.refusals.specs.declared.Stage.TheVariants.{Done, Refused}
-use Rattle.refusals.specs.Refusal.{gave_up}
+use Rattle.refusals.specs.Refusal.{gave_up, Verdict}
 use Rattle.pass_solution.specs.Solution.{inner_tolerance, solution_of}
 
 -- what document 01 says of a reason of the solver: the row, the reason and the place
@@ -23,16 +21,16 @@ abbrev pub refusal_of : Reason → Refusal
 refusal_of r = record { number = number r; place = place r; other = 0; pass = 0; reason = reason r }
 
 -- a vector is a stage done; a reason is row 24
-unfoldable pub found_stage : Found → Stage
-found_stage (vector v) = Done
-found_stage (gave r i) = Refused (gave_up r i)
+unfoldable pub found_stage : Found → Verdict
+found_stage (vector v) = Ok tt
+found_stage (gave r i) = Err (gave_up r i)
 
 -- nothing but the solver's vectors is written
 abbrev pub Framed : List Float → List Float → ℕ → Vectors → Type 0
 Framed w w' n l = w' ≡ lay w n l (read w' n l)
 
 -- w' is w with the solver's vectors as they are in t: nothing else is written, and nothing of them is free. A vector that is found stands at the solver's x
-pub record Answers (w w' : List Float) (n : ℕ) (l : Vectors) (t : State) (f : Found) (r : Stage) : Type 0 where
+pub record Answers (w w' : List Float) (n : ℕ) (l : Vectors) (t : State) (f : Found) (r : Verdict) : Type 0 where
   pub frame : Framed w w' n l
   pub left : read w' n l ≡ t
   pub stage : r ≡ found_stage f
@@ -50,7 +48,7 @@ abbrev pub solved_left : Matrix → ℕ → State → State
 solved_left m most s = (solved m inner_tolerance most s).state
 
 -- `solve`
-abbrev pub Solves : (w w' : List Float) (h : Hermitian) (l : Vectors) (from to : List ℕ) (most : ℕ) → Stage → Type 0
+abbrev pub Solves : (w w' : List Float) (h : Hermitian) (l : Vectors) (from to : List ℕ) (most : ℕ) → Verdict → Type 0
 Solves w w' h l from to most r =
     Answers w w' h.size l
     (solved_left (matrix w h from to) most (read w h.size l))
@@ -70,7 +68,7 @@ normalized_left mass s = record {
 }
 
 -- `normalize`
-abbrev pub Normalizes : (w w' : List Float) (mass : Hermitian) (l : Vectors) (from to : List ℕ) → Stage → Type 0
+abbrev pub Normalizes : (w w' : List Float) (mass : Hermitian) (l : Vectors) (from to : List ℕ) → Verdict → Type 0
 Normalizes w w' mass l from to r =
     Answers w w' mass.size l
     (normalized_left (matrix w mass from to) (read w mass.size l))

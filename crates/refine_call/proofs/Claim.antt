@@ -8,14 +8,13 @@ use borrow.Author.Tests.{ltb-false, not-false}
 use lib.Dec.{eqb, ltb}
 use lib.ListN.{length}
 use lib.Ieee.{Float, le, lt}
+use Rattle.std.specs.Prelude.{Ok, Err}
 use Rattle.float.specs.Double.{lit, is_finite}
 use Rattle.mesh.specs.Mesh.{All, cuts}
 use Rattle.mesh.specs.Claim.{InRange}
 use Rattle.mesh.proofs.Order.{cut-sides}
 use Rattle.mesh.proofs.Points.{points-length}
-use Rattle.floor.specs.declared.Check.{Check}
-use Rattle.floor.specs.declared.Check.TheVariants.{Sound, Refused}
-use Rattle.refusals.specs.Refusal.{row}
+use Rattle.refusals.specs.Refusal.{row, Verdict}
 use Rattle.floor.specs.Checks.{lowest, bad_point, bad_size, bad_corner, well_formed, not_finite_or_below_zero, check_floor}
 use Rattle.floor.proofs.Lowest.{lowest-before}
 use Rattle.floor.proofs.Rows.{or-none, whole-slices}
@@ -30,12 +29,12 @@ use Rattle.refine_call.specs.Call.{check_rest, check_call, counts_of, answer_of}
 use Rattle.refine_call.specs.Claim.{AcceptedCall}
 use Rattle.refine_call.proofs.Facts.{passed, passed-last, passed-both, sizes-are}
 
-answered : (c : Check) (r : Refined) (counts : Counts) → answer_of c r ≡ Refinement counts → (c ≡ Sound) × (counts_of r ≡ counts)
-answered Sound r counts e = (refl, cc)
-answered (Refused x) r counts e = let z : ◌≡◌ {A = ℕ} 0 1 = cc in absurd (omega arith)
+answered : (c : Verdict) (r : Refined) (counts : Counts) → answer_of c r ≡ Refinement counts → (c ≡ Ok tt) × (counts_of r ≡ counts)
+answered (Ok tt) r counts e = (refl, cc)
+answered (Err x) r counts e = let z : ◌≡◌ {A = ℕ} 0 1 = cc in absurd (omega arith)
 
 -- row 8
-corners-in : (points : List Float) (corners : List ℕ) (sizes : List Float) → check_floor points corners sizes ≡ Sound → All (InRange (length points / 3)) (tris_of corners)
+corners-in : (points : List Float) (corners : List ℕ) (sizes : List Float) → check_floor points corners sizes ≡ Ok tt → All (InRange (length points / 3)) (tris_of corners)
 unfolding check_floor
 corners-in points corners sizes e =
     let n = length points / 3 in
@@ -49,7 +48,7 @@ corners-in points corners sizes e =
     in-range corners n t (λ i h. lowest-before (bad_corner corners n) t i (omega (arith, ltb-false (lowest (bad_corner corners n) t) t g.0)))
 
 -- row 12
-not_low : (n t angles : ℕ) (threshold : Float) (new_points new_sizes new_triangles cut_ends : ℕ) → check_rest n t angles threshold new_points new_sizes new_triangles cut_ends ≡ Sound → le (lit 0) threshold ≡ true
+not_low : (n t angles : ℕ) (threshold : Float) (new_points new_sizes new_triangles cut_ends : ℕ) → check_rest n t angles threshold new_points new_sizes new_triangles cut_ends ≡ Ok tt → le (lit 0) threshold ≡ true
 unfolding check_rest not_finite_or_below_zero
 not_low n t angles threshold new_points new_sizes new_triangles cut_ends e =
     let a = passed (not (eqb angles n)) (row 5) _ e in

@@ -10,15 +10,14 @@ use lib.Dec.{eqb, ltb}
 use lib.ListN.{length, take}
 use lib.Seq.{sets, take-length}
 use lib.Ieee.{Float}
+use Rattle.std.specs.Prelude.{Ok, Err}
 use Rattle.mesh.specs.Mesh.{mid, cuts, refine, refined}
 use Rattle.mesh.specs.Points.{more_points, more_sizes}
 use Rattle.edges.specs.Table.{pairs}
 use Rattle.edges.specs.TwoSlices.{lo_at, hi_at, sides_at}
 use Rattle.edges.proofs.Tree.{length_pairs}
 use Rattle.refusals.specs.declared.Refusal.{Refusal}
-use Rattle.floor.specs.declared.Check.{Check}
-use Rattle.floor.specs.declared.Check.TheVariants.{Sound, Refused}
-use Rattle.refusals.specs.Refusal.{row}
+use Rattle.refusals.specs.Refusal.{row, Verdict}
 use Rattle.floor.specs.Checks.{well_formed, not_finite_or_below_zero, and_then, check_floor}
 use Rattle.floor.proofs.Rows.{or-none, whole-slices}
 use Rattle.refinement.specs.declared.Cut.{Cut}
@@ -40,22 +39,22 @@ use Rattle.refine_call.proofs.Lists.{refined-none, corners-of-tris, ends-front}
 
 -- ---- tests
 
-no : {A : Type 0} (x : Refusal) → Refused x ≡ Sound → A
+no : {A : Type 0} (x : Refusal) → Err x ≡ Ok tt → A
 no x e = let z : ◌≡◌ {A = ℕ} 0 1 = cc in absurd (omega arith)
 
-pub passed : (b : Bool) (x : Refusal) (rest : Check) → cond b (Refused x) rest ≡ Sound → (b ≡ false) × (rest ≡ Sound)
+pub passed : (b : Bool) (x : Refusal) (rest : Verdict) → cond b (Err x) rest ≡ Ok tt → (b ≡ false) × (rest ≡ Ok tt)
 passed true x rest e = no x e
 passed false x rest e = (refl, e)
 
-pub passed-last : (b : Bool) (x : Refusal) (rest : Check) → cond b rest (Refused x) ≡ Sound → (b ≡ true) × (rest ≡ Sound)
+pub passed-last : (b : Bool) (x : Refusal) (rest : Verdict) → cond b rest (Err x) ≡ Ok tt → (b ≡ true) × (rest ≡ Ok tt)
 passed-last true x rest e = (refl, e)
 passed-last false x rest e = no x e
 
-pub passed-both : (c rest : Check) → and_then c rest ≡ Sound → (c ≡ Sound) × (rest ≡ Sound)
-passed-both Sound rest e = (refl, e)
-passed-both (Refused x) rest e = no x e
+pub passed-both : (c rest : Verdict) → and_then c rest ≡ Ok tt → (c ≡ Ok tt) × (rest ≡ Ok tt)
+passed-both (Ok tt) rest e = (refl, e)
+passed-both (Err x) rest e = no x e
 
-pub sizes-are : (points : List Float) (triangles : List ℕ) (sizes : List Float) → check_floor points triangles sizes ≡ Sound → length sizes ≡ length points / 3
+pub sizes-are : (points : List Float) (triangles : List ℕ) (sizes : List Float) → check_floor points triangles sizes ≡ Ok tt → length sizes ≡ length points / 3
 unfolding check_floor
 sizes-are points triangles sizes e =
     let a = passed (eqb (length points / 3) 0) (row 3) _ e in
@@ -82,15 +81,15 @@ long n t new_points new_sizes new_triangles cut_ends e =
       in-ends = ltb-false cut_ends (8 * t) c.1;
     }
 
-rest-long : (n t angles : ℕ) (threshold : Float) (new_points new_sizes new_triangles cut_ends : ℕ) → check_rest n t angles threshold new_points new_sizes new_triangles cut_ends ≡ Sound → Long n t new_points new_sizes new_triangles cut_ends
+rest-long : (n t angles : ℕ) (threshold : Float) (new_points new_sizes new_triangles cut_ends : ℕ) → check_rest n t angles threshold new_points new_sizes new_triangles cut_ends ≡ Ok tt → Long n t new_points new_sizes new_triangles cut_ends
 unfolding check_rest
 rest-long n t angles threshold new_points new_sizes new_triangles cut_ends e =
     let a = passed (not (eqb angles n)) (row 5) _ e in
     let b = passed (not_finite_or_below_zero threshold) (row 12) _ a.1 in
-    long n t new_points new_sizes new_triangles cut_ends (passed (short n t new_points new_sizes new_triangles cut_ends) (row 18) Sound b.1).0
+    long n t new_points new_sizes new_triangles cut_ends (passed (short n t new_points new_sizes new_triangles cut_ends) (row 18) (Ok tt) b.1).0
 
 pub roomy : (points : List Float) (triangles : List ℕ) (sizes : List Float) (angles : ℕ) (threshold : Float) (new_points new_sizes new_triangles cut_ends : ℕ)
-    → check_call points triangles sizes angles threshold new_points new_sizes new_triangles cut_ends ≡ Sound → ResultRoom (length points) (length triangles) (length sizes) new_points new_sizes new_triangles cut_ends
+    → check_call points triangles sizes angles threshold new_points new_sizes new_triangles cut_ends ≡ Ok tt → ResultRoom (length points) (length triangles) (length sizes) new_points new_sizes new_triangles cut_ends
 unfolding check_call
 roomy points triangles sizes angles threshold new_points new_sizes new_triangles cut_ends e =
     let a = passed-last (well_formed (length points) (length triangles)) _ _ e in
@@ -120,21 +119,21 @@ third a b e = omega arith
 
 -- ---- from a check to an answer
 
-pub rest-sound : (c rest r : Check) → c ≡ Sound → r ≡ rest → r ≡ and_then c rest
+pub rest-sound : (c rest r : Verdict) → c ≡ Ok tt → r ≡ rest → r ≡ and_then c rest
 rest-sound c rest r e h = rw e h
 
-pub rest-refused : (c rest : Check) (x : Refusal) → c ≡ Refused x → c ≡ and_then c rest
+pub rest-refused : (c rest : Verdict) (x : Refusal) → c ≡ Err x → c ≡ and_then c rest
 rest-refused c rest x e = rw e
 
-pub called-refused : {r : Refined} {new_points new_sizes : List Float} {new_triangles cut_ends : List ℕ} {a : Answer} (c c' : Check) (x : Refusal) → c ≡ c' → c ≡ Refused x
-    → a ≡ answer_of (Refused x) r → Called c' r new_points new_sizes new_triangles cut_ends a new_points new_sizes new_triangles cut_ends
-called-refused c c' x e h g = let z : c' ≡ Refused x = sym e ∙ h in rw z (record { answer = g; points = refl; sizes = refl; triangles = refl; ends = refl })
+pub called-refused : {r : Refined} {new_points new_sizes : List Float} {new_triangles cut_ends : List ℕ} {a : Answer} (c c' : Verdict) (x : Refusal) → c ≡ c' → c ≡ Err x
+    → a ≡ answer_of (Err x) r → Called c' r new_points new_sizes new_triangles cut_ends a new_points new_sizes new_triangles cut_ends
+called-refused c c' x e h g = let z : c' ≡ Err x = sym e ∙ h in rw z (record { answer = g; points = refl; sizes = refl; triangles = refl; ends = refl })
 
 pub called-done : {r : Refined} {new_points new_sizes new_points' new_sizes' : List Float} {new_triangles cut_ends new_triangles' cut_ends' : List ℕ}
-    {a : Counts} (c c' : Check) → c ≡ c' → c ≡ Sound → Filled r new_points new_sizes new_triangles cut_ends a new_points' new_sizes' new_triangles' cut_ends'
+    {a : Counts} (c c' : Verdict) → c ≡ c' → c ≡ Ok tt → Filled r new_points new_sizes new_triangles cut_ends a new_points' new_sizes' new_triangles' cut_ends'
     → Called c' r new_points new_sizes new_triangles cut_ends (Refinement a) new_points' new_sizes' new_triangles' cut_ends'
 called-done c c' e h g =
-    let z : c' ≡ Sound = sym e ∙ h in
+    let z : c' ≡ Ok tt = sym e ∙ h in
     rw z (record { answer = ap Refinement g.counts; points = g.points; sizes = g.sizes; triangles = g.triangles; ends = g.ends })
 
 -- ---- the pieces

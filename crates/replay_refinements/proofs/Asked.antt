@@ -6,7 +6,6 @@ use mathlib.Core.Bool.{Bool, true, false}
 use mathlib.Core.List.{List, ◌++◌}
 use lib.ListN.{length, take, drop}
 use lib.Ieee.{Float}
-use Rattle.floor.specs.declared.Check.{Check}
 use Rattle.refinement.specs.Floor.{Refined}
 use Rattle.refine_call.specs.declared.Answer.{Answer}
 use Rattle.refine_call.specs.Call.{Called, CalledOn}
@@ -15,6 +14,7 @@ use Rattle.replay.specs.Rows.{double_at, at_most, marks, word_marks, front}
 use Rattle.replay.proofs.Fill.{put-back}
 use Rattle.replay.proofs.Told.{held, unheld}
 use Rattle.replay_refinements.specs.Floors.{same_answer, same_four, same_floor, Lends, found_for, made_for, as_recorded}
+use Rattle.refusals.specs.Refusal.{Verdict}
 
 -- the call, by the counts that words 5 to 8 give
 pub lends : (row : List ℕ) (points : List Float) (tris : List ℕ) (sizes angles op os : List Float) (ot oe : List ℕ) {n₁ n₂ n₃ n₄ : ℕ} {threshold : Float} {a : Answer} {p s : List Float} {t e : List ℕ}
@@ -30,7 +30,7 @@ lends row points tris sizes angles op os ot oe {a} {p} {s} {t} {e} e₁ e₂ e�
 pub same-four : {b : Bool} (p s : List Float) (t e : List ℕ) {p' p'' s' s'' : List Float} {t' t'' e' e'' : List ℕ} → p' ≡ p'' → s' ≡ s'' → t' ≡ t'' → e' ≡ e'' → b ≡ same_four p s t e p' s' t' e' → b ≡ same_four p s t e p'' s'' t'' e''
 same-four p s t e ep es et ee h = rw (ep, es, et, ee) at h
 
-module _ {row : List ℕ} {c : Check} {r : Refined} {a : Answer} {p s : List Float} {t e : List ℕ} {f : Bool} (h : Lends row c r (marks 72) (marks 24) (word_marks 64) (word_marks 44) a p s t e) (same : f ≡ same_answer row a) where
+module _ {row : List ℕ} {c : Verdict} {r : Refined} {a : Answer} {p s : List Float} {t e : List ℕ} {f : Bool} (h : Lends row c r (marks 72) (marks 24) (word_marks 64) (word_marks 44) a p s t e) (same : f ≡ same_answer row a) where
   pub answered : {b : Bool} → f ≡ true → b ≡ same_floor row p s t e → b ≡ as_recorded row c r
   answered v o = held v (same ∙ ap (same_answer row) h.answer) (rw (h.points-left, h.sizes-left, h.corners-left, h.ends-left) at o)
 

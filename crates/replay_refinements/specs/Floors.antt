@@ -1,7 +1,6 @@
 -- Rows that hold a call of refinement: counts, threshold, lengths of the result slices, the answer's counts, then what is given and the refined floor, each at
 -- its own place. data/README.md has the words. Definitions only.
 use Rattle.std.specs.Prelude.{ℕ, ◌*◌, ◌≡◌, Bool, false, cond, List, ◌++◌, eqb, length, drop, Float}
-use Rattle.floor.specs.declared.Check.{Check}
 use Rattle.refinement.specs.Floor.{Refined, refinement_of, tris_of, corners_of, ends_of, over}
 use Rattle.refine_call.specs.declared.Counts.{Counts}
 use Rattle.refine_call.specs.declared.Answer.{Answer}
@@ -9,6 +8,7 @@ use Rattle.refine_call.specs.declared.Answer.TheVariants.{Refinement, Refusal}
 use Rattle.refine_call.specs.Call.{check_call, answer_of, left}
 use Rattle.replay.specs.Words.{word_at}
 use Rattle.replay.specs.Rows.{double_at, doubles_at, corners_at, at_most, marks, word_marks, front, same_as, same_all}
+use Rattle.refusals.specs.Refusal.{Verdict}
 
 -- ---- the answer
 
@@ -35,11 +35,11 @@ same_floor row p s c e =
 -- ---- the call
 
 -- a slice whose front, as long as word k says, was lent to a call that found c and made `new`
-abbrev pub lent : {A : Type 0} → List ℕ → ℕ → Check → List A → List A → List A
+abbrev pub lent : {A : Type 0} → List ℕ → ℕ → Verdict → List A → List A → List A
 lent row k c new old = left c new (front row k old) ++ drop (at_most (length old) (word_at row k)) old
 
 -- the answer, and the four slices whose fronts were lent: what is found, c, and the floor that is made, r, decide them
-pub record Lends (row : List ℕ) (c : Check) (r : Refined) (points sizes : List Float) (corners ends : List ℕ) (a : Answer) (points' sizes' : List Float) (corners' ends' : List ℕ) : Type 0 where
+pub record Lends (row : List ℕ) (c : Verdict) (r : Refined) (points sizes : List Float) (corners ends : List ℕ) (a : Answer) (points' sizes' : List Float) (corners' ends' : List ℕ) : Type 0 where
   pub answer : a ≡ answer_of c r
   pub points-left : points' ≡ lent row 5 c r.points points
   pub sizes-left : sizes' ≡ lent row 6 c r.sizes sizes
@@ -47,7 +47,7 @@ pub record Lends (row : List ℕ) (c : Check) (r : Refined) (points sizes : List
   pub ends-left : ends' ≡ lent row 8 c (ends_of r.cut) ends
 
 -- what is found of given slices, where so long fronts of the result slices are lent
-abbrev pub found_for : List ℕ → List Float → List ℕ → List Float → List Float → List Float → List Float → List ℕ → List ℕ → Check
+abbrev pub found_for : List ℕ → List Float → List ℕ → List Float → List Float → List Float → List Float → List ℕ → List ℕ → Verdict
 found_for row points tris sizes angles new_points new_sizes new_corners ends =
     check_call points tris sizes (length angles) (double_at row 4) (length (front row 5 new_points)) (length (front row 6 new_sizes)) (length (front row 7 new_corners)) (length (front row 8 ends))
 
@@ -55,7 +55,7 @@ abbrev pub made_for : List ℕ → List Float → List ℕ → List Float → Li
 made_for row points tris sizes angles = refinement_of (double_at row 4) angles points sizes (tris_of tris)
 
 -- the call on marked slices is as recorded
-abbrev pub as_recorded : List ℕ → Check → Refined → Bool
+abbrev pub as_recorded : List ℕ → Verdict → Refined → Bool
 as_recorded row c r =
     cond (same_answer row (answer_of c r))
     (same_floor row (lent row 5 c r.points (marks 72)) (lent row 6 c r.sizes (marks 24)) (lent row 7 c (corners_of r.triangles) (word_marks 64)) (lent row 8 c (ends_of r.cut) (word_marks 44)))

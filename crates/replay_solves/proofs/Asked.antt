@@ -12,7 +12,6 @@ use Rattle.refinement.specs.Floor.{over}
 use Rattle.pass_options.specs.declared.Options.{Options}
 use Rattle.pass.specs.declared.Asked.{Asked}
 use Rattle.pass.specs.Pass.{pass_of}
-use Rattle.calls.specs.declared.Outcome.{Outcome}
 use Rattle.calls.specs.Solve.{Ended, Ends, solve_of}
 use Rattle.solve.specs.Passes.{call_for, lent}
 use Rattle.replay.specs.Rows.{up_to, at_most}
@@ -20,6 +19,7 @@ use Rattle.replay.proofs.Fill.{fill-length, over-front, put-back}
 use Rattle.replay.proofs.Told.{held, unheld}
 use Rattle.replay_solves.specs.Row.{count_at}
 use Rattle.replay_solves.specs.Solve.{options_in, asked_in, same_outcome, same_angles, same_work, put_back, solved_on, Lends, marked, as_recorded, solve_on}
+use Rattle.calls.specs.Checks.{Outcome}
 
 -- the call, by the counts that word 2 gives
 pub lends : (row : List ℕ) (points : List Float) (tris : List ℕ) (sizes angles coarse fine work : List Float) (words : List ℕ) {n₁ n₂ n₃ n₄ : ℕ} {o : Options} {a : Asked} {r : Outcome} {x y z : List Float} {u : List ℕ}

@@ -1,6 +1,6 @@
 -- A row that holds a whole solve: the call that it asks for, and the outcome and the four slices compared with what is recorded. data/README.md has the words.
 -- Definitions only.
-use Rattle.std.specs.Prelude.{ℕ, ◌+◌, ◌≡◌, Bool, not, false, cond, List, ◌++◌, eqb, ltb, length, take, drop, replicate, Float}
+use Rattle.std.specs.Prelude.{ℕ, ◌+◌, ◌≡◌, Bool, not, false, cond, List, ◌++◌, eqb, ltb, length, take, drop, replicate, Float, Ok, Err}
 use Rattle.float.specs.Double.{lit}
 use Rattle.refusals.specs.declared.Refusal.{Refusal}
 use Rattle.refinement.specs.Floor.{over}
@@ -9,9 +9,7 @@ use Rattle.pass_options.specs.declared.BoundaryMode.TheVariants as boundary
 use Rattle.pass_options.specs.declared.Options.{Options}
 use Rattle.pass.specs.declared.Asked.{Asked}
 use Rattle.pass.specs.Pass.{pass_of}
-use Rattle.calls.specs.declared.Outcome.{Outcome}
-use Rattle.calls.specs.declared.Outcome.TheVariants.{Solved, Refused}
-use Rattle.calls.specs.Checks.{Lent}
+use Rattle.calls.specs.Checks.{Lent, Outcome}
 use Rattle.calls.specs.Solve.{Ended, solve_of}
 use Rattle.solve.specs.Passes.{call_for}
 use Rattle.replay.specs.Words.{word_at}
@@ -46,8 +44,8 @@ same_refusal row r =
 
 -- a refusal, or 0 and the counts
 abbrev pub same_outcome : List ℕ → Outcome → Bool
-same_outcome row (Solved c) = cond (eqb (quarter_at row 11 0) 0) (cond (eqb c.flagged (quarter_at row 12 2)) (eqb c.cut (quarter_at row 12 3)) false) false
-same_outcome row (Refused r) = same_refusal row r
+same_outcome row (Ok c) = cond (eqb (quarter_at row 11 0) 0) (cond (eqb c.flagged (quarter_at row 12 2)) (eqb c.cut (quarter_at row 12 3)) false) false
+same_outcome row (Err r) = same_refusal row r
 
 -- the angle slices begin with the recorded angles, from word k on, and hold the marks behind them
 unfoldable pub same_angles : List ℕ → ℕ → List Float → List Float → Bool

@@ -6,24 +6,23 @@ use mathlib.Core.Bool.{Bool, true, false, ◌&&◌}
 use mathlib.Core.List.{List}
 use lib.ListN.{get_or}
 use lib.Ieee.{Float, nan}
+use Rattle.std.specs.Prelude.{Ok, Err}
 use Rattle.linear_cells.specs.Region.{region}
 use Rattle.linear_cells.proofs.Loops.{tab-ext}
 use Rattle.refusals.specs.declared.Refusal.{Refusal}
-use Rattle.refusals.specs.declared.Stage.TheVariants as stage
 use Rattle.pass_options.specs.Pass.{Passed, field, faulty, stage_of}
-use Rattle.calls.specs.declared.Outcome.{Outcome}
-use Rattle.solve.specs.declared.Found.{Found}
-use Rattle.solve.specs.Passes.{first_in, Finished, outcome_of, coarse_left, fine_left}
+use Rattle.solve.specs.Passes.{first_in, Finished, outcome_of, coarse_left, fine_left, Found}
+use Rattle.calls.specs.Checks.{Outcome}
 
 pub both_true : (a b : Bool) → (a && b) ≡ true → a ≡ true
 both_true true b e = refl
 both_true false b e = e
 
-pub stage-faulty : (p : Passed) (x : Refusal) → stage.Refused x ≡ stage_of p → p ≡ faulty x
+pub stage-faulty : (p : Passed) (x : Refusal) → Err x ≡ stage_of p → p ≡ faulty x
 stage-faulty (faulty y) x e = cc
 stage-faulty (field alpha) x e = let z : ◌≡◌ {A = ℕ} 0 1 = cc in absurd (omega arith)
 
-pub stage-field : (p : Passed) → stage.Done ≡ stage_of p → (alpha : List Float) × (p ≡ field alpha)
+pub stage-field : (p : Passed) → (Ok tt) ≡ stage_of p → (alpha : List Float) × (p ≡ field alpha)
 stage-field (field alpha) e = (alpha, refl)
 stage-field (faulty x) e = let z : ◌≡◌ {A = ℕ} 0 1 = cc in absurd (omega arith)
 

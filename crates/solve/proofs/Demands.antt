@@ -5,14 +5,13 @@ use mathlib.Core.Path.{◌≡◌, sym, ap, ◌∙◌}
 use mathlib.Core.Logic.{◌↔◌}
 use mathlib.Core.List.{List}
 use lib.Ieee.{Float}
+use Rattle.std.specs.Prelude.{Err}
 use Rattle.pass.specs.Pass.{pass_of}
 use Rattle.pass.proofs.Facts.{pass-facts}
 use Rattle.pass.proofs.Rows.{pass-rows}
 use Rattle.refusals.specs.declared.Refusal.{Refusal}
 use Rattle.calls.specs.declared.Counts.{Counts}
-use Rattle.calls.specs.declared.Outcome.{Outcome}
-use Rattle.calls.specs.declared.Outcome.TheVariants.{Refused}
-use Rattle.calls.specs.Checks.{Call, Lent}
+use Rattle.calls.specs.Checks.{Call, Lent, Outcome}
 use Rattle.calls.specs.Solve.{first_floor, refined_by, second_floor, without_threshold, extended, solve_of, Ends}
 use Rattle.calls.specs.Refusals.{RefusedBy, Refusals}
 use Rattle.calls.specs.Claim.{RefiningSolve}
@@ -26,7 +25,7 @@ module _ (c : Call) (lent : Lent) {r : Outcome} {coarse fine work : List Float} 
   by_rows : Refusals pass_of c lent
   by_rows = refusals pass_of c lent
 
-  refused-when : (x : Refusal) → (r ≡ Refused x) ↔ RefusedBy pass_of c lent x
+  refused-when : (x : Refusal) → (r ≡ Err x) ↔ RefusedBy pass_of c lent x
   refused-when x = (λ h. (by_rows.exactly x).0 (sym ends.outcome ∙ h), λ h. ends.outcome ∙ (by_rows.exactly x).1 h)
 
   refining : (counts : Counts) (alpha : List Float) → Refines c r counts alpha → DemandThree c lent counts alpha coarse fine

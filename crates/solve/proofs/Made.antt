@@ -6,10 +6,9 @@ use mathlib.Core.Bool.{Bool, true, false}
 use mathlib.Core.List.{List}
 use lib.ListN.{length}
 use lib.Ieee.{Float}
+use Rattle.std.specs.Prelude.{Ok, None, Err}
 use Rattle.edges.specs.Numbering.{Below}
 use Rattle.refusals.specs.declared.Refusal.{Refusal}
-use Rattle.refusals.specs.declared.Stage.{Stage}
-use Rattle.refusals.specs.declared.Stage.TheVariants as stage
 use Rattle.pass_options.specs.declared.Options.{Options}
 use Rattle.pass_options.specs.Options.{guidance_of}
 use Rattle.pass_options.specs.Pass.{Passed, field, faulty}
@@ -19,10 +18,9 @@ use Rattle.pass_floor.specs.Lay.{Made}
 use Rattle.pass_floor.specs.First.{first_base, first_over, FirstRoom}
 use Rattle.calls.specs.Checks.{is_adaptive, most_points, most_triangles}
 use Rattle.calls.specs.Solve.{first_pass, in_pass}
-use Rattle.solve.specs.declared.Found.{Found}
-use Rattle.solve.specs.declared.Found.TheVariants.{Once, Refused}
-use Rattle.solve.specs.Passes.{call_for, ReadyFor, first_in, found_after, found_of, FirstStands, SecondStands, SameLengths, SecondMade, PassesMade, told_in}
+use Rattle.solve.specs.Passes.{call_for, ReadyFor, first_in, found_after, found_of, FirstStands, SecondStands, SameLengths, SecondMade, PassesMade, told_in, Found}
 use Rattle.solve.proofs.Answers.{stage-faulty, stage-field}
+use Rattle.refusals.specs.Refusal.{Verdict}
 
 -- a call has room for a pass over the floor as given, whatever its threshold
 pub some-points-fit : (b : Bool) (n t : ℕ) → n ≤ most_points b n t
@@ -62,12 +60,12 @@ module _ (points : List Float) (corners : List ℕ) (sizes angles : List Float) 
   pub first_below : Below (length points / 3) 0 corners (length corners)
   first_below j h = ready.corners (0 + j) (omega arith)
 
-  module _ {w₁ : List Float} {u₁ : List ℕ} {s : Stage}
+  module _ {w₁ : List Float} {u₁ : List ℕ} {s : Verdict}
       (made : Made (first_base (length points) (length corners)) (first_over o a points corners sizes angles) w w₁ u u₁ s) where
     same : SameLengths w w₁ u u₁
     same = record { all-reals = made.all-reals; all_words = made.all_words }
 
-    pub passes-refused : (x : Refusal) → s ≡ stage.Refused x → {r : Found} → r ≡ told_in 1 s → PassesMade (call_for points corners sizes angles o a) w w₁ u u₁ r
+    pub passes-refused : (x : Refusal) → s ≡ Err x → {r : Found} → r ≡ told_in 1 s → PassesMade (call_for points corners sizes angles o a) w w₁ u u₁ r
     unfolding found_of
     passes-refused x h told =
         let p : first_pass pass_of (call_for points corners sizes angles o a) ≡ faulty x = stage-faulty _ x (sym h ∙ made.answer) in
@@ -78,7 +76,7 @@ module _ (points : List Float) (corners : List ℕ) (sizes angles : List Float) 
           lengths = same;
         }
 
-    pub passes-once : is_adaptive o ≡ false → s ≡ stage.Done → PassesMade (call_for points corners sizes angles o a) w w₁ u u₁ Once
+    pub passes-once : is_adaptive o ≡ false → s ≡ Ok tt → PassesMade (call_for points corners sizes angles o a) w w₁ u u₁ (Ok None)
     unfolding found_of found_after
     passes-once low h =
         let p = stage-field (first_pass pass_of (call_for points corners sizes angles o a)) (sym h ∙ made.answer) in
@@ -90,7 +88,7 @@ module _ (points : List Float) (corners : List ℕ) (sizes angles : List Float) 
         }
 
     -- the first pass was accepted
-    module _ (above : is_adaptive o ≡ true) (h : s ≡ stage.Done) where
+    module _ (above : is_adaptive o ≡ true) (h : s ≡ Ok tt) where
       accepted : first_pass pass_of (call_for points corners sizes angles o a) ≡ field (first_in (length points / 3) w₁)
       accepted =
           let p = stage-field (first_pass pass_of (call_for points corners sizes angles o a)) (sym h ∙ made.answer) in

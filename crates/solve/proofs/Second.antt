@@ -9,6 +9,7 @@ use borrow.Author.Tests.{ne_eqb}
 use lib.ListN.{length, get_or}
 use lib.Seq.{length-sets}
 use lib.Ieee.{Float, lt}
+use Rattle.std.specs.Prelude.{Some, Ok, None, Err}
 use Rattle.float.specs.Double.{lit}
 use Rattle.mesh.specs.Mesh.{Tri, Side, All, Good, cuts, mid, refine, refined}
 use Rattle.mesh.specs.Claim.{InRange}
@@ -35,18 +36,15 @@ use Rattle.pass.specs.declared.Asked.{Asked}
 use Rattle.pass.specs.Pass.{pass_of}
 use Rattle.pass.proofs.Facts.{pass-facts}
 use Rattle.refusals.specs.declared.Refusal.{Refusal}
-use Rattle.refusals.specs.declared.Stage.{Stage}
-use Rattle.refusals.specs.declared.Stage.TheVariants as stage
 use Rattle.pass_floor.specs.Lay.{pass_over, pass_at, LaidRoom, Made}
 use Rattle.calls.specs.Checks.{most_points, most_triangles}
 use Rattle.calls.specs.Solve.{first_floor, second_pass, refined_by, refines, in_pass, extended, without_threshold}
 use Rattle.mesh.proofs.Good.{both-good}
 use Rattle.calls.proofs.Room.{points-in}
-use Rattle.solve.specs.declared.Found.{Found}
-use Rattle.solve.specs.declared.Found.TheVariants.{Once, Twice, Refused}
-use Rattle.solve.specs.Passes.{call_for, again, ReadyFor, first_in, found_after, FirstStands, SecondStands, SameLengths, CutRoom, CutsBy, SecondMade, told_in}
+use Rattle.solve.specs.Passes.{call_for, again, ReadyFor, first_in, found_after, FirstStands, SecondStands, SameLengths, CutRoom, CutsBy, SecondMade, told_in, Found}
 use Rattle.solve.proofs.Answers.{stage-faulty, stage-field, both_true, front-stays}
 use Rattle.solve.proofs.Corners.{below-in-range, stored-tris, stored-below}
+use Rattle.refusals.specs.Refusal.{Verdict}
 
 -- the guidance of the second pass
 extended-is : (given : Bool) (weight : Float) (angles : List Float) (l : List Side)
@@ -115,7 +113,7 @@ module _ (points : List Float) (corners : List ℕ) (sizes angles : List Float) 
     some-flagged e = rw (stands.above, ← flag-count, ne_eqb cut.flagged 0 e) refl
 
     -- nothing is flagged: no second pass
-    pub second_none : cut.flagged ≡ 0 → SecondMade (call_for points corners sizes angles o a) w w u u₂ Once
+    pub second_none : cut.flagged ≡ 0 → SecondMade (call_for points corners sizes angles o a) w w u u₂ (Ok None)
     unfolding found_after
     second_none e = record {
       answer = rw (none-flagged e) refl;
@@ -184,7 +182,7 @@ module _ (points : List Float) (corners : List ℕ) (sizes angles : List Float) 
       second_is e g = rw (e, g) second-as
 
       -- the pass over the refined floor was made
-      module _ (some : ¬ (cut.flagged ≡ 0)) {o' : Options} {a' : Asked} (e : o' ≡ without_threshold o) (g : a' ≡ again a) {w' : List Float} {u' : List ℕ} {s : Stage}
+      module _ (some : ¬ (cut.flagged ≡ 0)) {o' : Options} {a' : Asked} (e : o' ≡ without_threshold o) (g : a' ≡ again a) {w' : List Float} {u' : List ℕ} {s : Verdict}
           (made : Made (base_at points corners cut.sides k) (pass_at (base_at points corners cut.sides k) o' a' (table_at points cut.sides) points sizes angles u₃) w w' u₃ u' s) where
         answered : s ≡ stage_of (second_pass pass_of (call_for points corners sizes angles o a) (first_in (length points / 3) w))
         answered = made.answer ∙ ap stage_of (second_is e g)
@@ -198,7 +196,7 @@ module _ (points : List Float) (corners : List ℕ) (sizes angles : List Float) 
         lengths : SameLengths w w' u u'
         lengths = record { all-reals = made.all-reals; all_words = made.all_words ∙ long }
 
-        pub second-refused : (x : Refusal) → s ≡ stage.Refused x → {r : Found} → r ≡ told_in 2 s → SecondMade (call_for points corners sizes angles o a) w w' u u' r
+        pub second-refused : (x : Refusal) → s ≡ Err x → {r : Found} → r ≡ told_in 2 s → SecondMade (call_for points corners sizes angles o a) w w' u u' r
         unfolding found_after
         second-refused x h told = record {
           answer = rw (some-flagged some, stage-faulty (second_pass pass_of (call_for points corners sizes angles o a) (first_in (length points / 3) w)) x (sym h ∙ answered)) (told ∙ ap (told_in 2) h);
@@ -207,7 +205,7 @@ module _ (points : List Float) (corners : List ℕ) (sizes angles : List Float) 
           lengths = lengths;
         }
 
-        pub second-twice : s ≡ stage.Done → SecondMade (call_for points corners sizes angles o a) w w' u u' (Twice (record { flagged = cut.flagged; cut = cut.sides }))
+        pub second-twice : s ≡ Ok tt → SecondMade (call_for points corners sizes angles o a) w w' u u' (Ok (Some (record { flagged = cut.flagged; cut = cut.sides })))
         unfolding found_after
         second-twice h = record {
           answer = rw (some-flagged some, (stage-field (second_pass pass_of (call_for points corners sizes angles o a) (first_in (length points / 3) w)) (sym h ∙ answered)).1, flag-count, cut-count) refl;

@@ -14,6 +14,7 @@ use lib.Seq.{get_or_at, get_or-append-add}
 use lib.Ieee.{Float, nan, inf, fin, binary64, lt, le, of_bits, fits}
 use lib.Ieee.Fits.{mul-fits}
 use lib.Ieee.Bits.{is_true}
+use Rattle.std.specs.Prelude.{Ok}
 use Rattle.float.specs.Double.{lit, is_finite, not_positive, ◌⊕◌, ◌⊗◌}
 use Rattle.float.proofs.Above.{positive-passes}
 use Rattle.complex.specs.Complex.{cadd}
@@ -26,7 +27,6 @@ use Rattle.mesh.specs.Claim.{InRange, LowerFirst, TwoEnds}
 use Rattle.mesh.specs.Area.{halfway}
 use Rattle.mesh.specs.Points.{x_of, y_of, size_of}
 use Rattle.mesh.proofs.Cuts.{key-rising}
-use Rattle.floor.specs.declared.Check.TheVariants.{Sound}
 use Rattle.floor.specs.Floor.{Floor, point_count, triangle_count, value_at, triangle_at}
 use Rattle.floor.specs.Checks.{lowest, bad_point, bad_size, not_finite_or_below_zero}
 use Rattle.floor.proofs.Lowest.{lowest-before, lowest-clear}
@@ -230,7 +230,7 @@ module _ (c : Call) (lent : Lent) (passes : Passes c lent) (doubles : Doubles c)
     row_of : (j : ℕ) → j < 18 → (get_or (table c (lengths_of lent)) j no_row).holds ≡ false
     row_of j l = row-passed c (lengths_of lent) passes j l
 
-    second-options : first_of (option_rows (without_threshold c.options)) ≡ Sound
+    second-options : first_of (option_rows (without_threshold c.options)) ≡ Ok tt
     second-options = rw (row_of 8 (omega arith), row_of 9 (omega arith), row_of 10 (omega arith), zero-threshold, row_of 12 (omega arith))
       where
         zero-threshold : not_finite_or_below_zero (lit 0) ≡ false
@@ -253,7 +253,7 @@ module _ (c : Call) (lent : Lent) (passes : Passes c lent) (doubles : Doubles c)
         go true = cross-finite (cross_angle (cadd (fourfold low) (fourfold high))) (cross-angle-range (cadd (fourfold low) (fourfold high)))
         go false = h
 
-    unguided-rows : (n : ℕ) → first_of (guidance_rows n unguided) ≡ Sound
+    unguided-rows : (n : ℕ) → first_of (guidance_rows n unguided) ≡ Ok tt
     unfolding lowest
     unguided-rows n = refl
 
@@ -289,7 +289,7 @@ module _ (c : Call) (lent : Lent) (passes : Passes c lent) (doubles : Doubles c)
               ap (λ (j : ℕ). get_or (angles ++ map (mid_angle_on angles) cut_sides) j nan) (sym z) ∙ get_or-append-add angles (map (mid_angle_on angles) cut_sides) (i - length angles) nan in
               ap not (ap is_finite (w ∙ get_d_map (mid_angle_on angles) cut_sides (i - length angles) (side 0 0) nan k) ∙ new-angle (i - length angles) k)
 
-      guided-rows : first_of (guidance_rows (point_count (second_floor c alpha)) (guided weight (more_angles angles cut_sides))) ≡ Sound
+      guided-rows : first_of (guidance_rows (point_count (second_floor c alpha)) (guided weight (more_angles angles cut_sides))) ≡ Ok tt
       guided-rows =
           let n : length (more_angles angles cut_sides) ≡ point_count (second_floor c alpha) = more-length ∙ omega (arith, many, second-points c alpha ready.whole) in
           rw (
@@ -302,17 +302,17 @@ module _ (c : Call) (lent : Lent) (passes : Passes c lent) (doubles : Doubles c)
           more-length : length (more_angles angles cut_sides) ≡ length angles + length cut_sides
           more-length = unfold more_angles mid_angles in (length-append angles (map (mid_angle_on angles) cut_sides) ∙ ap (λ (k : ℕ). length angles + k) (length-map (mid_angle_on angles) cut_sides))
 
-      extended-rows : first_of (guidance_rows (point_count (second_floor c alpha)) (extended (guided weight angles) cut_sides)) ≡ Sound
+      extended-rows : first_of (guidance_rows (point_count (second_floor c alpha)) (extended (guided weight angles) cut_sides)) ≡ Ok tt
       extended-rows = go (lt (lit 0) weight)
         where
-          go : (b : Bool) → first_of (guidance_rows (point_count (second_floor c alpha)) (cond b (guided weight (more_angles angles cut_sides)) unguided)) ≡ Sound
+          go : (b : Bool) → first_of (guidance_rows (point_count (second_floor c alpha)) (cond b (guided weight (more_angles angles cut_sides)) unguided)) ≡ Ok tt
           go true = guided-rows
           go false = unguided-rows (point_count (second_floor c alpha))
 
-    second-guidance : first_of (guidance_rows (point_count (second_floor c alpha)) (extended c.guidance cut_sides)) ≡ Sound
+    second-guidance : first_of (guidance_rows (point_count (second_floor c alpha)) (extended c.guidance cut_sides)) ≡ Ok tt
     second-guidance = go c.guidance refl
       where
-        go : (g : Guidance) → c.guidance ≡ g → first_of (guidance_rows (point_count (second_floor c alpha)) (extended g cut_sides)) ≡ Sound
+        go : (g : Guidance) → c.guidance ≡ g → first_of (guidance_rows (point_count (second_floor c alpha)) (extended g cut_sides)) ≡ Ok tt
         go unguided e = unguided-rows (point_count (second_floor c alpha))
         go (guided weight angles) e = extended-rows weight angles e
 

@@ -7,37 +7,33 @@ use mathlib.Core.Bool.{Bool, true, false, cond}
 use mathlib.Core.List.{List}
 use lib.ListN.{length, replicate}
 use lib.Ieee.{Float}
+use Rattle.std.specs.Prelude.{Some, Ok, None, Err}
 use Rattle.float.specs.Double.{lit}
 use Rattle.refusals.specs.declared.Refusal.{Refusal}
-use Rattle.floor.specs.declared.Check.{Check}
-use Rattle.floor.specs.declared.Check.TheVariants as check
 use Rattle.refinement.specs.Floor.{over}
 use Rattle.pass_options.specs.Pass.{Passed, field, faulty}
 use Rattle.pass.specs.Pass.{pass_of}
 use Rattle.calls.specs.declared.Counts.{Counts}
-use Rattle.calls.specs.declared.Outcome.{Outcome}
-use Rattle.calls.specs.declared.Outcome.TheVariants as outcome
-use Rattle.calls.specs.Checks.{Call, Lent, lengths_of, points_in, triangles_in, is_adaptive, most_points, most_triangles, check_solve}
+use Rattle.calls.specs.Checks.{Call, Lent, lengths_of, points_in, triangles_in, is_adaptive, most_points, most_triangles, check_solve, Outcome}
 use Rattle.calls.specs.Solve.{first_pass, second_pass, refined_by, refines, Ended, after_second, after_first, solved_once, solve_of, Ends}
 use Rattle.calls.proofs.Ready.{sound-ready}
 use Rattle.calls.proofs.Room.{second-points, second-few}
-use Rattle.solve.specs.declared.Found.{Found}
-use Rattle.solve.specs.declared.Found.TheVariants.{Once, Twice, Refused}
-use Rattle.solve.specs.Passes.{told_early, found_second, found_after, found_first, found_of, ReadyFor, PassesMade, FinishRoom, SecondFits, Finished, outcome_of, coarse_left, fine_left}
+use Rattle.solve.specs.Passes.{told_early, found_second, found_after, found_first, found_of, ReadyFor, PassesMade, FinishRoom, SecondFits, Finished, outcome_of, coarse_left, fine_left, Found}
 use Rattle.solve.proofs.Answers.{both_true}
 use Rattle.solve.proofs.Made.{some-points-fit}
+use Rattle.refusals.specs.Refusal.{Verdict}
 
 module _ (c : Call) (l : Lent) where
   -- rows 1 to 18: nothing is touched
-  refused-ends : (x : Refusal) → check_solve c (lengths_of l) ≡ check.Refused x → Ends (solve_of pass_of c l) (outcome.Refused x) l.coarse l.fine l.work l.words
+  refused-ends : (x : Refusal) → check_solve c (lengths_of l) ≡ Err x → Ends (solve_of pass_of c l) (Err x) l.coarse l.fine l.work l.words
   unfolding solve_of
   refused-ends x e = rw e (record { outcome = refl; coarse-left = refl; fine-left = refl; work-left = refl; words_left = refl })
 
-  pub ends-early : {k : Check} → k ≡ check_solve c (lengths_of l) → (x : Refusal) → k ≡ check.Refused x → {r : Outcome} → r ≡ told_early k
+  pub ends-early : {k : Verdict} → k ≡ check_solve c (lengths_of l) → (x : Refusal) → k ≡ Err x → {r : Outcome} → r ≡ told_early k
       → Ends (solve_of pass_of c l) r l.coarse l.fine l.work l.words
   ends-early e x h told = rw (told ∙ ap told_early h) (refused-ends x (sym e ∙ h))
 
-  module _ (sound : check_solve c (lengths_of l) ≡ check.Sound) {w' : List Float} {u' : List ℕ} {found : Found} (made : PassesMade c l.work w' l.words u' found) where
+  module _ (sound : check_solve c (lengths_of l) ≡ Ok tt) {w' : List Float} {u' : List ℕ} {found : Found} (made : PassesMade c l.work w' l.words u' found) where
     module _ {coarse' fine' : List Float} {r : Outcome} (done : Finished found (points_in c) w' l.coarse l.fine coarse' fine' r)
         {w'' : List Float} {u'' : List ℕ} (no-reals : w'' ≡ replicate (length w') (lit 0)) (no_words : u'' ≡ replicate (length u') 0) where
       reals-gone : w'' ≡ replicate (length l.work) (lit 0)
@@ -67,7 +63,7 @@ module _ (c : Call) (l : Lent) where
           refl refl
 
       after-field : (alpha : List Float) → first_pass pass_of c ≡ field alpha → (b : Bool) → refines c alpha ≡ b
-          → found ≡ cond b (found_second c alpha (second_pass pass_of c alpha)) Once
+          → found ≡ cond b (found_second c alpha (second_pass pass_of c alpha)) (Ok None)
           → Ends (cond b (after_second c l alpha (second_pass pass_of c alpha)) (solved_once alpha l)) r coarse' fine' w'' u''
       after-field alpha p true b is = after-second alpha p b (second_pass pass_of c alpha) refl is
       after-field alpha p false b is = ends_by _ is (solved_once alpha l) refl (ap (λ (x : List Float). over x l.coarse) (sym (made.first-stands alpha p))) refl refl refl
@@ -83,7 +79,7 @@ module _ (c : Call) (l : Lent) where
 
 -- ---- what the calls of `solve` ask for
 
-pub ready_for : (c : Call) (l : Lent) → check_solve c (lengths_of l) ≡ check.Sound → ReadyFor c l.work l.words
+pub ready_for : (c : Call) (l : Lent) → check_solve c (lengths_of l) ≡ Ok tt → ReadyFor c l.work l.words
 unfolding most_points
 ready_for c l s =
     let r = sound-ready c (lengths_of l) s in
@@ -109,25 +105,25 @@ record PassedTwice (c : Call) (k : Counts) : Type 0 where
   above : is_adaptive c.options ≡ true
   cut : k.cut ≡ length (refined_by c alpha).cut
 
-twice-second : (c : Call) (alpha : List Float) (k : Counts) → is_adaptive c.options ≡ true → (q : Passed) → Twice k ≡ found_second c alpha q → PassedTwice c k
+twice-second : (c : Call) (alpha : List Float) (k : Counts) → is_adaptive c.options ≡ true → (q : Passed) → Ok (Some k) ≡ found_second c alpha q → PassedTwice c k
 twice-second c alpha k above (faulty x) e = let z : ◌≡◌ {A = ℕ} 0 1 = cc in absurd (omega arith)
 twice-second c alpha k above (field beta) e = record { alpha = alpha; above = above; cut = cc }
 
-twice-after : (c : Call) (alpha : List Float) (k : Counts) (b : Bool) → refines c alpha ≡ b → Twice k ≡ cond b (found_second c alpha (second_pass pass_of c alpha)) Once → PassedTwice c k
+twice-after : (c : Call) (alpha : List Float) (k : Counts) (b : Bool) → refines c alpha ≡ b → Ok (Some k) ≡ cond b (found_second c alpha (second_pass pass_of c alpha)) (Ok None) → PassedTwice c k
 twice-after c alpha k true b e = twice-second c alpha k (both_true _ _ b) (second_pass pass_of c alpha) e
 twice-after c alpha k false b e = let z : ◌≡◌ {A = ℕ} 0 1 = cc in absurd (omega arith)
 
-twice-first : (c : Call) (k : Counts) (p : Passed) → Twice k ≡ found_first c p → PassedTwice c k
+twice-first : (c : Call) (k : Counts) (p : Passed) → Ok (Some k) ≡ found_first c p → PassedTwice c k
 unfolding found_after
 twice-first c k (faulty x) e = let z : ◌≡◌ {A = ℕ} 0 1 = cc in absurd (omega arith)
 twice-first c k (field alpha) e = twice-after c alpha k (refines c alpha) refl e
 
-twice-fits : (c : Call) (l : Lent) → check_solve c (lengths_of l) ≡ check.Sound → (work : ℕ) → work ≡ length l.work → (f : Found) → f ≡ found_of c
+twice-fits : (c : Call) (l : Lent) → check_solve c (lengths_of l) ≡ Ok tt → (work : ℕ) → work ≡ length l.work → (f : Found) → f ≡ found_of c
     → SecondFits f (points_in c) work (length l.fine)
 unfolding found_of most_points most_triangles
-twice-fits c l s work e Once g = tt
-twice-fits c l s work e (Refused x) g = tt
-twice-fits c l s work e (Twice k) g =
+twice-fits c l s work e (Ok None) g = tt
+twice-fits c l s work e (Err x) g = tt
+twice-fits c l s work e (Ok (Some k)) g =
     let r = sound-ready c (lengths_of l) s in
     let t = twice-first c k (first_pass pass_of c) g in
     let room = rw t.above at r.reals-room in
@@ -136,7 +132,7 @@ twice-fits c l s work e (Twice k) g =
     let few = second-few c t.alpha r.whole in
     (omega (arith, t.cut), omega (arith, t.cut))
 
-pub finish-room : (c : Call) (l : Lent) → check_solve c (lengths_of l) ≡ check.Sound → {w' : List Float} {u' : List ℕ} {found : Found} → PassesMade c l.work w' l.words u' found
+pub finish-room : (c : Call) (l : Lent) → check_solve c (lengths_of l) ≡ Ok tt → {w' : List Float} {u' : List ℕ} {found : Found} → PassesMade c l.work w' l.words u' found
     → FinishRoom found (points_in c) (length w') (length l.coarse) (length l.fine)
 finish-room c l s {w'} {u'} {found} made =
     let r = sound-ready c (lengths_of l) s in

@@ -1,32 +1,25 @@
 -- What the passes of a call find, where they leave it in the work slices, and how it gets from there to the angle slices. `solve_of` of crate calls is
 -- put together from these in proofs/Whole. Definitions only.
-use Rattle.std.specs.Prelude.{ℕ, ◌+◌, ◌*◌, ◌/◌, ◌^◌, ◌≤◌, ◌<◌, ◌≡◌, true, cond, ◌&&◌, List, length, Float}
+use Rattle.std.specs.Prelude.{ℕ, ◌+◌, ◌*◌, ◌/◌, ◌^◌, ◌≤◌, ◌<◌, ◌≡◌, true, cond, ◌&&◌, List, length, Float, Some, Ok, None, Err}
 use Rattle.std.specs.Float.{nan}
 use Rattle.std.specs.Float.Ieee.{lt}
 use Rattle.float.specs.Double.{lit}
 use Rattle.linear_cells.specs.Region.{region}
 use Rattle.mesh.specs.Mesh.{cuts, marked}
 use Rattle.edges.specs.Table.{Held, sides_in}
-use Rattle.floor.specs.declared.Check.{Check}
-use Rattle.floor.specs.declared.Check.TheVariants as check
 use Rattle.floor.specs.Checks.{MOST-TRIANGLES}
 use Rattle.refinement.specs.declared.Cut.{Cut}
 use Rattle.refinement.specs.Flag.{flagged_tri}
 use Rattle.refinement.specs.Floor.{tris_of, over}
-use Rattle.refusals.specs.declared.Stage.{Stage}
-use Rattle.refusals.specs.declared.Stage.TheVariants as stage
 use Rattle.pass_options.specs.declared.Options.{Options}
 use Rattle.pass_options.specs.Pass.{Passed, field, faulty}
 use Rattle.pass.specs.declared.Asked.{Asked}
 use Rattle.pass.specs.Pass.{pass_of}
 use Rattle.calls.specs.declared.Counts.{Counts}
 use Rattle.calls.specs.declared.Lengths.{Lengths}
-use Rattle.calls.specs.declared.Outcome.{Outcome}
-use Rattle.calls.specs.declared.Outcome.TheVariants as outcome
-use Rattle.calls.specs.Checks.{Call, Lent, call_of, points_in, triangles_in, is_adaptive, Ready}
+use Rattle.calls.specs.Checks.{Call, Lent, call_of, points_in, triangles_in, is_adaptive, Ready, Outcome}
 use Rattle.calls.specs.Solve.{first_pass, second_pass, refined_by, refines, in_pass}
-use Rattle.solve.specs.declared.Found.{Found}
-use Rattle.solve.specs.declared.Found.TheVariants.{Once, Twice, Refused}
+use Rattle.refusals.specs.Refusal.{Verdict}
 
 -- ---- the parameters of `solve`
 
@@ -52,13 +45,13 @@ ReadyFor c w u = Ready c (lengths_for c (length w) (length u))
 -- ---- refusals, passed up
 
 -- what checks and a pass that refused stand for; where they did not, nothing is told
-abbrev pub told_early : Check → Outcome
-told_early check.Sound = outcome.Solved (record { flagged = 0; cut = 0 })
-told_early (check.Refused x) = outcome.Refused x
+abbrev pub told_early : Verdict → Outcome
+told_early (Ok tt) = Ok (record { flagged = 0; cut = 0 })
+told_early (Err x) = Err x
 
-abbrev pub told_in : ℕ → Stage → Found
-told_in k stage.Done = Once
-told_in k (stage.Refused x) = Refused (in_pass k x)
+abbrev pub told_in : ℕ → Verdict → Found
+told_in k (Ok tt) = Ok None
+told_in k (Err x) = Err (in_pass k x)
 
 -- ---- what is found
 
@@ -67,14 +60,14 @@ abbrev pub counts_by : Call → List Float → Counts
 counts_by c alpha = record { flagged = (refined_by c alpha).flagged; cut = length (refined_by c alpha).cut }
 
 abbrev pub found_second : Call → List Float → Passed → Found
-found_second c alpha (faulty x) = Refused (in_pass 2 x)
-found_second c alpha (field beta) = Twice (counts_by c alpha)
+found_second c alpha (faulty x) = Err (in_pass 2 x)
+found_second c alpha (field beta) = Ok (Some (counts_by c alpha))
 
 unfoldable pub found_after : Call → List Float → Found
-found_after c alpha = cond (refines c alpha) (found_second c alpha (second_pass pass_of c alpha)) Once
+found_after c alpha = cond (refines c alpha) (found_second c alpha (second_pass pass_of c alpha)) (Ok None)
 
 abbrev pub found_first : Call → Passed → Found
-found_first c (faulty x) = Refused (in_pass 1 x)
+found_first c (faulty x) = Err (in_pass 1 x)
 found_first c (field alpha) = found_after c alpha
 
 unfoldable pub found_of : Call → Found
@@ -141,25 +134,25 @@ pub record PassesMade (c : Call) (w w' : List Float) (u u' : List ℕ) (r : Foun
 -- ---- from the work slice to the angle slices
 
 abbrev pub outcome_of : Found → Outcome
-outcome_of Once = outcome.Solved (record { flagged = 0; cut = 0 })
-outcome_of (Twice counts) = outcome.Solved counts
-outcome_of (Refused x) = outcome.Refused x
+outcome_of (Ok None) = Ok (record { flagged = 0; cut = 0 })
+outcome_of (Ok (Some counts)) = Ok counts
+outcome_of (Err x) = Err x
 
 abbrev pub coarse_left : Found → ℕ → List Float → List Float → List Float
-coarse_left Once n w old = over (first_in n w) old
-coarse_left (Twice counts) n w old = over (first_in n w) old
-coarse_left (Refused x) n w old = old
+coarse_left (Ok None) n w old = over (first_in n w) old
+coarse_left (Ok (Some counts)) n w old = over (first_in n w) old
+coarse_left (Err x) n w old = old
 
 abbrev pub fine_left : Found → ℕ → List Float → List Float → List Float
-fine_left Once n w old = old
-fine_left (Twice counts) n w old = over (second_in n (n + counts.cut) w) old
-fine_left (Refused x) n w old = old
+fine_left (Ok None) n w old = old
+fine_left (Ok (Some counts)) n w old = over (second_in n (n + counts.cut) w) old
+fine_left (Err x) n w old = old
 
 -- the angles of the second pass have room, in the work and in the fine slice
 abbrev pub SecondFits : Found → ℕ → ℕ → ℕ → Type 0
-SecondFits Once n work fine = Unit {0}
-SecondFits (Twice counts) n work fine = (n + (n + counts.cut) ≤ work) × (n + counts.cut ≤ fine)
-SecondFits (Refused x) n work fine = Unit {0}
+SecondFits (Ok None) n work fine = Unit {0}
+SecondFits (Ok (Some counts)) n work fine = (n + (n + counts.cut) ≤ work) × (n + counts.cut ≤ fine)
+SecondFits (Err x) n work fine = Unit {0}
 
 pub record FinishRoom (found : Found) (n work coarse fine : ℕ) : Type 0 where
   pub first-in : n ≤ work

@@ -1,9 +1,8 @@
 -- The floors of a call's two passes as its checks leave them. The Rust tests rows 2 to 16 again in its second pass; `pass_of` tests none of them, and none
 -- of them holds there: `second-sound` in proofs/Sound. Definitions only.
-use Rattle.std.specs.Prelude.{ℕ, ◌≡◌, ◌≢◌, List, T, get_or, Float}
+use Rattle.std.specs.Prelude.{ℕ, ◌≡◌, ◌≢◌, List, T, get_or, Float, Ok}
 use Rattle.std.specs.Float.{nan, binary64}
 use Rattle.std.specs.Float.Ieee.{fits}
-use Rattle.floor.specs.declared.Check.TheVariants.{Sound}
 use Rattle.floor.specs.Floor.{point_count}
 use Rattle.pass_options.specs.Table.{first_of}
 use Rattle.pass_options.specs.Options.{option_rows, guidance_rows}
@@ -23,6 +22,6 @@ pub record SecondSound (c : Call) (alpha : List Float) : Type 0 where
   -- rows 3 to 8, of the refined floor
   pub floor : SoundFloor (second_floor c alpha)
   -- rows 9 to 13, of the options without their threshold
-  pub options : first_of (option_rows (without_threshold c.options)) ≡ Sound
+  pub options : first_of (option_rows (without_threshold c.options)) ≡ Ok tt
   -- rows 14 to 16, of the extended guidance
-  pub guidance : first_of (guidance_rows (point_count (second_floor c alpha)) (extended c.guidance (refined_by c alpha).cut)) ≡ Sound
+  pub guidance : first_of (guidance_rows (point_count (second_floor c alpha)) (extended c.guidance (refined_by c alpha).cut)) ≡ Ok tt

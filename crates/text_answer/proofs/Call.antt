@@ -8,11 +8,10 @@ use mathlib.Core.List.{List}
 use borrow.Author.Tests.{eq-eqb, le-ltb, le-leb}
 use lib.ListN.{length, drop}
 use lib.Ieee.{Float}
+use Rattle.std.specs.Prelude.{Ok, Err}
 use Rattle.mesh.specs.Mesh.{cuts, mid, refined, refine}
 use Rattle.mesh.proofs.Most.{cuts-most}
-use Rattle.floor.specs.declared.Check.{Check}
-use Rattle.floor.specs.declared.Check.TheVariants.{Sound, Refused}
-use Rattle.refusals.specs.Refusal.{row}
+use Rattle.refusals.specs.Refusal.{row, Verdict}
 use Rattle.floor.specs.Checks.{well_formed, not_finite_or_below_zero, and_then, check_floor}
 use Rattle.refinement.specs.Flag.{flagged_tri}
 use Rattle.refinement.specs.Floor.{Refined, refinement_of, tris_of, corners_of, ends_of}
@@ -44,18 +43,18 @@ few x α p z l =
 
 -- ---- the answer's lines
 
-holds_by : {a : Answer} (c : Check) (r : Refined) (l : List ℕ) (m n k : ℕ) → Few r l → length l / 3 ≤ 256 → m ≡ 3072 → n ≡ 2048 → longest ≤ k → a ≡ answer_of c r → Holds a m n k
-holds_by Sound r l m n k w t e₁ e₂ e₃ h = rw h (omega (arith, w.triangles), (omega (arith, w.cut), omega (arith, w.triangles, w.cut)))
-holds_by (Refused x) r l m n k w t e₁ e₂ e₃ h = rw h (omega arith)
+holds_by : {a : Answer} (c : Verdict) (r : Refined) (l : List ℕ) (m n k : ℕ) → Few r l → length l / 3 ≤ 256 → m ≡ 3072 → n ≡ 2048 → longest ≤ k → a ≡ answer_of c r → Holds a m n k
+holds_by (Ok tt) r l m n k w t e₁ e₂ e₃ h = rw h (omega (arith, w.triangles), (omega (arith, w.cut), omega (arith, w.triangles, w.cut)))
+holds_by (Err x) r l m n k w t e₁ e₂ e₃ h = rw h (omega arith)
 
-pub holds : {op os op' os' : List Float} {ot oe ot' oe' : List ℕ} {a : Answer} {c : Check} {r : Refined} (l : List ℕ) (m n k : ℕ) → Few r l → length l / 3 ≤ 256 → m ≡ 3072 → n ≡ 2048 → longest ≤ k
+pub holds : {op os op' os' : List Float} {ot oe ot' oe' : List ℕ} {a : Answer} {c : Verdict} {r : Refined} (l : List ℕ) (m n k : ℕ) → Few r l → length l / 3 ≤ 256 → m ≡ 3072 → n ≡ 2048 → longest ≤ k
     → Called c r op os ot oe a op' os' ot' oe' → Holds a m n k
 holds {c = c} {r} l m n k w t e₁ e₂ e₃ h = holds_by c r l m n k w t e₁ e₂ e₃ h.answer
 
-lines_of : {op os op' os' : List Float} {ot oe ot' oe' : List ℕ} {a : Answer} (c : Check) (r : Refined) → Called c r op os ot oe a op' os' ot' oe' → bytes_for a ot' oe' ≡ bytes_of c r
-lines_of {ot = ot} {oe} {ot'} {oe'} Sound r h =
+lines_of : {op os op' os' : List Float} {ot oe ot' oe' : List ℕ} {a : Answer} (c : Verdict) (r : Refined) → Called c r op os ot oe a op' os' ot' oe' → bytes_for a ot' oe' ≡ bytes_of c r
+lines_of {ot = ot} {oe} {ot'} {oe'} (Ok tt) r h =
     ap (λ (x : Answer). bytes_for x ot' oe') h.answer ∙ rw (h.triangles, h.ends, tris-of r.triangles (drop (length (corners_of r.triangles)) ot), sides-of r.cut (drop (length (ends_of r.cut)) oe)) refl
-lines_of {ot' = ot'} {oe'} (Refused x) r h = ap (λ (x : Answer). bytes_for x ot' oe') h.answer
+lines_of {ot' = ot'} {oe'} (Err x) r h = ap (λ (x : Answer). bytes_for x ot' oe') h.answer
 
 -- on slices of full size
 pub call-lines : {op os op' os' : List Float} {ot oe ot' oe' : List ℕ} {a : Answer} {k : ℕ} (p z : List Float) (l : List ℕ) (n : ℕ) (x : Float) (r : Refined) → Sized (length l) (length op) (length os) (length ot) (length oe) k
@@ -84,18 +83,18 @@ module _ (p z : List Float) (l : List ℕ) (n t : ℕ) (small : n ≤ 256) (litt
       let d : 8 * t ≤ 2048 = omega arith in
       rw (le-ltb 3072 (3 * (n + 3 * t)) a, le-ltb 1024 (n + 3 * t) b, le-ltb 3072 (12 * t) c, le-ltb 2048 (8 * t) d) refl
 
-  rest : check_rest n t n x 3072 1024 3072 2048 ≡ cond (not_finite_or_below_zero x) (Refused (row 12)) Sound
+  rest : check_rest n t n x 3072 1024 3072 2048 ≡ cond (not_finite_or_below_zero x) (Err (row 12)) (Ok tt)
   unfolding check_rest
   rest = rw (eq-eqb n n refl, roomy) refl
 
-  pub check-is : check_call p l z n x 3072 1024 3072 2048 ≡ and_then (check_floor p l z) (cond (not_finite_or_below_zero x) (Refused (row 12)) Sound)
+  pub check-is : check_call p l z n x 3072 1024 3072 2048 ≡ and_then (check_floor p l z) (cond (not_finite_or_below_zero x) (Err (row 12)) (Ok tt))
   unfolding check_call
   check-is =
       let a : length p / 3 ≡ n = omega arith in
       let b : length l / 3 ≡ t = omega arith in
       rw (formed, a, b, rest) refl
 
-pub bytes-by : (c : Check) (b : Bool) (r : Refined) → bytes_of (and_then c (cond b (Refused (row 12)) Sound)) r ≡ cond (is_sound c && not b) (written r) refused_line
-bytes-by Sound true r = refl
-bytes-by Sound false r = refl
-bytes-by (Refused x) b r = refl
+pub bytes-by : (c : Verdict) (b : Bool) (r : Refined) → bytes_of (and_then c (cond b (Err (row 12)) (Ok tt))) r ≡ cond (is_sound c && not b) (written r) refused_line
+bytes-by (Ok tt) true r = refl
+bytes-by (Ok tt) false r = refl
+bytes-by (Err x) b r = refl

@@ -1,13 +1,12 @@
 -- What the refinement program prints, as a function of the bytes that it reads (document 01, "A program reads refine.in"). Definitions only.
 -- `is_text` and the floor of a text are those of crate text_floor, the refusals and the refinement those of the refinement call.
-use Rattle.std.specs.Prelude.{ℕ, Bool, true, false, not, cond, ◌&&◌, List, leb, length}
-use Rattle.floor.specs.declared.Check.{Check}
-use Rattle.floor.specs.declared.Check.TheVariants.{Sound, Refused}
+use Rattle.std.specs.Prelude.{ℕ, Bool, true, false, not, cond, ◌&&◌, List, leb, length, Ok, Err}
 use Rattle.floor.specs.Checks.{not_finite_or_below_zero, check_floor}
 use Rattle.refinement.specs.Floor.{Refined, refinement_of, tris_of, over}
 use Rattle.refine_call.specs.Call.{counts_of}
 use Rattle.text_floor.specs.Text.{is_text, points_in, angles_in, corners_in, sizes_in, threshold_in}
 use Rattle.text_answer.specs.Lines.{lines_of, refused_line}
+use Rattle.refusals.specs.Refusal.{Verdict}
 
 -- ---- what is printed
 
@@ -15,9 +14,9 @@ use Rattle.text_answer.specs.Lines.{lines_of, refused_line}
 abbrev pub written : Refined → List ℕ
 written r = lines_of (counts_of r) r.triangles r.cut
 
-abbrev pub is_sound : Check → Bool
-is_sound Sound = true
-is_sound (Refused x) = false
+abbrev pub is_sound : Verdict → Bool
+is_sound (Ok tt) = true
+is_sound (Err x) = false
 
 -- a text whose floor and threshold refinement takes: rows 3 to 8, and 12
 unfoldable pub accepted : List ℕ → Bool

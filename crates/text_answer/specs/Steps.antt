@@ -1,15 +1,14 @@
 -- Definitions for the steps below `answer`: the bytes of a call of refinement by what its check found, and the slices that it is lent.
-use Rattle.std.specs.Prelude.{ℕ, ◌/◌, ◌≤◌, ◌≡◌, List, length, Float}
-use Rattle.floor.specs.declared.Check.{Check}
-use Rattle.floor.specs.declared.Check.TheVariants.{Sound, Refused}
+use Rattle.std.specs.Prelude.{ℕ, ◌/◌, ◌≤◌, ◌≡◌, List, length, Float, Ok, Err}
 use Rattle.refinement.specs.Floor.{Refined, refinement_of, tris_of}
 use Rattle.refine_call.specs.Call.{check_call}
 use Rattle.text_answer.specs.Lines.{refused_line}
 use Rattle.text_answer.specs.Printed.{written, longest}
+use Rattle.refusals.specs.Refusal.{Verdict}
 
-abbrev pub bytes_of : Check → Refined → List ℕ
-bytes_of Sound r = written r
-bytes_of (Refused x) r = refused_line
+abbrev pub bytes_of : Verdict → Refined → List ℕ
+bytes_of (Ok tt) r = written r
+bytes_of (Err x) r = refused_line
 
 -- of points p, corners k, sizes z, angles α and the threshold x, with result slices of full size
 abbrev pub bytes_from : List Float → List ℕ → List Float → List Float → Float → List ℕ

@@ -1,18 +1,14 @@
--- `floor::first_bad_corner` meets its contract: the loop keeps what `Inv-loop` says, and what is left to do falls at each iteration; the laws are in proofs/Lowest.
-use mathlib.Core.Path.{◌≡◌, sym, ap, ◌∙◌}
-use native.Mathlib.Omega.{arith}
-use Rattle.floor.specs.Checks.{lowest, bad_corner}
-use Rattle.floor.proofs.Lowest.{lowest-none, lowest-again, lowest-found}
+-- `floor::first_bad_corner` meets its contract: `find` over a range finds the first index that passes.
+use mathlib.Core.Path.{◌≡◌}
+use mathlib.Core.Bool.{true, false}
+use borrow.Author.Rules.{rules}
+use Rattle.std.proofs.lemmas.Iterator.{first_from_Range}
+use Rattle.floor.specs.Checks.{bad_corner}
+use Rattle.floor.proofs.Lowest.{found-by}
 use Rattle.floor.proofs.first_bad_corner.Goals as goal
 
-pub loop-i-init : goal.loop-i-init
-loop-i-init c = (omega arith, lowest-none _)
-
-pub returns-then-bad_corner : goal.returns-then-bad_corner
-returns-then-bad_corner c = lowest-found _ _ _ c.loop-i.invariant.1 (sym c.bad_corner.ensures ∙ c.if-bad_corner.true) c.loop-i-test.true
-
-pub loop-i-preserved : goal.loop-i-preserved
-loop-i-preserved c = (omega arith, lowest-again _ _ c.loop-i.invariant.1 (sym c.bad_corner.ensures ∙ c.if-bad_corner.false))
-
 pub returns : goal.returns
-returns c = let e : c.loop-i.i ≡ c.args.t = omega arith in c.loop-i.invariant.1 ∙ ap (lowest (bad_corner c.args.triangles.now c.args.n)) e
+returns c =
+    found-by _ _ _ (first_from_Range _ _ _ _ (λ i. bad_corner c.args.triangles.now c.args.n i ≡ true) (λ i. bad_corner c.args.triangles.now c.args.n i ≡ false) c.find.ensures.ran
+    (λ x q k. search rules)
+    (λ x q k. search rules))

@@ -1,14 +1,14 @@
 -- `pass_solution::gave_up` meets its contract: each return is the refusal of the variant that was met.
 use mathlib.Core.Path.{◌∙◌, sym, ap}
+use Rattle.std.specs.Prelude.{Err}
 use Rattle.linear_conjugate_gradient.specs.Answer.{reason, place}
 use Rattle.linear_conjugate_gradient.specs.declared.Reason.{Reason}
-use Rattle.refusals.specs.declared.Stage.{Stage}
-use Rattle.refusals.specs.declared.Stage.TheVariants.{Refused}
 use Rattle.pass_solution.specs.Work.{refusal_of}
 use Rattle.pass_solution.proofs.gave_up.Goals as goal
+use Rattle.refusals.specs.Refusal.{Verdict}
 
-abbrev told : Reason → Stage
-told r = Refused (refusal_of r)
+abbrev told : Reason → Verdict
+told r = Err (refusal_of r)
 
 pub returns-in-RightHandNorm : goal.returns-in-RightHandNorm
 unfolding reason place

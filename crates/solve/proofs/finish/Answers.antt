@@ -1,7 +1,7 @@
 -- `solve::finish` meets its contract: by what was found.
 use native.Mathlib.Omega.{arith}
 use mathlib.Core.Path.{refl}
-use Rattle.solve.specs.declared.Found.TheVariants.{Once, Twice, Refused}
+use Rattle.std.specs.Prelude.{Some, Ok, None, Err}
 use Rattle.solve.proofs.Answers.{finished_as}
 use Rattle.solve.proofs.finish.Goals as goal
 
@@ -14,11 +14,11 @@ hand_over-requires-in-Twice-2 c =
     rw c.in-Twice.is at c.requires.second_fits
 
 pub returns-in-Once : goal.returns-in-Once
-returns-in-Once c = finished_as Once c.in-Once.is refl c.hand_over.ensures refl
+returns-in-Once c = finished_as (Ok None) c.in-Once.is refl c.hand_over.ensures refl
 
 pub returns-in-Twice : goal.returns-in-Twice
 returns-in-Twice c =
-    finished_as (Twice _) c.in-Twice.is refl c.hand_over-in-Twice.ensures c.hand_over-in-Twice-2.ensures
+    finished_as (Ok (Some _)) c.in-Twice.is refl c.hand_over-in-Twice.ensures c.hand_over-in-Twice-2.ensures
 
 pub returns-in-Refused : goal.returns-in-Refused
-returns-in-Refused c = finished_as (Refused _) c.in-Refused.is refl refl refl
+returns-in-Refused c = finished_as (Err _) c.in-Refused.is refl refl refl
