@@ -10,7 +10,7 @@ use Rattle.refusals.specs.declared.Refusal.{Refusal}
 use Rattle.refusals.specs.Refusal.{row_at, Verdict}
 use Rattle.pass_options.specs.Table.{Row, no_row, first_of, FirstHolds, ByTable}
 
-differ : {A : Type 0} (x : Refusal) → Err x ≡ Ok tt → A
+differ : {A : Type 0} (x : Refusal) → ◌≡◌ {A = Verdict} (Err x) (Ok tt) → A
 differ x e = let z : ◌≡◌ {A = ℕ} 0 1 = cc in absurd (omega arith)
 
 passed : (b : Bool) (x : Refusal) (rest : Verdict) → cond b (Err x) rest ≡ Ok tt → (b ≡ false) × (rest ≡ Ok tt)

@@ -3,9 +3,11 @@
 #![tactic(auto)]
 
 ghost use Rattle.std.specs.Prelude.{◌≡◌, ◌∷◌, [], length};
-ghost use Rattle.floor.specs.Checks.{lowest};
+ghost use Rattle.floor.specs.Checks.{found_below};
 ghost use Rattle.pass_options.specs.Table.{first_of};
 ghost use Rattle.pass_options.specs.Options.{guidance_of, bad_holomorphic, bad_boundary, not_finite_at, too_large, too_large_at, option_rows, guidance_rows, large_row};
+
+use refusals::{Refusal, refused};
 
 // How the field is held on the boundary.
 #[derive(Clone, Copy)]
@@ -69,75 +71,60 @@ fn too_large_at(angles: &[f64], i: usize) -> bool
     too_large(floor::read(angles, i))
 }
 
-// Row 16: the lowest angle that is not finite, or how many there are.
-fn first_not_finite(angles: &[f64]) -> usize
-    ensures { result ≡ lowest (not_finite_at angles.now) (length angles.now) }
+// Row 16: the lowest angle that is not finite.
+fn first_not_finite(angles: &[f64]) -> Option<usize>
+    ensures { result ≡ found_below (not_finite_at angles.now) (length angles.now) }
 {
-    let mut i = 0;
-    while i < angles.len() {
-        if not_finite_at(angles, i) {
-            return i;
-        }
-        i += 1;
-    }
-    i
+    (0..angles.len()).find(|&i| not_finite_at(angles, i))
 }
 
-// Row 17: the lowest angle that is too large, or how many there are.
-fn first_too_large(angles: &[f64]) -> usize
-    ensures { result ≡ lowest (too_large_at angles.now) (length angles.now) }
+// Row 17: the lowest angle that is too large.
+fn first_too_large(angles: &[f64]) -> Option<usize>
+    ensures { result ≡ found_below (too_large_at angles.now) (length angles.now) }
 {
-    let mut i = 0;
-    while i < angles.len() {
-        if too_large_at(angles, i) {
-            return i;
-        }
-        i += 1;
-    }
-    i
+    (0..angles.len()).find(|&i| too_large_at(angles, i))
 }
 
 // Rows 9 to 13.
-pub fn check_options(options: Options) -> floor::Check
+pub fn check_options(options: Options) -> Result<(), Refusal>
     ensures { result ≡ first_of (option_rows options) }
 {
     if bad_holomorphic(options.holomorphic) {
-        return floor::refused(9, 0);
+        return Err(refused(9, 0));
     }
     if float::not_positive(options.anisotropy) {
-        return floor::refused(10, 0);
+        return Err(refused(10, 0));
     }
     if !float::is_finite(options.anisotropy_angle) {
-        return floor::refused(11, 0);
+        return Err(refused(11, 0));
     }
     if floor::not_finite_or_below_zero(options.adaptive) {
-        return floor::refused(12, 0);
+        return Err(refused(12, 0));
     }
     let boundary = options.boundary;
     if bad_boundary(boundary) {
-        return floor::refused(13, 0);
+        return Err(refused(13, 0));
     }
-    floor::Check::Sound
+    Ok(())
 }
 
 // Rows 14 to 16, of guidance over n points.
-pub fn check_guidance(n: usize, guided: bool, weight: f64, angles: &[f64]) -> floor::Check
+pub fn check_guidance(n: usize, guided: bool, weight: f64, angles: &[f64]) -> Result<(), Refusal>
     ensures { result ≡ first_of (guidance_rows n (guidance_of guided weight angles.now)) }
 {
     if !guided {
-        return floor::Check::Sound;
+        return Ok(());
     }
     if floor::not_finite_or_below_zero(weight) {
-        return floor::refused(14, 0);
+        return Err(refused(14, 0));
     }
     if angles.len() != n {
-        return floor::refused(15, 0);
+        return Err(refused(15, 0));
     }
-    let i = first_not_finite(angles);
-    if i < angles.len() {
-        return floor::refused(16, i);
+    if let Some(i) = first_not_finite(angles) {
+        return Err(refused(16, i));
     }
-    floor::Check::Sound
+    Ok(())
 }
 
 // Row 17, of the anisotropy angle and then the guidance, over n points.
@@ -147,18 +134,17 @@ pub fn check_large(
     guided: bool,
     weight: f64,
     angles: &[f64],
-) -> floor::Check
+) -> Result<(), Refusal>
     ensures { result ≡ first_of (large_row n options (guidance_of guided weight angles.now) ∷ []) }
 {
     if too_large(options.anisotropy_angle) {
-        return floor::refused(17, n);
+        return Err(refused(17, n));
     }
     if !guided {
-        return floor::Check::Sound;
+        return Ok(());
     }
-    let i = first_too_large(angles);
-    if i < angles.len() {
-        return floor::refused(17, i);
+    if let Some(i) = first_too_large(angles) {
+        return Err(refused(17, i));
     }
-    floor::Check::Sound
+    Ok(())
 }
