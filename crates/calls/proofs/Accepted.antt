@@ -1,11 +1,11 @@
 -- What an accepted solve gives, `Accepted`, over any pass that has the facts of `PassFacts`. Assumes nothing else.
-use Prim.Native.Nat.{ℕ, ◌≤◌, ◌<◌}
+use Prim.Native.Nat.{ℕ, ◌≤◌}
 use native.Mathlib.Omega.{arith}
 use mathlib.Core.Path.{◌≡◌, refl, sym, ap, ◌∙◌, subst}
-use mathlib.Core.Bool.{Bool, true, false, cond}
+use mathlib.Core.Bool.{Bool, true, false}
 use mathlib.Core.List.{List}
 use borrow.Author.Tests.{le-ltb}
-use lib.ListN.{length, take, drop, length-append}
+use lib.ListN.{length, drop, length-append}
 use lib.Seq.{take-append-le, take_all}
 use lib.Ieee.{Float}
 use Rattle.std.specs.Prelude.{Ok}
@@ -15,9 +15,9 @@ use Rattle.pass_options.specs.declared.Options.{Options}
 use Rattle.pass_options.specs.Options.{Guidance}
 use Rattle.pass_options.specs.Pass.{Pass, field, PassFacts}
 use Rattle.calls.specs.declared.Counts.{Counts}
-use Rattle.calls.specs.Checks.{Call, Lent, lengths_of, points_in, check_solve}
-use Rattle.calls.specs.Solve.{Ended, first_floor, first_pass, refined_by, second_floor, without_threshold, extended, refines, after_second, solved_once, solve_of, first_angles, answer_part}
-use Rattle.calls.specs.Accepted.{IsField, FillsCoarse, OnePass, FillsFine, Accepted}
+use Rattle.calls.specs.Checks.{Call, Lent, lengths_of, points_in, check_solve, Outcome}
+use Rattle.calls.specs.Solve.{Ended, first_floor, first_pass, refined_by, second_floor, without_threshold, extended, refines, solved_once, solve_of, first_angles, answer_part}
+use Rattle.calls.specs.Accepted.{IsField, OnePass, FillsFine, Accepted}
 use Rattle.calls.proofs.Refusals.{after-field}
 use Rattle.calls.proofs.Room.{points-in}
 use Rattle.calls.proofs.Claim.{solved-sound, first-accepted, Twice, solved-twice}
@@ -53,7 +53,7 @@ module _ (pass : Pass) (facts : PassFacts pass) where
     unfolding answer_part
     one-pass r =
         let z = done-once r in
-        let o : Ok (record { flagged = 0; cut = 0 }) ≡ Ok counts = sym (ap (λ (z : Ended). z.outcome) z) ∙ accepted in
+        let o : ◌≡◌ {A = Outcome} (Ok (record { flagged = 0; cut = 0 })) (Ok counts) = sym (ap (λ (z : Ended). z.outcome) z) ∙ accepted in
         let none : counts.flagged ≡ 0 = cc in
         let uncut : counts.cut ≡ 0 = cc in
         record {
