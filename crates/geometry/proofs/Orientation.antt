@@ -17,7 +17,7 @@ use Rattle.float.specs.Double.{lit, mag, is_finite, max_of, ◌⊖◌, ◌⊗◌
 use Rattle.float.proofs.Less.{level-self}
 use Rattle.float.proofs.Sign.{Flat, Plain, Number, Opposite, flat-round, plain-round, mul-either, sub-opposite, mag-neg, lt-neg, flat-between, square-plain, add-plain, max-plain, mul-plain, flat-le}
 use Rattle.plane.specs.declared.Pair.{Pair}
-use Rattle.geometry.specs.declared.Geometry.TheVariants.{Degenerate}
+use Rattle.std.specs.Prelude.{Err}
 use Rattle.plane.specs.Pair.{orientation}
 use Rattle.geometry.specs.Triangle.{side2, longest, area_of, degenerate, placed, geometry, number, at}
 
@@ -177,15 +177,15 @@ flat-area (inf s) y h k = absurd h
 flat-area (fin s m e) y h k =
     small-area (round binary64 false (1 * 1 * (m * up e)) (2 * down e)) y (flat-round binary64 false (1 * 1 * (m * up e)) (2 * down e) (mul-pos (zero-lt-suc 1) (down_pos e)) (rw h (simp zero-mul))) (plain-round binary64 (1 * 1 * (m * up e)) (2 * down e)) (k tt)
 
-flat-placed : (i j k t : ℕ) (p q r : Pair) (w : Float) → Flat w → (Number w → Way p q) → placed i j k p q r (area_of w) t ≡ Degenerate t
+flat-placed : (i j k t : ℕ) (p q r : Pair) (w : Float) → Flat w → (Number w → Way p q) → placed i j k p q r (area_of w) t ≡ Err (record { triangle = t })
 unfolding placed degenerate
 flat-placed i j k t p q r w h way = rw (flat-area w (lit 0x3d06_849b_86a1_2b9b ⊗ longest p q r) h (λ n. scaled-plain (longest p q r) (longest-plain p q r (way n))))
 
-pub flat-degenerate : (i j k t : ℕ) (p q r : Pair) → Flat (orientation p q r) → geometry i j k p q r t ≡ Degenerate t
+pub flat-degenerate : (i j k t : ℕ) (p q r : Pair) → Flat (orientation p q r) → geometry i j k p q r t ≡ Err (record { triangle = t })
 unfolding geometry
 flat-degenerate i j k t p q r h = go (lt (orientation p q r) (lit 0))
   where
-    go : (l : Bool) → cond l (placed i k j p r q (area_of (orientation p q r)) t) (placed i j k p q r (area_of (orientation p q r)) t) ≡ Degenerate t
+    go : (l : Bool) → cond l (placed i k j p r q (area_of (orientation p q r)) t) (placed i j k p q r (area_of (orientation p q r)) t) ≡ Err (record { triangle = t })
     go true = flat-placed i k j t p r q (orientation p q r) h (λ n. (orientation-ways p q r n).1)
     go false = flat-placed i j k t p q r (orientation p q r) h (λ n. (orientation-ways p q r n).0)
 
@@ -223,13 +223,13 @@ flat-13 : (a b : Pair) → Flat (orientation a b a)
 flat-13 a b = flat-opposite (orientation a a b) (orientation a b a) (orientation-opposite a a b) (flat-12 a b)
 
 -- two corners that are one point: refusal 19
-pub same-12 : (i j k t : ℕ) (p r : Pair) → geometry i j k p p r t ≡ Degenerate t
+pub same-12 : (i j k t : ℕ) (p r : Pair) → geometry i j k p p r t ≡ Err (record { triangle = t })
 same-12 i j k t p r = flat-degenerate i j k t p p r (flat-12 p r)
 
-pub same-23 : (i j k t : ℕ) (p q : Pair) → geometry i j k p q q t ≡ Degenerate t
+pub same-23 : (i j k t : ℕ) (p q : Pair) → geometry i j k p q q t ≡ Err (record { triangle = t })
 same-23 i j k t p q = flat-degenerate i j k t p q q (flat-23 p q)
 
-pub same-31 : (i j k t : ℕ) (p q : Pair) → geometry i j k p q p t ≡ Degenerate t
+pub same-31 : (i j k t : ℕ) (p q : Pair) → geometry i j k p q p t ≡ Err (record { triangle = t })
 same-31 i j k t p q = flat-degenerate i j k t p q p (flat-13 p q)
 
 never : {A : Type 0} {t : Bool} → t ≡ true → t ≡ false → A
@@ -238,7 +238,7 @@ never h g = absurd (subst T (sym h ∙ g) tt)
 -- an accepted triangle has three different corners, wherever its points lie
 pub three-corners : (x y : ℕ → Float) (u v w t : ℕ) → number (geometry u v w (at x y u) (at x y v) (at x y w) t) ≡ 0 → (u ≢ v) × (v ≢ w) × (w ≢ u)
 three-corners x y u v w t h =
-    let refuse : geometry u v w (at x y u) (at x y v) (at x y w) t ≡ Degenerate t → ⊥ = λ e. nineteen (sym (ap number e) ∙ h) in
+    let refuse : geometry u v w (at x y u) (at x y v) (at x y w) t ≡ Err (record { triangle = t }) → ⊥ = λ e. nineteen (sym (ap number e) ∙ h) in
     (λ e. refuse (rw e (same-12 v v w t (at x y v) (at x y w))), λ e. refuse (rw e (same-23 u w w t (at x y u) (at x y w))), λ e. refuse (rw e (same-31 u v u t (at x y u) (at x y v))))
   where
     nineteen : ◌≡◌ {A = ℕ} 19 0 → ⊥

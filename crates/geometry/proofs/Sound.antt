@@ -15,8 +15,9 @@ use Rattle.float.proofs.Sign.{Flat, Plain, Number, plain-round, flat-le, mul-eit
 use Rattle.float.proofs.Within.{Within}
 use Rattle.float.proofs.Far.{Far, Large, far_apart, far-square, large-or}
 use Rattle.plane.specs.declared.Pair.{Pair}
-use Rattle.geometry.specs.declared.Geometry.{Geometry}
-use Rattle.geometry.specs.declared.Geometry.TheVariants.{Degenerate}
+use Rattle.std.specs.Prelude.{Result, Err}
+use Rattle.geometry.specs.declared.Degenerate.{Degenerate}
+use Rattle.geometry.specs.declared.TriangleGeometry.{TriangleGeometry}
 use Rattle.plane.specs.Pair.{orientation}
 use Rattle.geometry.specs.Triangle.{side2, longest, area_of, SMALLEST-AREA, degenerate, placed, geometry, number}
 use Rattle.geometry.proofs.Orientation.{Bare, side-bare, Way, longest-plain, orientation-ways, scaled-plain, sub_self, sub-flat, mul-flat, flat-degenerate}
@@ -179,7 +180,7 @@ module _ (i j k t : ℕ) (p q r : Pair) (sound : number (geometry i j k p q r t)
   unfolding placed
   kept a b c u v w h = go _ (degenerate u v w (area_of (orientation p q r))) h
     where
-      go : (g : Geometry) (d : Bool) → number (cond d (Degenerate t) g) ≡ 0 → d ≡ false
+      go : (g : Result TriangleGeometry Degenerate) (d : Bool) → number (cond d (Err (record { triangle = t })) g) ≡ 0 → d ≡ false
       go g true h = absurd (omega arith)
       go g false h = refl
 
@@ -204,7 +205,7 @@ module _ (i j k t : ℕ) (p q r : Pair) (sound : number (geometry i j k p q r t)
   positive-area = area-and-sides.0
 
   not-flat : Flat (orientation p q r) → ⊥
-  not-flat f = let z : number (Degenerate t) ≡ 0 = sym (ap number (flat-degenerate i j k t p q r f)) ∙ sound in absurd (omega (arith, z))
+  not-flat f = let z : number (Err (record { triangle = t })) ≡ 0 = sym (ap number (flat-degenerate i j k t p q r f)) ∙ sound in absurd (omega (arith, z))
 
   module _ (P : Spot p) (Q : Spot q) (R : Spot r) where
     either : (u v : Pair) → Spot u → Spot v → (side2 u v ≢ inf false) ⊎ (side2 v u ≢ inf false) → Near u v

@@ -1,12 +1,12 @@
 -- triangle_geometry and triangle_gradient of the Rust, step by step, on three positions; and row 19 of the refusals. Definitions only.
-use Rattle.std.specs.Prelude.{ℕ, Bool, not, cond, ◌||◌, List, [], ◌∷◌, get_or, Float}
+use Rattle.std.specs.Prelude.{ℕ, Bool, not, cond, ◌||◌, List, [], ◌∷◌, get_or, Float, Result, Ok, Err}
 use Rattle.std.specs.Float.{nan}
 use Rattle.std.specs.Float.Ieee.{lt, le}
 use Rattle.float.specs.Double.{lit, HALF, mag, is_finite, max_of, recip_of, ◌⊕◌, ◌⊗◌}
 use Rattle.plane.specs.declared.Pair.{Pair}
 use Rattle.plane.specs.Pair.{sub2, dot2, rotate90, scale2, no-pair, orientation}
-use Rattle.geometry.specs.declared.Geometry.{Geometry}
-use Rattle.geometry.specs.declared.Geometry.TheVariants.{Triangle, Degenerate}
+use Rattle.geometry.specs.declared.Degenerate.{Degenerate}
+use Rattle.geometry.specs.declared.TriangleGeometry.{TriangleGeometry}
 
 -- the squared length of the side from p to q
 unfoldable pub side2 : Pair → Pair → Float
@@ -27,21 +27,21 @@ unfoldable pub degenerate : Pair → Pair → Pair → Float → Bool
 degenerate p q r w = not (is_finite w) || le w (SMALLEST-AREA ⊗ longest p q r)
 
 -- corners i, j, k at p, q, r, in this order, of the area w, as triangle t
-unfoldable pub placed : ℕ → ℕ → ℕ → Pair → Pair → Pair → Float → ℕ → Geometry
-placed i j k p q r w t = cond (degenerate p q r w) (Degenerate t) (Triangle (record { i = i; j = j; k = k; p = p; q = q; r = r; area = w }))
+unfoldable pub placed : ℕ → ℕ → ℕ → Pair → Pair → Pair → Float → ℕ → Result TriangleGeometry Degenerate
+placed i j k p q r w t = cond (degenerate p q r w) (Err (record { triangle = t })) (Ok (record { i = i; j = j; k = k; p = p; q = q; r = r; area = w }))
 
 -- where the area is negative, corners 1 and 2 are exchanged together with their positions
-unfoldable pub geometry : ℕ → ℕ → ℕ → Pair → Pair → Pair → ℕ → Geometry
+unfoldable pub geometry : ℕ → ℕ → ℕ → Pair → Pair → Pair → ℕ → Result TriangleGeometry Degenerate
 geometry i j k p q r t = cond (lt (orientation p q r) (lit 0)) (placed i k j p r q (area_of (orientation p q r)) t) (placed i j k p q r (area_of (orientation p q r)) t)
 
 -- the refusal's number and place that an answer stands for: 0 and none where it is no refusal
-abbrev pub number : Geometry → ℕ
-number (Triangle g) = 0
-number (Degenerate t) = 19
+abbrev pub number : Result TriangleGeometry Degenerate → ℕ
+number (Ok g) = 0
+number (Err e) = 19
 
-abbrev pub place : Geometry → List ℕ
-place (Triangle g) = []
-place (Degenerate t) = t ∷ []
+abbrev pub place : Result TriangleGeometry Degenerate → List ℕ
+place (Ok g) = []
+place (Err e) = e.triangle ∷ []
 
 -- ---- triangle_gradient
 unfoldable pub hat_gradient : Pair → Pair → Float → Pair
@@ -59,10 +59,10 @@ gradient p q r sp sq sr area =
 abbrev pub longest_of : List Pair → Float
 longest_of ps = longest (get_or ps 0 no-pair) (get_or ps 1 no-pair) (get_or ps 2 no-pair)
 
-abbrev pub placed_of : List ℕ → List Pair → Float → ℕ → Geometry
+abbrev pub placed_of : List ℕ → List Pair → Float → ℕ → Result TriangleGeometry Degenerate
 placed_of vs ps w t = placed (get_or vs 0 0) (get_or vs 1 0) (get_or vs 2 0) (get_or ps 0 no-pair) (get_or ps 1 no-pair) (get_or ps 2 no-pair) w t
 
-abbrev pub geometry_of : List ℕ → List Pair → ℕ → Geometry
+abbrev pub geometry_of : List ℕ → List Pair → ℕ → Result TriangleGeometry Degenerate
 geometry_of vs ps t = geometry (get_or vs 0 0) (get_or vs 1 0) (get_or vs 2 0) (get_or ps 0 no-pair) (get_or ps 1 no-pair) (get_or ps 2 no-pair) t
 
 abbrev pub gradient_of : List Pair → List Float → Float → Pair

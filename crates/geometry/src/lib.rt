@@ -21,11 +21,10 @@ pub struct TriangleGeometry {
     pub area: f64,
 }
 
-// The geometry, or refusal 19 with the triangle's number.
-#[derive(Clone, Copy)]
-pub enum Geometry {
-    Triangle(TriangleGeometry),
-    Degenerate(usize),
+// Refusal 19, with the triangle's number.
+#[derive(Clone, Copy, Debug, PartialEq, Eq)]
+pub struct Degenerate {
+    pub triangle: usize,
 }
 
 fn squared_side(from: Pair, to: Pair) -> f64
@@ -49,17 +48,19 @@ fn longest_squared_side(positions: [Pair; 3]) -> f64
 }
 
 // Refusal 19, or the triangle in the order given.
-fn judge(vertices: [usize; 3], positions: [Pair; 3], area: f64, index: usize) -> Geometry
+fn judge(
+    vertices: [usize; 3],
+    positions: [Pair; 3],
+    area: f64,
+    index: usize,
+) -> Result<TriangleGeometry, Degenerate>
     ensures { result ≡ placed_of vertices positions area index }
 {
     let longest = longest_squared_side(positions);
-    if !float::is_finite(area) {
-        return Geometry::Degenerate(index);
+    if !float::is_finite(area) || area <= 1e-14 * longest {
+        return Err(Degenerate { triangle: index });
     }
-    if area <= 1e-14 * longest {
-        return Geometry::Degenerate(index);
-    }
-    Geometry::Triangle(TriangleGeometry {
+    Ok(TriangleGeometry {
         i: vertices[0],
         j: vertices[1],
         k: vertices[2],
@@ -71,7 +72,11 @@ fn judge(vertices: [usize; 3], positions: [Pair; 3], area: f64, index: usize) ->
 }
 
 // Triangle `index`: where its area is negative, corners 1 and 2 are exchanged together with their positions.
-pub fn triangle_geometry(vertices: [usize; 3], positions: [Pair; 3], index: usize) -> Geometry
+pub fn triangle_geometry(
+    vertices: [usize; 3],
+    positions: [Pair; 3],
+    index: usize,
+) -> Result<TriangleGeometry, Degenerate>
     ensures { result ≡ geometry_of vertices positions index }
 {
     let twice = plane::twice_signed_area(positions);
@@ -117,11 +122,11 @@ pub struct End {
     pub gradient: Pair,
 }
 
-// The transport coefficient, or refusal 22 with the edge's ends.
-#[derive(Clone, Copy)]
-pub enum Transport {
-    Coefficient(Complex),
-    MeanSize(usize, usize),
+// Refusal 22, with the edge's lower and upper end.
+#[derive(Clone, Copy, Debug, PartialEq, Eq)]
+pub struct MeanSize {
+    pub from: usize,
+    pub to: usize,
 }
 
 // The angle by which the frame turns from a to b where the edge's mean size is sigma.
@@ -139,18 +144,18 @@ fn transport_angle(a: End, b: End, sigma: f64) -> f64
 }
 
 // The transport coefficient of the edge from its lower end a to its upper end b.
-pub fn transport_coefficient(a: End, b: End) -> Transport
+pub fn transport_coefficient(a: End, b: End) -> Result<Complex, MeanSize>
     ensures { result ≡ transport_of a b }
 {
     let sigma = 0.5 * (a.size + b.size);
-    if !float::is_finite(sigma) {
-        return Transport::MeanSize(a.vertex, b.vertex);
-    }
-    if sigma <= 0.0 {
-        return Transport::MeanSize(a.vertex, b.vertex);
+    if !float::is_finite(sigma) || sigma <= 0.0 {
+        return Err(MeanSize {
+            from: a.vertex,
+            to: b.vertex,
+        });
     }
     let rho = -complex::FIELD_SYMMETRY * transport_angle(a, b, sigma);
-    Transport::Coefficient(Complex::from_angle(rho))
+    Ok(Complex::from_angle(rho))
 }
 
 // The soft weight of an anisotropic metric of the ratio `anisotropy`: exactly 0 at ratio 1.

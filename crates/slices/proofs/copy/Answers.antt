@@ -1,31 +1,9 @@
--- `slices::copy` meets its contract: the loop keeps what `Inv-loop` says, and what is left to do falls at each iteration; the laws are in proofs/Runs.
-use lib.Ieee.{nan}
-use mathlib.Core.Path.{◌≡◌, refl, ◌∙◌}
-use native.Mathlib.Omega.{arith}
-use lib.ListN.{length, length-set}
-use lib.Seq.{take-length}
-use Rattle.slices.proofs.Runs.{copy_more}
+use Rattle.std.proofs.Common.{◌∙◌, ap, arith}
+use Rattle.std.proofs.lemmas.List.Edits.{sets}
+use Rattle.slices.proofs.Parts.{put_mid-sets}
 use Rattle.slices.proofs.copy.Goals as goal
 
-pub loop-i-init : goal.loop-i-init
-loop-i-init c = (omega arith, (refl, refl))
-
-pub bounds-to-at : goal.bounds-to-at
-bounds-to-at c = omega (arith, c.loop-i.invariant.1.0)
-
-pub loop-i-preserved : goal.loop-i-preserved
-loop-i-preserved c = (
-  omega arith,
-  (
-    simp length-set c.loop-i.invariant.1.0,
-    rw c.loop-i.invariant.1.1
-        (copy_more c.args.to.now c.args.at c.args.from.now
-        c.loop-i.i nan (omega arith)),
-  ),
-)
-
-pub shape_of-to : goal.shape_of-to
-shape_of-to c = c.loop-i.invariant.1.0
-
 pub returns : goal.returns
-returns c = let e : c.loop-i.i ≡ length c.args.from.now = omega arith in c.loop-i.invariant.1.1 ∙ rw (e, take-length)
+returns g c =
+    put_mid-sets _ _ _ _ (omega (arith, c.copy_from_slice.ensures.len)) c.requires
+    ∙ ap (sets c.args.to.now c.args.at) c.copy_from_slice.ensures.after
