@@ -13,7 +13,7 @@ use Rattle.linear_cells.specs.Cell.{region_c, put_c}
 use Rattle.linear_cells.proofs.Regions.{length-region}
 use Rattle.linear_cells.proofs.Changes.{zeros as vector-zeros}
 use Rattle.linear_hermitian.specs.declared.Hermitian.{Hermitian}
-use Rattle.linear_hermitian.specs.Hermitian.{Matrix, dot_of, vector_norm, scaled, applied}
+use Rattle.linear_hermitian.specs.Hermitian.{Matrix, dot_of, vector_norm, scaled}
 use Rattle.linear_hermitian.specs.Work.{matrix}
 use Rattle.linear_hermitian.proofs.Product.{length-applied, length-scaled}
 use Rattle.linear_conjugate_gradient.specs.declared.Vectors.{Vectors}
@@ -23,8 +23,8 @@ use Rattle.linear_packing.specs.Packed.{Packed}
 use Rattle.linear_pairs.specs.Product.{Multiplies}
 use Rattle.linear_cells.proofs.Cells.{region_c-same}
 use Rattle.linear_vectors.specs.Vectors.{recips_of}
-use Rattle.linear_conjugate_gradient.specs.declared.Progress.{Progress}
-use Rattle.linear_conjugate_gradient.specs.declared.Progress.TheVariants.{Going, Converged, Broken}
+use Rattle.std.specs.Prelude.{Option, Some, None, Result, Ok, Err}
+use Rattle.linear_conjugate_gradient.specs.declared.Reason.{Reason}
 use Rattle.linear_conjugate_gradient.specs.declared.Reason.TheVariants.{Denominator, LostDefiniteness}
 use Rattle.linear_conjugate_gradient.specs.Solve.{State, Iteration, begun, residual_dot, preconditioned, multiplied, denominator, reduced, advanced, directed, judged, stepped, iteration_of}
 use Rattle.linear_conjugate_gradient.specs.Work.{read, lay, VectorRoom, SolverRoom, Engine, Begun, Multiplied, Updated, Ended}
@@ -97,14 +97,14 @@ module _ (w : List Float) (n : ℕ) (l : Vectors) (alpha dot limit : Float) (ok 
   next-now u = u.next
 
   pub step-converged : {w₁ w₂ : List Float} {sums : Sums} {r : Float} → Updated w w₁ n l alpha sums → r ≡ root_of (max_of sums.square (lit 0)) → le r limit ≡ true
-      → w₂ ≡ lay w₁ n l (advanced alpha (read w₁ n l)) → Ended w w₂ n l (judged limit dot now) Converged
+      → w₂ ≡ lay w₁ n l (advanced alpha (read w₁ n l)) → Ended w w₂ n l (judged limit dot now) (Ok None)
   unfolding judged
   step-converged u er t e₂ =
       let q : le (vector_norm now.r) limit ≡ true = rw (norm-now u er) at t in
       rw q (record { work = advanced-now u.work e₂; result = refl })
 
   pub step-lost : {w₁ w₂ : List Float} {sums : Sums} {r : Float} {b : Bool} → Updated w w₁ n l alpha sums → r ≡ root_of (max_of sums.square (lit 0)) → le r limit ≡ false
-      → b ≡ not_positive sums.next → b ≡ true → w₂ ≡ lay w₁ n l (advanced alpha (read w₁ n l)) → Ended w w₂ n l (judged limit dot now) (Broken LostDefiniteness)
+      → b ≡ not_positive sums.next → b ≡ true → w₂ ≡ lay w₁ n l (advanced alpha (read w₁ n l)) → Ended w w₂ n l (judged limit dot now) (Err LostDefiniteness)
   unfolding judged
   step-lost u er t eb tb e₂ =
       let q : le (vector_norm now.r) limit ≡ false = rw (norm-now u er) at t in
@@ -112,7 +112,7 @@ module _ (w : List Float) (n : ℕ) (l : Vectors) (alpha dot limit : Float) (ok 
       rw (q, v) (record { work = advanced-now u.work e₂; result = refl })
 
   pub step-going : {w₁ w₂ : List Float} {sums : Sums} {r : Float} {b : Bool} → Updated w w₁ n l alpha sums → r ≡ root_of (max_of sums.square (lit 0)) → le r limit ≡ false
-      → b ≡ not_positive sums.next → b ≡ false → w₂ ≡ lay w₁ n l (directed (sums.next ⊘ dot) (advanced alpha (read w₁ n l))) → Ended w w₂ n l (judged limit dot now) (Going sums.next)
+      → b ≡ not_positive sums.next → b ≡ false → w₂ ≡ lay w₁ n l (directed (sums.next ⊘ dot) (advanced alpha (read w₁ n l))) → Ended w w₂ n l (judged limit dot now) (Ok (Some sums.next))
   unfolding judged
   step-going {w₁} {w₂} {sums} u er t eb tb e₂ =
       let q : le (vector_norm now.r) limit ≡ false = rw (norm-now u er) at t in
@@ -123,7 +123,7 @@ module _ (w : List Float) (n : ℕ) (l : Vectors) (alpha dot limit : Float) (ok 
       let f : w₂ ≡ lay w n l (directed beta now) =
       lay-then w n l ok s z (directed beta now) (directed-sized n beta now (advanced-sized n alpha s z)) u.work
       (e₂ ∙ rw (next-now u, u.work, get-all w n l ok s z)) in
-      rw (q, v) (record { work = f; result = ap Going (next-now u) })
+      rw (q, v) (record { work = f; result = ap (λ (x : Float). Ok (Some x)) (next-now u) })
 
 -- ---- an iteration
 
@@ -146,13 +146,13 @@ iteration-sized n m limit dot s z =
 
 module _ (w : List Float) (h : Hermitian) (l : Vectors) (from to : List ℕ) (limit dot : Float) where
   pub iteration-broken : {w₁ : List Float} {d : Float} {b : Bool} → Multiplied w w₁ h l from to d → b ≡ not_positive d → b ≡ true
-      → Ended w w₁ h.size l (iteration_of (matrix w h from to) limit dot (read w h.size l)) (Broken Denominator)
+      → Ended w w₁ h.size l (iteration_of (matrix w h from to) limit dot (read w h.size l)) (Err Denominator)
   unfolding iteration_of stepped
   iteration-broken p eb tb =
       let v : not_positive (denominator (multiplied (matrix w h from to) (read w h.size l))) ≡ true = ap (λ x. not_positive x) (sym p.result) ∙ sym eb ∙ tb in
       rw v (record { work = p.work; result = refl })
 
-  pub iteration-stepped : SolverRoom (length w) h l → {w₁ w₂ : List Float} {d : Float} {b : Bool} {t : Progress} → Multiplied w w₁ h l from to d → b ≡ not_positive d → b ≡ false
+  pub iteration-stepped : SolverRoom (length w) h l → {w₁ w₂ : List Float} {d : Float} {b : Bool} {t : Result (Option Float) Reason} → Multiplied w w₁ h l from to d → b ≡ not_positive d → b ≡ false
       → Ended w₁ w₂ h.size l (judged limit dot (advanced (dot ⊘ d) (reduced (dot ⊘ d) (read w₁ h.size l)))) t
       → Ended w w₂ h.size l (iteration_of (matrix w h from to) limit dot (read w h.size l)) t
   unfolding iteration_of stepped

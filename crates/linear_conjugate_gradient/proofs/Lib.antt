@@ -1,4 +1,3 @@
-pub mod Tests
 pub mod Lays
 pub mod Passes
 pub mod Iterations

@@ -15,7 +15,7 @@ use Rattle.linear_hermitian.specs.Hermitian.{Matrix, dot_of, applied}
 use Rattle.linear_hermitian.specs.Work.{ApplyRoom}
 use Rattle.linear_hermitian.proofs.Product.{length-applied}
 use Rattle.linear_vectors.specs.Vectors.{scaled_by}
-use Rattle.linear_conjugate_gradient.specs.declared.Normalized.TheVariants as normalized
+use Rattle.std.specs.Prelude.{Ok, Err}
 use Rattle.linear_conjugate_gradient.specs.declared.Reason.TheVariants.{MassOfIterate}
 use Rattle.linear_conjugate_gradient.specs.Method.{mass_squared}
 use Rattle.linear_conjugate_gradient.specs.Solve.{normalized_answer, normalized_vector}
@@ -42,7 +42,7 @@ module _ (w : List Float) (x y : ℕ) (h : Hermitian) (m : Matrix) (ok : ApplyRo
   mass-not-positive : not_positive (mass_squared m (region_c w x n)) ≡ b
   mass-not-positive = ap (λ t. not_positive t) (sym squared-is) ∙ sym eb
 
-  pub normalize-not : b ≡ true → InMass w w₁ x y h.size m (normalized.GaveUp MassOfIterate)
+  pub normalize-not : b ≡ true → InMass w w₁ x y h.size m (Err MassOfIterate)
   unfolding normalized_answer normalized_vector
   normalize-not t =
       let q : not_positive (mass_squared m (region_c w x n)) ≡ true = mass-not-positive ∙ t in
@@ -52,7 +52,7 @@ module _ (w : List Float) (x y : ℕ) (h : Hermitian) (m : Matrix) (ok : ApplyRo
       }
 
   pub normalize-done : b ≡ false → {r k : Float} {w₂ : List Float} → r ≡ root_of d → k ≡ recip_of r → w₂ ≡ put_c w₁ x (scaled_by k (region_c w₁ x n))
-      → InMass w w₂ x y h.size m normalized.Done
+      → InMass w w₂ x y h.size m (Ok tt)
   unfolding normalized_answer normalized_vector
   normalize-done t {r} {k} er ek e₂ =
       let q : not_positive (mass_squared m (region_c w x n)) ≡ false = mass-not-positive ∙ t in

@@ -5,38 +5,37 @@ use mathlib.Core.Bool.{Bool, true, false, cond}
 use mathlib.Core.List.{List}
 use Prim.Native.Nat.{ℕ, zero, suc}
 use native.Mathlib.Omega.{arith}
-use lib.Dec.{ltb}
 use lib.ListN.{length}
 use lib.Ieee.{Float, le}
 use Rattle.float.specs.Double.{not_positive, ◌⊗◌, ◌⊘◌}
 use Rattle.complex.specs.declared.Complex.{Complex}
 use Rattle.linear_hermitian.specs.Hermitian.{Matrix, vector_norm}
-use Rattle.linear_conjugate_gradient.specs.declared.Answer.{Answer}
-use Rattle.linear_conjugate_gradient.specs.declared.Answer.TheVariants.{Iterate, GaveUp}
-use Rattle.linear_conjugate_gradient.specs.declared.Progress.TheVariants.{Going, Converged, Broken}
+use Rattle.std.specs.Prelude.{Option, Some, None, Result, Ok, Err}
+use Rattle.std.specs.Option.{option_map_or}
+use Rattle.linear_conjugate_gradient.specs.declared.Reason.{Reason}
 use Rattle.linear_conjugate_gradient.specs.declared.Reason.TheVariants.{Denominator, LostDefiniteness}
 use Rattle.linear_conjugate_gradient.specs.Answer.{reason, place}
 use Rattle.linear_conjugate_gradient.specs.Found.{Found, vector, gave}
 use Rattle.linear_conjugate_gradient.specs.Method.{first_not_positive, LoopState, step_by, steps, conjugate_gradient}
-use Rattle.linear_conjugate_gradient.specs.Solve.{State, Iteration, Outcome, iteration, preconditioned, residual_dot, begun, multiplied, denominator, reduced, advanced, directed, judged, stepped, iteration_of, after, end_answer, run, started, solved}
+use Rattle.linear_conjugate_gradient.specs.Solve.{State, Iteration, Outcome, iteration, preconditioned, residual_dot, begun, multiplied, denominator, reduced, advanced, directed, judged, stepped, iteration_of, after, run, started, solved}
 use Rattle.linear_conjugate_gradient.proofs.Lays.{Sized}
 use Rattle.linear_conjugate_gradient.proofs.Iterations.{begun_sized}
 use Rattle.linear_conjugate_gradient.proofs.Runs.{run-sized}
 
 -- ---- what an answer says, with the vector that is left
 
-unfoldable pub answered : Answer → List Complex → Found
-answered (Iterate count) x = vector x
-answered (GaveUp r) x = gave (reason r) (place r)
+unfoldable pub answered : Result ℕ Reason → List Complex → Found
+answered (Ok count) x = vector x
+answered (Err r) x = gave (reason r) (place r)
 
 abbrev pub found_in : Outcome → Found
 found_in o = answered o.answer o.state.x
 
 -- a vector that is found is the one that was left
-pub answered-held : (a : Answer) (x v : List Complex) → answered a x ≡ vector v → x ≡ v
+pub answered-held : (a : Result ℕ Reason) (x v : List Complex) → answered a x ≡ vector v → x ≡ v
 unfolding answered
-answered-held (Iterate count) x v e = cc
-answered-held (GaveUp r) x v e = let z : ◌≡◌ {A = ℕ} 0 1 = cc in absurd (omega arith)
+answered-held (Ok count) x v e = cc
+answered-held (Err r) x v e = let z : ◌≡◌ {A = ℕ} 0 1 = cc in absurd (omega arith)
 
 -- ---- the two forms find the same
 
@@ -45,11 +44,17 @@ either : (b : Bool) (o q : Outcome) (f g : Found) → found_in o ≡ f → found
 either true o q f g y z = y
 either false o q f g y z = z
 
+-- the search for a vertex: they find the same in either case
+at-vertex : (v : Option ℕ) (o : ℕ → Outcome) (q : Outcome) (f : ℕ → Found) (g : Found) → ((i : ℕ) → found_in (o i) ≡ f i) → found_in q ≡ g
+    → found_in (option_map_or o v q) ≡ option_map_or f v g
+at-vertex None o q f g y z = z
+at-vertex (Some i) o q f g y z = y i
+
 -- the three tests of an iteration: t has the product, u the step, v the new direction
 tests : (b c d : Bool) (t u v : State) (dot : Float) (count : ℕ) (f : Float → State → Outcome) (g : Found) → found_in (f dot v) ≡ g
-    → (i : Iteration) → i ≡ cond b (iteration (Broken Denominator) t) (cond c (iteration Converged u) (cond d (iteration (Broken LostDefiniteness) u) (iteration (Going dot) v)))
+    → (i : Iteration) → i ≡ cond b (iteration (Err Denominator) t) (cond c (iteration (Ok None) u) (cond d (iteration (Err LostDefiniteness) u) (iteration (Ok (Some dot)) v)))
     → found_in (after i.result i.state count f) ≡ cond b (gave 6 0) (cond c (vector u.x) (cond d (gave 7 0) g))
-unfolding after end_answer answered reason place
+unfolding after answered reason place
 tests true c d t u v dot count f g h i e = rw e
 tests false true d t u v dot count f g h i e = rw e
 tests false false true t u v dot count f g h i e = rw e
@@ -78,7 +83,7 @@ solved-method m tolerance k s =
     let t : State = begun m.diagonal s in
     let limit : Float = tolerance ⊗ vector_norm s.r in
     either (not_positive (vector_norm s.r)) _ _ _ _ refl
-    (either (ltb (first_not_positive m.diagonal) (length m.diagonal)) _ _ _ _ refl
+    (at-vertex (first_not_positive m.diagonal) _ _ _ _ (λ i. refl)
     (either (not_positive (residual_dot t)) _ _ _ _ refl (run-steps m limit k 0 (residual_dot t) t)))
 
 -- ---- what the solver leaves is sized
@@ -87,6 +92,10 @@ picked-sized : (n : ℕ) (b : Bool) (o q : Outcome) → Sized n o.state → Size
 picked-sized n true o q y z = y
 picked-sized n false o q y z = z
 
+vertex-sized : (n : ℕ) (v : Option ℕ) (o : ℕ → Outcome) (q : Outcome) → ((i : ℕ) → Sized n (o i).state) → Sized n q.state → Sized n (option_map_or o v q).state
+vertex-sized n None o q y z = z
+vertex-sized n (Some i) o q y z = y i
+
 pub solved-sized : (n : ℕ) (m : Matrix) (tolerance : Float) (k : ℕ) (s : State) → length m.diagonal ≡ n → Sized n s → Sized n (solved m tolerance k s).state
 unfolding solved started
 solved-sized n m tolerance k s h z =
@@ -94,5 +103,5 @@ solved-sized n m tolerance k s h z =
     let y : Sized n t = begun_sized n m.diagonal s h z in
     let limit : Float = tolerance ⊗ vector_norm s.r in
     picked-sized n (not_positive (vector_norm s.r)) _ _ z
-    (picked-sized n (ltb (first_not_positive m.diagonal) (length m.diagonal)) _ _ z
+    (vertex-sized n (first_not_positive m.diagonal) _ _ (λ i. z)
     (picked-sized n (not_positive (residual_dot t)) _ _ y (run-sized n m limit k 0 (residual_dot t) t y)))

@@ -5,8 +5,6 @@ use mathlib.Core.List.{List}
 use Prim.Native.Nat.{ℕ, zero, suc, ◌+◌, ◌-◌, ◌≤◌, ◌<◌}
 use native.Mathlib.Numerals.{add-one}
 use native.Mathlib.Omega.{arith}
-use borrow.Author.Tests.{lt-ltb, le-ltb}
-use lib.Dec.{ltb}
 use lib.Ieee.{Float, nan}
 use lib.ListN.{length}
 use Rattle.float.specs.Double.{not_positive, ◌⊗◌}
@@ -17,29 +15,28 @@ use Rattle.linear_hermitian.specs.declared.Hermitian.{Hermitian}
 use Rattle.linear_hermitian.specs.Hermitian.{Matrix, vector_norm}
 use Rattle.linear_hermitian.specs.Work.{matrix}
 use Rattle.linear_conjugate_gradient.specs.declared.Vectors.{Vectors}
-use Rattle.linear_conjugate_gradient.specs.declared.Progress.{Progress}
-use Rattle.linear_conjugate_gradient.specs.declared.Progress.TheVariants.{Going, Converged, Broken}
+use Rattle.std.specs.Prelude.{Option, Some, None, Result, Ok, Err}
+use Rattle.linear_conjugate_gradient.specs.declared.Reason.{Reason}
 use Rattle.linear_conjugate_gradient.specs.declared.Reason.TheVariants.{RightHandNorm, Diagonal, FirstResidual, CountSpent}
-use Rattle.linear_conjugate_gradient.specs.declared.Answer.{Answer}
-use Rattle.linear_conjugate_gradient.specs.declared.Answer.TheVariants.{GaveUp}
 use Rattle.linear_conjugate_gradient.specs.Method.{first_not_positive}
-use Rattle.linear_conjugate_gradient.specs.Solve.{State, Outcome, begun, residual_dot, iteration_of, end_answer, after, run, started, solved}
+use Rattle.linear_conjugate_gradient.specs.Solve.{State, Outcome, begun, residual_dot, iteration_of, after, run, started, solved}
 use Rattle.linear_conjugate_gradient.specs.Work.{read, lay, SolverRoom, Begun, Ended, Solved}
 use Rattle.linear_conjugate_gradient.proofs.Lays.{Sized, read-sized, lay-read, get-all, get-matrix, lay-then}
 use Rattle.linear_conjugate_gradient.proofs.Iterations.{begun_sized, iteration-sized}
 
 -- ---- the loop
 
-after-going : {t : Progress} (next : Float) (s : State) (count : ℕ) (f : Float → State → Outcome) → t ≡ Going next → after t s count f ≡ f next s
+after-going : {t : Result (Option Float) Reason} (next : Float) (s : State) (count : ℕ) (f : Float → State → Outcome) → t ≡ Ok (Some next) → after t s count f ≡ f next s
 unfolding after
 after-going next s count f e = rw e
 
-after-ended : (t : Progress) (s : State) (count : ℕ) (f : Float → State → Outcome) → ((next : Float) → t ≡ Going next → ⊥)
-    → after t s count f ≡ record { answer = end_answer t count; state = s }
+after-converged : {t : Result (Option Float) Reason} (s : State) (count : ℕ) (f : Float → State → Outcome) → t ≡ Ok None → after t s count f ≡ record { answer = Ok count; state = s }
 unfolding after
-after-ended Converged s count f h = refl
-after-ended (Broken r) s count f h = refl
-after-ended (Going next) s count f h = absurd (h next refl)
+after-converged s count f e = rw e
+
+after-gave : {t : Result (Option Float) Reason} (s : State) (count : ℕ) (f : Float → State → Outcome) {r : Reason} → t ≡ Err r → after t s count f ≡ record { answer = Err r; state = s }
+unfolding after
+after-gave s count f e = rw e
 
 module _ (w : List Float) (h : Hermitian) (l : Vectors) (from to : List ℕ) (limit first : Float) (most : ℕ) where
   abbrev pub whole : Outcome
@@ -62,7 +59,7 @@ module _ (w : List Float) (h : Hermitian) (l : Vectors) (from to : List ℕ) (li
   more k i dot s = refl
 
   module _ (ok : SolverRoom (length w) h l) (i : ℕ) (less : i < most) {w₁ w₂ : List Float} {dot : Float} (a : RunAt w₁ i dot)
-      {t : Progress} (e : Ended w₁ w₂ h.size l (iteration_of (matrix w₁ h from to) limit dot (read w₁ h.size l)) t) where
+      {t : Result (Option Float) Reason} (e : Ended w₁ w₂ h.size l (iteration_of (matrix w₁ h from to) limit dot (read w₁ h.size l)) t) where
     abbrev before : State
     before = read w₁ h.size l
 
@@ -94,7 +91,7 @@ module _ (w : List Float) (h : Hermitian) (l : Vectors) (from to : List ℕ) (li
         a.same ∙ ap (λ k. run (matrix w h from to) limit k i dot before) (left most i less) ∙ more (most - (i + 1)) i dot before
         ∙ ap (λ u. after u then (suc i) (run (matrix w h from to) limit (most - (i + 1)) (suc i))) (sym result-is)
 
-    pub run-again : {next : Float} → t ≡ Going next → RunAt w₂ (i + 1) next
+    pub run-again : {next : Float} → t ≡ Ok (Some next) → RunAt w₂ (i + 1) next
     run-again {next} g = record {
       frame = work-is ∙ ap (lay w h.size l) (sym read_is);
       same =
@@ -103,20 +100,20 @@ module _ (w : List Float) (h : Hermitian) (l : Vectors) (from to : List ℕ) (li
           ∙ ap (λ j. run (matrix w h from to) limit (most - (i + 1)) j next (read w₂ h.size l)) (sym (add-one i));
     }
 
-    pub run-ended : ((next : Float) → t ≡ Going next → ⊥) → {r : Answer} → r ≡ end_answer t (i + 1) → Solved w w₂ h.size l whole r
-    run-ended g er =
-        let o : whole ≡ record { answer = end_answer t (suc i); state = then } =
-        whole_is ∙ after-ended t then (suc i) (run (matrix w h from to) limit (most - (i + 1)) (suc i)) g in
-        record {
-          work = work-is ∙ ap (λ (q : Outcome). lay w h.size l q.state) (sym o);
-          result = er ∙ ap (end_answer t) (add-one i) ∙ ap (λ (q : Outcome). q.answer) (sym o);
-        }
+    ended-with : {r : Result ℕ Reason} → whole ≡ record { answer = r; state = then } → Solved w w₂ h.size l whole r
+    ended-with o = record { work = work-is ∙ ap (λ (q : Outcome). lay w h.size l q.state) (sym o); result = ap (λ (q : Outcome). q.answer) (sym o) }
 
-  pub run-done : {w₁ : List Float} {i : ℕ} {dot : Float} → i ≤ most → most ≤ i → RunAt w₁ i dot → Solved w w₁ h.size l whole (GaveUp CountSpent)
+    pub run-converged : t ≡ Ok None → Solved w w₂ h.size l whole (Ok (i + 1))
+    run-converged g = rw add-one (ended-with (whole_is ∙ after-converged then (suc i) (run (matrix w h from to) limit (most - (i + 1)) (suc i)) g))
+
+    pub run-gave : {r : Reason} → t ≡ Err r → Solved w w₂ h.size l whole (Err r)
+    run-gave g = ended-with (whole_is ∙ after-gave then (suc i) (run (matrix w h from to) limit (most - (i + 1)) (suc i)) g)
+
+  pub run-done : {w₁ : List Float} {i : ℕ} {dot : Float} → i ≤ most → most ≤ i → RunAt w₁ i dot → Solved w w₁ h.size l whole (Err CountSpent)
   unfolding run
   run-done {w₁} {i} {dot} g k a =
       let z : most - i ≡ 0 = omega arith in
-      let o : whole ≡ record { answer = GaveUp CountSpent; state = read w₁ h.size l } =
+      let o : whole ≡ record { answer = Err CountSpent; state = read w₁ h.size l } =
       a.same ∙ ap (λ k. run (matrix w h from to) limit k i dot (read w₁ h.size l)) z in
       record {
         work = a.frame ∙ ap (λ (q : Outcome). lay w h.size l q.state) (sym o);
@@ -125,12 +122,12 @@ module _ (w : List Float) (h : Hermitian) (l : Vectors) (from to : List ℕ) (li
 
 -- ---- the whole method
 
-after-sized : (n : ℕ) (t : Progress) (s : State) (count : ℕ) (f : Float → State → Outcome) → Sized n s → ((dot : Float) (s : State) → Sized n s → Sized n (f dot s).state)
+after-sized : (n : ℕ) (t : Result (Option Float) Reason) (s : State) (count : ℕ) (f : Float → State → Outcome) → Sized n s → ((dot : Float) (s : State) → Sized n s → Sized n (f dot s).state)
     → Sized n (after t s count f).state
 unfolding after
-after-sized n Converged s count f z g = z
-after-sized n (Broken r) s count f z g = z
-after-sized n (Going dot) s count f z g = g dot s z
+after-sized n (Ok None) s count f z g = z
+after-sized n (Ok (Some dot)) s count f z g = g dot s z
+after-sized n (Err r) s count f z g = z
 
 pub run-sized : (n : ℕ) (m : Matrix) (limit : Float) (k i : ℕ) (dot : Float) (s : State) → Sized n s → Sized n (run m limit k i dot s).state
 unfolding run
@@ -146,27 +143,26 @@ module _ (w : List Float) (h : Hermitian) (l : Vectors) (from to : List ℕ) (to
   norm-not-positive : not_positive (vector_norm (region_c w l.residual h.size)) ≡ b
   norm-not-positive = ap (λ x. not_positive x) (sym en) ∙ sym eb
 
-  pub solve-norm : b ≡ true → Solved w w h.size l answer (GaveUp RightHandNorm)
+  pub solve-norm : b ≡ true → Solved w w h.size l answer (Err RightHandNorm)
   unfolding solved read
   solve-norm t =
       let q : not_positive (vector_norm (region_c w l.residual h.size)) ≡ true = norm-not-positive ∙ t in
       rw q (record { work = lay-read w h.size l; result = refl })
 
-  module _ (t : b ≡ false) {v : ℕ} (ev : v ≡ first_not_positive (region nan w h.diagonal h.size)) where
+  module _ (t : b ≡ false) {v : Option ℕ} (ev : v ≡ first_not_positive (region nan w h.diagonal h.size)) where
     fit : not_positive (vector_norm (region_c w l.residual h.size)) ≡ false
     fit = norm-not-positive ∙ t
 
     length-diagonal : length (region nan w h.diagonal h.size) ≡ h.size
     length-diagonal = length-region nan w h.diagonal h.size
 
-    pub solve-diagonal : v < h.size → Solved w w h.size l answer (GaveUp (Diagonal v))
+    pub solve-diagonal : {i : ℕ} → v ≡ Some i → Solved w w h.size l answer (Err (Diagonal i))
     unfolding solved read matrix
-    solve-diagonal less =
-        let d : List Float = region nan w h.diagonal h.size in
-        let q : ltb (first_not_positive d) (length d) ≡ true = lt-ltb (first_not_positive d) (length d) (rw (← ev, length-diagonal) less) in
-        rw (fit, q) (record { work = lay-read w h.size l; result = ap (λ i. GaveUp (Diagonal i)) ev })
+    solve-diagonal {i} g =
+        let q : first_not_positive (region nan w h.diagonal h.size) ≡ Some i = sym ev ∙ g in
+        rw (fit, q) (record { work = lay-read w h.size l; result = refl })
 
-    module _ (ok : SolverRoom (length w) h l) (g : h.size ≤ v) {w₁ : List Float} {f : Float} (s : Begun w w₁ h l f) {c : Bool} (ec : c ≡ not_positive f) where
+    module _ (ok : SolverRoom (length w) h l) (g : v ≡ None) {w₁ : List Float} {f : Float} (s : Begun w w₁ h l f) {c : Bool} (ec : c ≡ not_positive f) where
       abbrev vectors : State
       vectors = begun (region nan w h.diagonal h.size) (read w h.size l)
 
@@ -177,20 +173,19 @@ module _ (w : List Float) (h : Hermitian) (l : Vectors) (from to : List ℕ) (to
       answer-is : answer ≡ started (matrix w h from to) limit most vectors
       unfolding solved read matrix
       answer-is =
-          let d : List Float = region nan w h.diagonal h.size in
-          let q : ltb (first_not_positive d) (length d) ≡ false = le-ltb (first_not_positive d) (length d) (rw (← ev, length-diagonal) g) in
+          let q : first_not_positive (region nan w h.diagonal h.size) ≡ None = sym ev ∙ g in
           rw (fit, q)
 
       dot-not-positive : not_positive (residual_dot vectors) ≡ c
       dot-not-positive = ap (λ x. not_positive x) (sym s.result) ∙ sym ec
 
-      pub solve-first : c ≡ true → Solved w w₁ h.size l answer (GaveUp FirstResidual)
+      pub solve-first : c ≡ true → Solved w w₁ h.size l answer (Err FirstResidual)
       unfolding started
       solve-first u =
           let q : not_positive (residual_dot vectors) ≡ true = dot-not-positive ∙ u in
           rw (answer-is, q) (record { work = s.work; result = refl })
 
-      pub solve-run : c ≡ false → {w₂ : List Float} {a : Answer} → Solved w₁ w₂ h.size l (run (matrix w₁ h from to) (tolerance ⊗ nm) most 0 f (read w₁ h.size l)) a
+      pub solve-run : c ≡ false → {w₂ : List Float} {a : Result ℕ Reason} → Solved w₁ w₂ h.size l (run (matrix w₁ h from to) (tolerance ⊗ nm) most 0 f (read w₁ h.size l)) a
           → Solved w w₂ h.size l answer a
       unfolding started
       solve-run u {w₂} {a} e =

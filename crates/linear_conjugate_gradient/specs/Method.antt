@@ -1,7 +1,8 @@
 -- The Rust's `conjugate_gradient` (lines 1104 to 1170) and `normalize_in_mass` (lines 1173 to 1187) as functions of lists alone: a vector, or why there is
 -- none. This is what a reader has to believe of the solver. The contracts say besides what every vector in memory holds at the end: Solve.antt has the
 -- method in that form, and proofs/Method.antt proves that it finds the same. Definitions only.
-use Rattle.std.specs.Prelude.{ℕ, zero, suc, cond, List, [], ◌∷◌, ltb, length, replicate, Float}
+use Rattle.std.specs.Prelude.{ℕ, zero, suc, cond, List, length, replicate, Option, position, Float}
+use Rattle.std.specs.Option.{option_map_or}
 use Rattle.std.specs.Float.Ieee.{le}
 use Rattle.float.specs.Double.{not_positive, recip_of, ◌⊗◌, ◌⊘◌}
 use Rattle.root.specs.Root.{root_of}
@@ -13,10 +14,9 @@ use Rattle.linear_conjugate_gradient.specs.Found.{Found, vector, gave}
 
 -- ---- conjugate_gradient
 
--- the first index whose value is not positive, or the length where there is none
-unfoldable pub first_not_positive : List Float → ℕ
-first_not_positive [] = 0
-first_not_positive (v ∷ d) = cond (not_positive v) 0 (suc (first_not_positive d))
+-- the first index whose value is not positive
+abbrev pub first_not_positive : List Float → Option ℕ
+first_not_positive d = position not_positive d
 
 -- what the loop carries from one iteration to the next: the Rust's x, residual, direction and residual_dot
 pub record LoopState : Type 0 where
@@ -52,9 +52,8 @@ conjugate_gradient m tolerance k rhs =
     let inverse = recips_of m.diagonal in
     let preconditioned = scaled inverse rhs in
     let dot = (dot_of preconditioned rhs).re in
-    let vertex = first_not_positive m.diagonal in
     cond (not_positive (vector_norm rhs)) (gave 3 0)
-    (cond (ltb vertex (length m.diagonal)) (gave 4 vertex)
+    (option_map_or (gave 4) (first_not_positive m.diagonal)
     (cond (not_positive dot) (gave 5 0)
     (steps m inverse (tolerance ⊗ vector_norm rhs) k
     (record { x = replicate (length rhs) czero; residual = rhs; direction = preconditioned; residual_dot = dot }))))

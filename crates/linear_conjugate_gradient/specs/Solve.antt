@@ -1,6 +1,7 @@
--- The memory form of conjugate gradients, which the contracts use: Method.antt's steps, with the answer as the code's enum and with what stands in every
+-- The memory form of conjugate gradients, which the contracts use: Method.antt's steps, with the answer as the code's `Result` and with what stands in every
 -- vector at the end, whatever the answer. proofs/Method.antt proves that what it finds is `conjugate_gradient` of Method.antt. Definitions only.
-use Rattle.std.specs.Prelude.{ℕ, zero, suc, cond, List, ltb, length, replicate, Float}
+use Rattle.std.specs.Prelude.{ℕ, zero, suc, cond, List, length, replicate, Option, Some, None, Result, Ok, Err, Float}
+use Rattle.std.specs.Option.{option_map_or}
 use Rattle.std.specs.Float.Ieee.{le}
 use Rattle.float.specs.Double.{not_positive, recip_of, ◌⊗◌, ◌⊘◌}
 use Rattle.root.specs.Root.{root_of}
@@ -10,13 +11,8 @@ use Rattle.linear_hermitian.specs.Hermitian.{Matrix, dot_of, vector_norm, scaled
 use Rattle.linear_vectors.specs.Vectors.{zip_of, add_scaled, sub_scaled, recips_of, scaled_by}
 use Rattle.linear_vectors.specs.Residual.{products_of}
 use Rattle.linear_conjugate_gradient.specs.Method.{first_not_positive}
+use Rattle.linear_conjugate_gradient.specs.declared.Reason.{Reason}
 use Rattle.linear_conjugate_gradient.specs.declared.Reason.TheVariants.{RightHandNorm, Diagonal, FirstResidual, Denominator, LostDefiniteness, CountSpent, MassOfIterate}
-use Rattle.linear_conjugate_gradient.specs.declared.Answer.{Answer}
-use Rattle.linear_conjugate_gradient.specs.declared.Answer.TheVariants.{Iterate, GaveUp}
-use Rattle.linear_conjugate_gradient.specs.declared.Normalized.{Normalized}
-use Rattle.linear_conjugate_gradient.specs.declared.Normalized.TheVariants as normalized
-use Rattle.linear_conjugate_gradient.specs.declared.Progress.{Progress}
-use Rattle.linear_conjugate_gradient.specs.declared.Progress.TheVariants.{Going, Converged, Broken}
 
 -- ---- the vectors: the iterate, the residual, the direction, the matrix times the direction, and the inverse diagonal
 
@@ -74,26 +70,26 @@ advanced alpha s = record { x = zip_of (add_scaled alpha) s.x s.p; r = s.r; p = 
 unfoldable pub directed : Float → State → State
 directed beta s = record { x = s.x; r = s.r; p = zip_of (add_scaled beta) (preconditioned s) s.p; q = s.q; inverse = s.inverse }
 
--- an iteration ends with the next residual dot, or convergence, or a reason; and with the vectors
+-- an iteration ends with the next residual dot, or none where it has converged, or a reason; and with the vectors
 pub record Iteration : Type 0 where
-  pub result : Progress
+  pub result : Result (Option Float) Reason
   pub state : State
 
 -- both together
-abbrev pub iteration : Progress → State → Iteration
+abbrev pub iteration : Result (Option Float) Reason → State → Iteration
 iteration t s = record { result = t; state = s }
 
 -- after the step by alpha, s being the vectors after it
 unfoldable pub judged : Float → Float → State → Iteration
 judged limit dot s =
-    cond (le (vector_norm s.r) limit) (iteration Converged s)
-    (cond (not_positive (residual_dot s)) (iteration (Broken LostDefiniteness) s)
-    (iteration (Going (residual_dot s)) (directed (residual_dot s ⊘ dot) s)))
+    cond (le (vector_norm s.r) limit) (iteration (Ok None) s)
+    (cond (not_positive (residual_dot s)) (iteration (Err LostDefiniteness) s)
+    (iteration (Ok (Some (residual_dot s))) (directed (residual_dot s ⊘ dot) s)))
 
 -- after the product, s having it
 unfoldable pub stepped : Float → Float → State → Iteration
 stepped limit dot s =
-    cond (not_positive (denominator s)) (iteration (Broken Denominator) s)
+    cond (not_positive (denominator s)) (iteration (Err Denominator) s)
     (judged limit dot (advanced (dot ⊘ denominator s) (reduced (dot ⊘ denominator s) s)))
 
 -- a whole iteration, from the residual dot before it
@@ -102,48 +98,42 @@ iteration_of m limit dot s = stepped limit dot (multiplied m s)
 
 -- ---- the method
 
--- the answer, and the vectors at the end
+-- the answer, which is the count of iterations or a reason, and the vectors at the end
 pub record Outcome : Type 0 where
-  pub answer : Answer
+  pub answer : Result ℕ Reason
   pub state : State
 
 -- both together
-abbrev pub outcome : Answer → State → Outcome
+abbrev pub outcome : Result ℕ Reason → State → Outcome
 outcome a s = record { answer = a; state = s }
 
--- what the method answers where it ends with an iteration, the count-th
-unfoldable pub end_answer : Progress → ℕ → Answer
-end_answer Converged count = Iterate count
-end_answer (Broken r) count = GaveUp r
-end_answer (Going dot) count = GaveUp CountSpent
-
--- it goes on by f where the iteration says so
-unfoldable pub after : Progress → State → ℕ → (Float → State → Outcome) → Outcome
-after Converged s count f = outcome (end_answer Converged count) s
-after (Broken r) s count f = outcome (end_answer (Broken r) count) s
-after (Going dot) s count f = f dot s
+-- it ends with this iteration, the count-th, or goes on by f
+unfoldable pub after : Result (Option Float) Reason → State → ℕ → (Float → State → Outcome) → Outcome
+after (Ok None) s count f = outcome (Ok count) s
+after (Ok (Some dot)) s count f = f dot s
+after (Err r) s count f = outcome (Err r) s
 
 -- at most k iterations more, after i iterations
 unfoldable pub run : Matrix → Float → ℕ → ℕ → Float → State → Outcome
-run m limit zero i dot s = outcome (GaveUp CountSpent) s
+run m limit zero i dot s = outcome (Err CountSpent) s
 run m limit (suc k) i dot s = after (iteration_of m limit dot s).result (iteration_of m limit dot s).state (suc i) (run m limit k (suc i))
 
 -- the first residual dot is tested, and then at most k iterations are made
 unfoldable pub started : Matrix → Float → ℕ → State → Outcome
-started m limit k s = cond (not_positive (residual_dot s)) (outcome (GaveUp FirstResidual) s) (run m limit k 0 (residual_dot s) s)
+started m limit k s = cond (not_positive (residual_dot s)) (outcome (Err FirstResidual) s) (run m limit k 0 (residual_dot s) s)
 
 -- the right-hand side's norm and the diagonal are tested, and then the method begins
 unfoldable pub solved : Matrix → Float → ℕ → State → Outcome
 solved m tolerance k s =
-    cond (not_positive (vector_norm s.r)) (outcome (GaveUp RightHandNorm) s)
-    (cond (ltb (first_not_positive m.diagonal) (length m.diagonal)) (outcome (GaveUp (Diagonal (first_not_positive m.diagonal))) s)
+    cond (not_positive (vector_norm s.r)) (outcome (Err RightHandNorm) s)
+    (option_map_or (λ i. outcome (Err (Diagonal i)) s) (first_not_positive m.diagonal)
     (started m (tolerance ⊗ vector_norm s.r) k (begun m.diagonal s)))
 
 -- ---- normalize_in_mass
 
 -- by the square of the mass norm: reason 9 where it is not positive
-unfoldable pub normalized_answer : Float → Normalized
-normalized_answer squared = cond (not_positive squared) (normalized.GaveUp MassOfIterate) normalized.Done
+unfoldable pub normalized_answer : Float → Result (Unit {0}) Reason
+normalized_answer squared = cond (not_positive squared) (Err MassOfIterate) (Ok tt)
 
 -- each value times the reciprocal of the mass norm
 unfoldable pub normalized_vector : Float → List Complex → List Complex

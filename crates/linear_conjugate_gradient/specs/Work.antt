@@ -1,5 +1,5 @@
 -- How a work slice holds the vectors, and what the functions require of it.
-use Rattle.std.specs.Prelude.{◌≡◌, List, [], ◌∷◌, ℕ, ◌+◌, ◌*◌, ◌≤◌, length, Float}
+use Rattle.std.specs.Prelude.{◌≡◌, List, [], ◌∷◌, ℕ, ◌+◌, ◌*◌, ◌≤◌, length, Option, Result, Float}
 use Rattle.std.specs.Float.{nan}
 use Rattle.linear_cells.specs.Region.{region}
 use Rattle.linear_cells.specs.Cell.{flat, region_c, put_c}
@@ -11,9 +11,7 @@ use Rattle.linear_packing.specs.declared.Packing.{Packing}
 use Rattle.linear_packing.specs.Packed.{Packed}
 use Rattle.linear_vectors.specs.declared.residual.Sums.{Sums}
 use Rattle.linear_conjugate_gradient.specs.declared.Vectors.{Vectors}
-use Rattle.linear_conjugate_gradient.specs.declared.Progress.{Progress}
-use Rattle.linear_conjugate_gradient.specs.declared.Answer.{Answer}
-use Rattle.linear_conjugate_gradient.specs.declared.Normalized.{Normalized}
+use Rattle.linear_conjugate_gradient.specs.declared.Reason.{Reason}
 use Rattle.linear_conjugate_gradient.specs.Method.{mass_squared}
 use Rattle.linear_conjugate_gradient.specs.Solve.{State, Iteration, Outcome, begun, residual_dot, multiplied, denominator, reduced, normalized_answer, normalized_vector}
 
@@ -83,16 +81,16 @@ pub record Updated (w w' : List Float) (n : ℕ) (l : Vectors) (alpha : Float) (
   pub next : r.next ≡ residual_dot (reduced alpha (read w n l))
 
 -- `step` and `iterate_once`: the vectors after an iteration, and how it ends
-pub record Ended (w w' : List Float) (n : ℕ) (l : Vectors) (t : Iteration) (r : Progress) : Type 0 where
+pub record Ended (w w' : List Float) (n : ℕ) (l : Vectors) (t : Iteration) (r : Result (Option Float) Reason) : Type 0 where
   pub work : w' ≡ lay w n l t.state
   pub result : r ≡ t.result
 
 -- `iterate` and `conjugate_gradient`: the vectors at the end, and the answer
-pub record Solved (w w' : List Float) (n : ℕ) (l : Vectors) (o : Outcome) (r : Answer) : Type 0 where
+pub record Solved (w w' : List Float) (n : ℕ) (l : Vectors) (o : Outcome) (r : Result ℕ Reason) : Type 0 where
   pub work : w' ≡ lay w n l o.state
   pub result : r ≡ o.answer
 
 -- normalize_in_mass: y is left with the mass matrix times x
-pub record InMass (w w' : List Float) (x y n : ℕ) (m : Matrix) (r : Normalized) : Type 0 where
+pub record InMass (w w' : List Float) (x y n : ℕ) (m : Matrix) (r : Result (Unit {0}) Reason) : Type 0 where
   pub work : w' ≡ put_c (put_c w y (applied m (region_c w x n))) x (normalized_vector (mass_squared m (region_c w x n)) (region_c w x n))
   pub result : r ≡ normalized_answer (mass_squared m (region_c w x n))

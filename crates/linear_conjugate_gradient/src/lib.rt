@@ -9,16 +9,15 @@ ghost use Rattle.root.specs.Root.{root_of};
 ghost use Rattle.linear_cells.specs.Region.{region};
 ghost use Rattle.linear_hermitian.specs.Work.{matrix, Graph, ApplyRoom};
 ghost use Rattle.linear_conjugate_gradient.specs.Method.{first_not_positive};
-ghost use Rattle.linear_conjugate_gradient.specs.Solve.{reduced, advanced, directed, judged, iteration_of, end_answer, run, solved};
+ghost use Rattle.linear_conjugate_gradient.specs.Solve.{reduced, advanced, directed, judged, iteration_of, run, solved};
 ghost use Rattle.linear_conjugate_gradient.specs.Work.{read, lay, VectorRoom, SolverRoom, Engine, Begun, Multiplied, Updated, Ended, Solved, InMass};
 
-use linear_cells::load_real;
 use linear_hermitian::Hermitian;
 use linear_packing::Packing;
 use linear_vectors::residual::Sums;
 
 // Why the solver gave up: number 24's reasons 3 to 9, in their order.
-#[derive(Clone, Copy)]
+#[derive(Clone, Copy, Debug, PartialEq, Eq)]
 pub enum Reason {
     RightHandNorm,
     Diagonal(usize),
@@ -27,20 +26,6 @@ pub enum Reason {
     LostDefiniteness,
     CountSpent,
     MassOfIterate,
-}
-
-// The iterate stands in its region after so many iterations; or the solver gave up.
-#[derive(Clone, Copy)]
-pub enum Answer {
-    Iterate(usize),
-    GaveUp(Reason),
-}
-
-// The answer of `normalize_in_mass`.
-#[derive(Clone, Copy)]
-pub enum Normalized {
-    Done,
-    GaveUp(Reason),
 }
 
 // Where each vector begins. On entry the residual's region holds the right-hand side.
@@ -53,25 +38,13 @@ pub struct Vectors {
     pub inverse: usize,
 }
 
-// How an iteration ends: with the next residual dot, with convergence, or by a breakdown.
-#[derive(Clone, Copy)]
-enum Progress {
-    Going(f64),
-    Converged,
-    Broken(Reason),
-}
-
-// The first of n values that is not positive, or n.
-fn first_not_positive(work: &[f64], d: usize, n: usize) -> usize
+// The first of n values that is not positive.
+fn first_not_positive(work: &[f64], d: usize, n: usize) -> Option<usize>
     requires { d + n ≤ length work.now }
     ensures { result ≡ first_not_positive (region nan work.now d n) }
 {
-    for i in 0..n {
-        if float::not_positive(load_real(work, d, i)) {
-            return i;
-        }
-    }
-    n
+    let end = d + n;
+    work[d..end].iter().position(|v| float::not_positive(*v))
 }
 
 fn begin(work: &mut [f64], h: Hermitian, l: Vectors) -> f64
@@ -142,22 +115,30 @@ fn norm(square: f64) -> f64
     root::sqrt(float::max(square, 0.0))
 }
 
-// An iteration after its product, by the step alpha. `dot` is the residual dot before it.
-fn step(work: &mut [f64], n: usize, l: Vectors, alpha: f64, dot: f64, limit: f64) -> Progress
+// An iteration after its product, by the step alpha. `dot` is the residual dot before it. It answers with the next residual dot, or with
+// none where the residual is within the limit.
+fn step(
+    work: &mut [f64],
+    n: usize,
+    l: Vectors,
+    alpha: f64,
+    dot: f64,
+    limit: f64,
+) -> Result<Option<f64>, Reason>
     requires { VectorRoom (length work.old) n l }
     ensures { Ended work.old work.new n l (judged limit dot (advanced alpha (reduced alpha (read work.old n l)))) result }
 {
     let sums = update(work, n, l, alpha);
     if norm(sums.square) <= limit {
         advance(work, n, l, alpha);
-        return Progress::Converged;
+        return Ok(None);
     }
     if float::not_positive(sums.next) {
         advance(work, n, l, alpha);
-        return Progress::Broken(Reason::LostDefiniteness);
+        return Err(Reason::LostDefiniteness);
     }
     direct(work, n, l, alpha, sums.next / dot);
-    Progress::Going(sums.next)
+    Ok(Some(sums.next))
 }
 
 fn iterate_once(
@@ -170,7 +151,7 @@ fn iterate_once(
     copy: Packing,
     limit: f64,
     dot: f64,
-) -> Progress
+) -> Result<Option<f64>, Reason>
     requires solver_room { SolverRoom (length work.old) h l }
     requires graph { Graph h from.now to.now }
     requires engine { Engine work.old h l from.now to.now u.now copy }
@@ -179,20 +160,9 @@ fn iterate_once(
 {
     let denominator = multiply(work, h, l, from, to, u, copy);
     if float::not_positive(denominator) {
-        return Progress::Broken(Reason::Denominator);
+        return Err(Reason::Denominator);
     }
     step(work, h.size, l, dot / denominator, dot, limit)
-}
-
-// The answer where the method ends with this iteration, the count-th.
-fn answer_of(t: Progress, count: usize) -> Answer
-    ensures { result ≡ end_answer t count }
-{
-    match t {
-        Progress::Converged => Answer::Iterate(count),
-        Progress::Broken(reason) => Answer::GaveUp(reason),
-        Progress::Going(_) => Answer::GaveUp(Reason::CountSpent),
-    }
 }
 
 fn iterate(
@@ -206,7 +176,7 @@ fn iterate(
     limit: f64,
     first: f64,
     most: usize,
-) -> Answer
+) -> Result<usize, Reason>
     requires solver_room { SolverRoom (length work.old) h l }
     requires graph { Graph h from.now to.now }
     requires engine { Engine work.old h l from.now to.now u.now copy }
@@ -215,16 +185,15 @@ fn iterate(
 {
     let mut dot = first;
     for i in 0..most {
-        let p = iterate_once(work, h, l, from, to, u, copy, limit, dot);
-        let Progress::Going(next) = p else {
-            return answer_of(p, i + 1);
+        let Some(next) = iterate_once(work, h, l, from, to, u, copy, limit, dot)? else {
+            return Ok(i + 1);
         };
         dot = next;
     }
-    Answer::GaveUp(Reason::CountSpent)
+    Err(Reason::CountSpent)
 }
 
-// Solves the system of the matrix and the right-hand side in the residual's region, by at most `most` iterations.
+// Solves the system of the matrix and the right-hand side in the residual's region, by at most `most` iterations: how many were made.
 pub fn conjugate_gradient(
     work: &mut [f64],
     h: Hermitian,
@@ -235,7 +204,7 @@ pub fn conjugate_gradient(
     copy: Packing,
     tolerance: f64,
     most: usize,
-) -> Answer
+) -> Result<usize, Reason>
     requires solver_room { SolverRoom (length work.old) h l }
     requires graph { Graph h from.now to.now }
     requires engine { Engine work.old h l from.now to.now u.now copy }
@@ -244,15 +213,14 @@ pub fn conjugate_gradient(
 {
     let norm = linear_hermitian::euclidean_norm(work, l.residual, h.size);
     if float::not_positive(norm) {
-        return Answer::GaveUp(Reason::RightHandNorm);
+        return Err(Reason::RightHandNorm);
     }
-    let vertex = first_not_positive(work, h.diagonal, h.size);
-    if vertex < h.size {
-        return Answer::GaveUp(Reason::Diagonal(vertex));
+    if let Some(vertex) = first_not_positive(work, h.diagonal, h.size) {
+        return Err(Reason::Diagonal(vertex));
     }
     let first = begin(work, h, l);
     if float::not_positive(first) {
-        return Answer::GaveUp(Reason::FirstResidual);
+        return Err(Reason::FirstResidual);
     }
     iterate(work, h, l, from, to, u, copy, tolerance * norm, first, most)
 }
@@ -265,7 +233,7 @@ pub fn normalize_in_mass(
     mass: Hermitian,
     from: &[u32],
     to: &[u32],
-) -> Normalized
+) -> Result<(), Reason>
     requires apply_room { ApplyRoom (length work.old) mass x y }
     requires graph { Graph mass from.now to.now }
     ensures { InMass work.old work.new x y mass.size (matrix work.old mass from.now to.now) result }
@@ -273,8 +241,8 @@ pub fn normalize_in_mass(
     linear_hermitian::apply(work, y, x, mass, from, to);
     let squared = linear_hermitian::dot_re(work, x, y, mass.size);
     if float::not_positive(squared) {
-        return Normalized::GaveUp(Reason::MassOfIterate);
+        return Err(Reason::MassOfIterate);
     }
     linear_vectors::scale_by(work, x, mass.size, float::recip(root::sqrt(squared)));
-    Normalized::Done
+    Ok(())
 }

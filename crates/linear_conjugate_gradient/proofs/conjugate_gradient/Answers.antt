@@ -11,15 +11,15 @@ use Rattle.linear_conjugate_gradient.proofs.conjugate_gradient.Goals as goal
 pub returns-then-not_positive : goal.returns-then-not_positive
 returns-then-not_positive c = solve-norm _ _ _ _ _ _ _ c.euclidean_norm-norm.ensures c.not_positive.ensures c.if-not_positive.true
 
-pub returns-then-vertex-h : goal.returns-then-vertex-h
-returns-then-vertex-h c =
+pub returns-in-Some : goal.returns-in-Some
+returns-in-Some c =
     solve-diagonal _ _ _ _ _ _ _ c.euclidean_norm-norm.ensures c.not_positive.ensures
-    c.if-not_positive.false c.first_not_positive-vertex.ensures c.if-vertex-h.true
+    c.if-not_positive.false c.first_not_positive.ensures c.in-Some.is
 
 pub returns-then-not_positive-2 : goal.returns-then-not_positive-2
 returns-then-not_positive-2 c =
-    solve-first _ _ _ _ _ _ _ c.euclidean_norm-norm.ensures c.not_positive.ensures c.if-not_positive.false c.first_not_positive-vertex.ensures c.requires.solver_room
-    c.if-vertex-h.false c.begin-first.ensures c.not_positive-2.ensures c.if-not_positive-2.true
+    solve-first _ _ _ _ _ _ _ c.euclidean_norm-norm.ensures c.not_positive.ensures c.if-not_positive.false c.first_not_positive.ensures c.requires.solver_room
+    c.in_default.is c.begin-first.ensures c.not_positive-2.ensures c.if-not_positive-2.true
 
 pub iterate-requires : goal.iterate-requires
 iterate-requires c = record {
@@ -31,5 +31,5 @@ iterate-requires c = record {
 
 pub returns : goal.returns
 returns c =
-    solve-run _ _ _ _ _ _ _ c.euclidean_norm-norm.ensures c.not_positive.ensures c.if-not_positive.false c.first_not_positive-vertex.ensures c.requires.solver_room c.if-vertex-h.false
+    solve-run _ _ _ _ _ _ _ c.euclidean_norm-norm.ensures c.not_positive.ensures c.if-not_positive.false c.first_not_positive.ensures c.requires.solver_room c.in_default.is
     c.begin-first.ensures c.not_positive-2.ensures c.if-not_positive-2.false c.iterate.ensures

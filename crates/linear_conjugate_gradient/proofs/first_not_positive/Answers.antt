@@ -1,17 +1,13 @@
--- `linear_conjugate_gradient::first_not_positive` meets its contract: the loop keeps what `Inv-loop` says, and what is left to do falls at each iteration; the laws are in proofs/Tests.
-use Rattle.linear_conjugate_gradient.proofs.Tests.{scan-none, scan-again, scan-found, scan-done}
-use Prim.Native.Nat.{◌-◌}
+-- `linear_conjugate_gradient::first_not_positive` meets its contract: what the iterator looks through is a region of the slice.
 use borrow.Author.Rules.{rules}
+use lib.Ieee.{nan}
+use Rattle.std.proofs.lemmas.Iterator.{YieldsList-from_slice}
+use Rattle.std.proofs.lemmas.Iterator.Search.{position_from_yields_List}
+use Rattle.float.specs.Double.{not_positive}
+use Rattle.linear_cells.proofs.Changes.{part-region}
 use Rattle.linear_conjugate_gradient.proofs.first_not_positive.Goals as goal
 
-pub loop-i-init : goal.loop-i-init
-loop-i-init c = (search rules, scan-none _ _ _)
-
-pub returns-then-not_positive : goal.returns-then-not_positive
-returns-then-not_positive c = search scan-found
-
-pub loop-i-preserved : goal.loop-i-preserved
-loop-i-preserved c = (search rules, search scan-again)
-
 pub returns : goal.returns
-returns c = search scan-done
+returns c =
+    rw (← part-region nan c.args.work.now c.args.d c.args.n c.requires)
+    (position_from_yields_List not_positive _ _ c.position.result c.position.ensures.ran (YieldsList-from_slice _ (search rules)) (λ x b q k. search rules))

@@ -1,9 +1,9 @@
 use Rattle.linear_conjugate_gradient.proofs.Iterations.{engine-still}
 use Rattle.linear_conjugate_gradient.proofs.Lays.{read-sized, same-room}
-use native.Mathlib.Omega.{arith}
-use Rattle.linear_conjugate_gradient.proofs.Runs.{run_none, run-again, run-ended, run-done}
-use mathlib.Core.Path.{◌≡◌}
-use Prim.Native.Nat.{◌-◌}
+use Rattle.linear_conjugate_gradient.proofs.Runs.{run_none, run-again, run-converged, run-gave, run-done}
+use Rattle.std.proofs.lemmas.Result.{err_from_is_err_and}
+use Rattle.std.specs.Prelude.{Ok}
+use mathlib.Core.Path.{refl, ap}
 use borrow.Author.Rules.{rules}
 use Rattle.linear_conjugate_gradient.proofs.iterate.Goals as goal
 
@@ -12,17 +12,21 @@ use Rattle.linear_conjugate_gradient.proofs.iterate.Goals as goal
 pub loop-i-init : goal.loop-i-init
 loop-i-init c = (search rules, search rules, run_none _ _ _ _ _ _ _ _)
 
-pub iterate_once-p-requires : goal.iterate_once-p-requires
-iterate_once-p-requires c = record { solver_room = same-room c.loop-i.invariant.1 _ _ c.requires.solver_room; graph = c.requires.graph; engine = engine-still _ _ _ _ _ _ _ c.requires.solver_room c.requires.engine _ (read-sized _ _ _) c.loop-i.invariant.2.frame }
+pub iterate_once-requires : goal.iterate_once-requires
+iterate_once-requires c = record { solver_room = same-room c.loop-i.invariant.1 _ _ c.requires.solver_room; graph = c.requires.graph; engine = engine-still _ _ _ _ _ _ _ c.requires.solver_room c.requires.engine _ (read-sized _ _ _) c.loop-i.invariant.2.frame }
 
 pub returns-in_default : goal.returns-in_default
 returns-in_default c =
-    run-ended _ _ _ _ _ _ _ _ c.requires.solver_room _ c.loop-i-test.true c.loop-i.invariant.2 c.iterate_once-p.ensures
-    c.in_default.not-Going c.answer_of.ensures
+    run-converged _ _ _ _ _ _ _ _ c.requires.solver_room _ c.loop-i-test.true c.loop-i.invariant.2 c.in_ok-next.ensures (ap Ok c.in_default.is)
+
+pub returns-in_err-next : goal.returns-in_err-next
+returns-in_err-next c =
+    let p = err_from_is_err_and c.from_residual.result c.from_residual.ensures.1 in
+    rw (p.1, p.2) (run-gave _ _ _ _ _ _ _ _ c.requires.solver_room _ c.loop-i-test.true c.loop-i.invariant.2 c.in_err-next.ensures refl)
 
 pub loop-i-preserved : goal.loop-i-preserved
 loop-i-preserved c =
-    (search rules, search rules, run-again _ _ _ _ _ _ _ _ c.requires.solver_room _ c.loop-i-test.true c.loop-i.invariant.2 c.iterate_once-p.ensures c.in-Going.is)
+    (search rules, search rules, run-again _ _ _ _ _ _ _ _ c.requires.solver_room _ c.loop-i-test.true c.loop-i.invariant.2 c.in_ok-next.ensures (ap Ok c.in-Some.is))
 
 pub returns : goal.returns
 returns c = run-done _ _ _ _ _ _ _ _ c.loop-i.invariant.0 c.loop-i-test.false c.loop-i.invariant.2
