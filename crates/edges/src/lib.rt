@@ -77,7 +77,7 @@ pub fn clear(w: &mut [u32], base: usize, n: usize)
     requires { ((0 < n) × (n ≤ 2 ^ 32)) × (base + n ≤ length w.old) }
     ensures { (w.new ≡ sets w.old base (replicate n 0)) × Held base n w.new 0 }
 {
-    slices::zeros_u32(w, base, n);
+    slices::fill(w, base, n, 0);
 }
 
 // Where the walk to a side ends: one more than the side's number, or 0 and the empty position.

@@ -124,6 +124,6 @@ pub fn count_numbers(w: &mut [u32], e: usize, k: usize, a: usize, m: usize)
     requires below { Below m e w.old k }
     ensures { Counted e k a m w.old w.new }
 {
-    slices::zeros_u32(w, a, m);
+    slices::fill(w, a, m, 0);
     count_all(w, e, k, a, m);
 }

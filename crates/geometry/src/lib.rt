@@ -3,11 +3,13 @@
 #![tactic(auto)]
 
 ghost use Rattle.std.specs.Prelude.{◌≡◌};
+ghost use Rattle.refusals.specs.Refusal.{row_at, between};
 ghost use Rattle.geometry.specs.Triangle.{side2, longest_of, placed_of, geometry_of, hat_gradient, gradient_of};
 ghost use Rattle.geometry.specs.Edge.{transport_angle, transport_of, alignment_weight};
 
 use complex::Complex;
 use plane::Pair;
+use refusals::Refusal;
 
 // A triangle whose corners i, j, k at p, q, r turn counter-clockwise.
 #[derive(Clone, Copy)]
@@ -25,6 +27,14 @@ pub struct TriangleGeometry {
 #[derive(Clone, Copy, Debug, PartialEq, Eq)]
 pub struct Degenerate {
     pub triangle: usize,
+}
+
+impl From<Degenerate> for Refusal {
+    ghost from_gives = { λ e r. r ≡ row_at 19 e.triangle };
+
+    fn from(e: Degenerate) -> Refusal {
+        refusals::refused(19, e.triangle)
+    }
 }
 
 fn squared_side(from: Pair, to: Pair) -> f64
@@ -127,6 +137,14 @@ pub struct End {
 pub struct MeanSize {
     pub from: usize,
     pub to: usize,
+}
+
+impl From<MeanSize> for Refusal {
+    ghost from_gives = { λ e r. r ≡ between e.from e.to };
+
+    fn from(e: MeanSize) -> Refusal {
+        refusals::between(e.from, e.to)
+    }
 }
 
 // The angle by which the frame turns from a to b where the edge's mean size is sigma.

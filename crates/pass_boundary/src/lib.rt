@@ -198,7 +198,7 @@ fn count_sides(u: &mut [u32], l: Listing, n: usize)
     ensures { u.new ≡ counted l n u.old }
 {
     edges::numbers::count_numbers(u, l.numbers, 3 * l.triangles, l.counts, l.sides);
-    slices::zeros_u32(u, l.flags, n);
+    slices::fill(u, l.flags, n, 0);
 }
 
 // Sums of 0, and first values of 1.

@@ -102,6 +102,6 @@ pub fn first_pass(
         buckets: 0,
         sides: 0,
     };
-    slices::copy_u32(triangles, words, 0);
+    slices::copy(triangles, words, 0);
     pass_over(points, sizes, guidance, none, work, words, at, o, a)
 }

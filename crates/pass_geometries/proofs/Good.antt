@@ -9,19 +9,18 @@ use mathlib.Core.List.{List, [], ◌∷◌}
 use lib.ListN.{length, get_or}
 use lib.Dec.{T}
 use lib.Ieee.{Float, lt}
+use Rattle.std.specs.Prelude.{Ok, Err}
 use Rattle.float.specs.Double.{lit}
 use Rattle.plane.specs.declared.Pair.{Pair}
 use Rattle.mesh.specs.Mesh.{Tri, tri, Good, All}
 use Rattle.mesh.proofs.Whole.{All-append}
 use Rattle.edges.specs.Numbering.{tri_from, tris_from}
 use Rattle.floor.proofs.Lowest.{lowest-most, lowest-before}
-use Rattle.geometry.specs.declared.Geometry.{Geometry}
-use Rattle.geometry.specs.declared.Geometry.TheVariants.{Triangle, Degenerate}
 use Rattle.geometry.specs.declared.TriangleGeometry.{TriangleGeometry}
 use Rattle.plane.specs.Pair.{orientation}
 use Rattle.geometry.specs.Triangle.{area_of, degenerate, placed, geometry, number, at}
 use Rattle.geometry.proofs.Orientation.{three-corners}
-use Rattle.pass_geometries.specs.Geometries.{geometry_on, is_degenerate, corners_of, first_degenerate}
+use Rattle.pass_geometries.specs.Geometries.{geometry_on, is_degenerate, corners_of, first_degenerate, Geometry}
 use Rattle.pass_geometries.specs.Work.{corners_on, wound_up_to, Cornered}
 use Rattle.pass_geometries.proofs.Steps.{kept-corners, one-area}
 use Rattle.pass_geometries.proofs.Joined.{joined_length, joined_at}
@@ -29,18 +28,18 @@ use Rattle.pass_geometries.proofs.Joined.{joined_length, joined_at}
 -- ---- one triangle
 
 pub no-refusal : (g : Geometry) → is_degenerate g ≡ false → number g ≡ 0
-no-refusal (Triangle g) h = refl
-no-refusal (Degenerate t) h = let z : ◌≡◌ {A = ℕ} 0 1 = cc in absurd (omega arith)
+no-refusal (Ok g) h = refl
+no-refusal (Err e) h = let z : ◌≡◌ {A = ℕ} 0 1 = cc in absurd (omega arith)
 
 -- a degenerate triangle answers its own number in the list
-pub degenerate-at : (X Y : ℕ → Float) (s : Tri) (t : ℕ) → is_degenerate (geometry_on X Y s t) ≡ true → geometry_on X Y s t ≡ Degenerate t
+pub degenerate-at : (X Y : ℕ → Float) (s : Tri) (t : ℕ) → is_degenerate (geometry_on X Y s t) ≡ true → geometry_on X Y s t ≡ Err (record { triangle = t })
 unfolding geometry
 degenerate-at X Y (tri i j k) t h = go (lt (orientation (at X Y i) (at X Y j) (at X Y k)) (lit 0)) h
   where
-    one : (a b c : ℕ) (p q r : Pair) (w : Float) → is_degenerate (placed a b c p q r w t) ≡ true → placed a b c p q r w t ≡ Degenerate t
+    one : (a b c : ℕ) (p q r : Pair) (w : Float) → is_degenerate (placed a b c p q r w t) ≡ true → placed a b c p q r w t ≡ Err (record { triangle = t })
     one a b c p q r w h = unfold placed in by (degenerate p q r w) (record { i = a; j = b; k = c; p = p; q = q; r = r; area = w }) h
       where
-        by : (d : Bool) (g : TriangleGeometry) → is_degenerate (cond d (Degenerate t) (Triangle g)) ≡ true → cond d (Degenerate t) (Triangle g) ≡ Degenerate t
+        by : (d : Bool) (g : TriangleGeometry) → is_degenerate (cond d (Err (record { triangle = t })) (Ok g)) ≡ true → cond d (Err (record { triangle = t })) (Ok g) ≡ Err (record { triangle = t })
         by true g h = refl
         by false g h = absurd (subst T (sym h) tt)
 
@@ -50,7 +49,7 @@ degenerate-at X Y (tri i j k) t h = go (lt (orientation (at X Y i) (at X Y j) (a
     given : Geometry
     given = placed i j k (at X Y i) (at X Y j) (at X Y k) (area_of (orientation (at X Y i) (at X Y j) (at X Y k))) t
 
-    go : (l : Bool) → is_degenerate (cond l turned given) ≡ true → cond l turned given ≡ Degenerate t
+    go : (l : Bool) → is_degenerate (cond l turned given) ≡ true → cond l turned given ≡ Err (record { triangle = t })
     go true h = one i k j (at X Y i) (at X Y k) (at X Y j) (area_of (orientation (at X Y i) (at X Y j) (at X Y k))) h
     go false h = one i j k (at X Y i) (at X Y j) (at X Y k) (area_of (orientation (at X Y i) (at X Y j) (at X Y k))) h
 
@@ -74,8 +73,8 @@ all_from P c u zero h = tt
 all_from P c u (suc t) h = All-append P (tris_from c u t) (tri_from c u t ∷ []) (all_from P c u t (λ i g. h i (omega arith))) (h t (omega arith), tt)
 
 three : (g : Geometry) → tri (get_or (corners_on g) 0 0) (get_or (corners_on g) 1 0) (get_or (corners_on g) 2 0) ≡ corners_of g
-three (Triangle g) = refl
-three (Degenerate t) = refl
+three (Ok g) = refl
+three (Err e) = refl
 
 module _ (X Y : ℕ → Float) (ts : ℕ → Tri) where
   -- before the first degenerate one none is

@@ -7,14 +7,13 @@ use mathlib.Core.Bool.{false}
 use mathlib.Core.List.{List}
 use lib.ListN.{length, get_or}
 use lib.Ieee.{Float, nan}
+use Rattle.std.specs.Prelude.{Ok, Err}
 use Rattle.mesh.specs.Mesh.{Tri, tri}
 use Rattle.edges.specs.Numbering.{tri_from, Below}
 use Rattle.slices.proofs.Runs.{sets-before, sets-within}
 use Rattle.floor.proofs.Lowest.{lowest-same}
-use Rattle.geometry.specs.declared.Geometry.{Geometry}
-use Rattle.geometry.specs.declared.Geometry.TheVariants.{Triangle, Degenerate}
 use Rattle.pass_geometries.specs.declared.GeometriesPlan.{GeometriesPlan}
-use Rattle.pass_geometries.specs.Geometries.{geometry_on, is_degenerate, corners_of, area_of, first_degenerate}
+use Rattle.pass_geometries.specs.Geometries.{geometry_on, is_degenerate, corners_of, area_of, first_degenerate, Geometry}
 use Rattle.pass_geometries.specs.Work.{area_on, joined, areas_up_to, wound_up_to, xs_in, ys_in, geometry_in, Cornered, GeometriesRoom, Kept}
 use Rattle.pass_geometries.proofs.Steps.{corners-below, kept-cornered, one-area}
 use Rattle.pass_geometries.proofs.Joined.{joined_length, joined_at}
@@ -45,8 +44,8 @@ below_all n c u (suc i) h = λ j g. go j g (h i (omega arith)) (below_all n c u 
 -- ---- what is left
 
 one : (g : Geometry) → get_or (area_on g) 0 nan ≡ area_of g
-one (Triangle g) = refl
-one (Degenerate t) = refl
+one (Ok g) = refl
+one (Err e) = refl
 
 module _ {p : GeometriesPlan} {r : ℕ} {w w' : List Float} {u u' : List ℕ} (room : GeometriesRoom p (length w) (length u)) (below : Below p.points p.given u (3 * p.triangles)) (k : Kept p w u w' u' r) where
   -- what stands before the areas and before the kept corners stays

@@ -10,6 +10,7 @@ use mathlib.Core.List.{List, [], ◌∷◌}
 use lib.ListN.{length, length-append, get_or}
 use lib.Seq.{sets, length-sets}
 use lib.Ieee.{Float, nan, lt}
+use Rattle.std.specs.Prelude.{Ok, Err}
 use Rattle.float.specs.Double.{lit}
 use Rattle.plane.specs.declared.Pair.{Pair}
 use Rattle.mesh.specs.Mesh.{Tri, tri}
@@ -17,12 +18,10 @@ use Rattle.edges.specs.Numbering.{tri_from, Below}
 use Rattle.slices.proofs.Runs.{sets-before, sets-append}
 use Rattle.floor.proofs.Lowest.{lowest-none, lowest-again, lowest-found}
 use Rattle.geometry.specs.declared.TriangleGeometry.{TriangleGeometry}
-use Rattle.geometry.specs.declared.Geometry.{Geometry}
-use Rattle.geometry.specs.declared.Geometry.TheVariants.{Triangle, Degenerate}
 use Rattle.plane.specs.Pair.{orientation}
 use Rattle.geometry.specs.Triangle.{geometry, placed, degenerate, area_of as area, at}
 use Rattle.pass_geometries.specs.declared.GeometriesPlan.{GeometriesPlan}
-use Rattle.pass_geometries.specs.Geometries.{geometry_on, is_degenerate, corners_of, first_degenerate}
+use Rattle.pass_geometries.specs.Geometries.{geometry_on, is_degenerate, corners_of, first_degenerate, Geometry}
 use Rattle.pass_geometries.specs.Work.{corners_on, area_on, joined, wound_up_to, areas_up_to, coords_from, xs_in, ys_in, geometry_in, Cornered, GeometriesRoom, Looked, Kept}
 
 -- ---- one triangle
@@ -49,8 +48,8 @@ kept-corners X Y i j k t h = swapped (lt (orientation p q r) (lit 0)) h
     r : Pair
     r = at X Y k
 
-    held : (a c e : ℕ) (P Q R : Pair) (w : Float) (d : Bool) → is_degenerate (cond d (Degenerate t) (Triangle (record { i = a; j = c; k = e; p = P; q = Q; r = R; area = w }))) ≡ false
-        → corners_of (cond d (Degenerate t) (Triangle (record { i = a; j = c; k = e; p = P; q = Q; r = R; area = w }))) ≡ tri a c e
+    held : (a c e : ℕ) (P Q R : Pair) (w : Float) (d : Bool) → is_degenerate (cond d (Err (record { triangle = t })) (Ok (record { i = a; j = c; k = e; p = P; q = Q; r = R; area = w }))) ≡ false
+        → corners_of (cond d (Err (record { triangle = t })) (Ok (record { i = a; j = c; k = e; p = P; q = Q; r = R; area = w }))) ≡ tri a c e
     held a c e P Q R w true h = let z : ◌≡◌ {A = ℕ} 0 1 = cc in absurd (omega arith)
     held a c e P Q R w false h = refl
 
@@ -66,18 +65,18 @@ kept-cornered X Y m t (tri i j k) b h = ⊎_elim (λ e. subst (Cornered m) (sym 
 -- ---- the triangle is looked at
 
 module _ (p : GeometriesPlan) (i : ℕ) (w : List Float) (u : List ℕ) {f : Geometry} (read : f ≡ geometry_in p w u i) where
-  pub looked-none : (t : ℕ) → f ≡ Degenerate t → Looked p i w u w u false
+  pub looked-none : (t : ℕ) → f ≡ Err (record { triangle = t }) → Looked p i w u w u false
   looked-none t h =
-      let z : geometry_in p w u i ≡ Degenerate t = sym read ∙ h in
+      let z : geometry_in p w u i ≡ Err (record { triangle = t }) = sym read ∙ h in
       record {
         sound = sym (ap (λ (g : Geometry). not (is_degenerate g)) z);
         area = sym (ap (λ (g : Geometry). sets w (p.areas + i) (area_on g)) z);
         corners = sym (ap (λ (g : Geometry). sets u (p.wound + 3 * i) (corners_on g)) z);
       }
 
-  pub looked-kept : {w' : List Float} {u' : List ℕ} (g : TriangleGeometry) → f ≡ Triangle g → w' ≡ sets w (p.areas + i) (g.area ∷ []) → u' ≡ sets u (p.wound + 3 * i) (g.i ∷ g.j ∷ g.k ∷ []) → Looked p i w u w' u' true
+  pub looked-kept : {w' : List Float} {u' : List ℕ} (g : TriangleGeometry) → f ≡ Ok g → w' ≡ sets w (p.areas + i) (g.area ∷ []) → u' ≡ sets u (p.wound + 3 * i) (g.i ∷ g.j ∷ g.k ∷ []) → Looked p i w u w' u' true
   looked-kept g h r s =
-      let z : geometry_in p w u i ≡ Triangle g = sym read ∙ h in
+      let z : geometry_in p w u i ≡ Ok g = sym read ∙ h in
       record {
         sound = sym (ap (λ (g : Geometry). not (is_degenerate g)) z);
         area = r ∙ sym (ap (λ (g : Geometry). sets w (p.areas + i) (area_on g)) z);
@@ -85,9 +84,9 @@ module _ (p : GeometriesPlan) (i : ℕ) (w : List Float) (u : List ℕ) {f : Geo
       }
 
   -- its corners fit 32 bits
-  pub corners-fit : (g : TriangleGeometry) → p.points ≤ 2 ^ 32 → i < p.triangles → Below p.points p.given u (3 * p.triangles) → f ≡ Triangle g → Cornered (2 ^ 32) (tri g.i g.j g.k)
+  pub corners-fit : (g : TriangleGeometry) → p.points ≤ 2 ^ 32 → i < p.triangles → Below p.points p.given u (3 * p.triangles) → f ≡ Ok g → Cornered (2 ^ 32) (tri g.i g.j g.k)
   corners-fit g narrow it below h =
-      let e : geometry_in p w u i ≡ Triangle g = sym read ∙ h in
+      let e : geometry_in p w u i ≡ Ok g = sym read ∙ h in
       let b = corners-below p.points p.given u i (λ j l. below j (omega arith)) in
       let z = subst (λ (g : Geometry). Cornered p.points (corners_of g)) e (kept-cornered (xs_in p w) (ys_in p w) p.points i (tri_from p.given u i) b (ap is_degenerate e)) in
       (omega (arith, z.0), (omega (arith, z.1.0), omega (arith, z.1.1)))
@@ -108,8 +107,8 @@ to_none p w u = record { sound = lowest-none _; areas = refl; wound = refl; many
 
 -- a geometry that is not degenerate has one area and three corners
 pub one-area : (g : Geometry) → is_degenerate g ≡ false → (length (area_on g) ≡ 1) × (length (corners_on g) ≡ 3)
-one-area (Triangle g) h = (refl, refl)
-one-area (Degenerate d) h = let z : ◌≡◌ {A = ℕ} (cond true 0 1) (cond false 0 1) = ap (λ (b : Bool). cond b 0 1) h in absurd (omega (arith, z))
+one-area (Ok g) h = (refl, refl)
+one-area (Err e) h = let z : ◌≡◌ {A = ℕ} (cond true 0 1) (cond false 0 1) = ap (λ (b : Bool). cond b 0 1) h in absurd (omega (arith, z))
 
 not-false : (b : Bool) → true ≡ not b → b ≡ false
 not-false true h = h
@@ -121,8 +120,8 @@ not-true false h = h
 
 -- a degenerate one has none
 nothing : (g : Geometry) → is_degenerate g ≡ true → (area_on g ≡ []) × (corners_on g ≡ [])
-nothing (Triangle g) h = let z : ◌≡◌ {A = ℕ} (cond false 0 1) (cond true 0 1) = ap (λ (b : Bool). cond b 0 1) h in absurd (omega (arith, z))
-nothing (Degenerate d) h = (refl, refl)
+nothing (Ok g) h = let z : ◌≡◌ {A = ℕ} (cond false 0 1) (cond true 0 1) = ap (λ (b : Bool). cond b 0 1) h in absurd (omega (arith, z))
+nothing (Err e) h = (refl, refl)
 
 pub to-lengths : {p : GeometriesPlan} {i : ℕ} {w₀ w : List Float} {u₀ u : List ℕ} → To p i w₀ u₀ w u → (length w ≡ length w₀) × (length u ≡ length u₀)
 to-lengths {p} {i} {w₀} {w} {u₀} k =

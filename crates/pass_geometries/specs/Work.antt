@@ -1,23 +1,22 @@
 -- Memory of the geometries: what `geometries` leaves in the two work slices, up to the first degenerate triangle, and the room that it requires.
-use Rattle.std.specs.Prelude.{ℕ, zero, suc, ◌+◌, ◌*◌, ◌^◌, ◌≤◌, ◌<◌, ◌≡◌, Bool, not, List, [], ◌∷◌, ◌++◌, get_or, Float}
+use Rattle.std.specs.Prelude.{ℕ, zero, suc, ◌+◌, ◌*◌, ◌^◌, ◌≤◌, ◌<◌, ◌≡◌, Bool, not, List, [], ◌∷◌, ◌++◌, get_or, Float, Result, Ok, Err}
 use Rattle.std.proofs.lemmas.List.Edits.{sets}
 use Rattle.std.specs.Float.{nan}
 use Rattle.mesh.specs.Mesh.{Tri, tri}
 use Rattle.edges.specs.Numbering.{tri_from}
-use Rattle.geometry.specs.declared.Geometry.{Geometry}
-use Rattle.geometry.specs.declared.Geometry.TheVariants.{Triangle, Degenerate}
+use Rattle.geometry.specs.declared.Degenerate.{Degenerate}
 use Rattle.geometry.specs.Triangle.{geometry, at}
 use Rattle.pass_geometries.specs.declared.GeometriesPlan.{GeometriesPlan}
-use Rattle.pass_geometries.specs.Geometries.{geometry_on, is_degenerate, first_degenerate}
+use Rattle.pass_geometries.specs.Geometries.{geometry_on, is_degenerate, first_degenerate, Geometry}
 
 -- what one triangle adds to the slices: its corners counter-clockwise, and its area; nothing where it is degenerate
 abbrev pub corners_on : Geometry → List ℕ
-corners_on (Triangle g) = g.i ∷ g.j ∷ g.k ∷ []
-corners_on (Degenerate t) = []
+corners_on (Ok g) = g.i ∷ g.j ∷ g.k ∷ []
+corners_on (Err e) = []
 
 abbrev pub area_on : Geometry → List Float
-area_on (Triangle g) = g.area ∷ []
-area_on (Degenerate t) = []
+area_on (Ok g) = g.area ∷ []
+area_on (Err e) = []
 
 -- f 0, f 1, .., f (i - 1), one behind the other
 unfoldable pub joined : {A : Type 0} → (ℕ → List A) → ℕ → List A
@@ -63,6 +62,11 @@ pub record Looked (p : GeometriesPlan) (i : ℕ) (w : List Float) (u : List ℕ)
   pub sound : b ≡ not (is_degenerate (geometry_in p w u i))
   pub area : w' ≡ sets w (p.areas + i) (area_on (geometry_in p w u i))
   pub corners : u' ≡ sets u (p.wound + 3 * i) (corners_on (geometry_in p w u i))
+
+-- how many triangles were looked at, of n, before the degenerate one of the answer
+abbrev pub reached : ℕ → Result (Unit {0}) Degenerate → ℕ
+reached n (Ok tt) = n
+reached n (Err e) = e.triangle
 
 -- the triangles before the first degenerate one, r, are kept
 pub record Kept (p : GeometriesPlan) (w : List Float) (u : List ℕ) (w' : List Float) (u' : List ℕ) (r : ℕ) : Type 0 where

@@ -2,15 +2,15 @@
 // degenerate, which is refusal 19. specs/Geometries.antt says what is kept.
 #![tactic(auto)]
 
-ghost use Rattle.std.specs.Prelude.{◌≡◌, [], ◌∷◌, ◌+◌, ◌*◌, ◌<◌, ◌≤◌, ◌^◌, length};
+ghost use Rattle.std.specs.Prelude.{◌≡◌, [], ◌∷◌, ◌+◌, ◌*◌, ◌<◌, ◌≤◌, ◌^◌, length, is_ok, IfErr};
 ghost use Rattle.std.proofs.lemmas.List.Edits.{sets};
 ghost use Rattle.edges.specs.Numbering.{Below};
 ghost use Rattle.mesh.specs.Mesh.{tri};
 ghost use Rattle.geometry.specs.Triangle.{at};
 ghost use Rattle.pass_geometries.specs.Geometries.{geometry_on};
-ghost use Rattle.pass_geometries.specs.Work.{coords_from, xs_in, ys_in, geometry_in, Cornered, GeometriesRoom, Looked, Kept};
+ghost use Rattle.pass_geometries.specs.Work.{coords_from, xs_in, ys_in, geometry_in, Cornered, GeometriesRoom, Looked, reached, Kept};
 
-use geometry::{Geometry, TriangleGeometry};
+use geometry::{Degenerate, TriangleGeometry};
 use plane::Pair;
 
 // How many points and triangles there are, and where: in the f64 work the coordinates, and the areas that are kept; in the u32 work the corners as
@@ -38,7 +38,14 @@ pub fn position(work: &[f64], x: usize, y: usize, v: usize) -> Pair
 }
 
 // Triangle t, of the corners i, j and k.
-fn geometry_of(work: &[f64], p: GeometriesPlan, i: usize, j: usize, k: usize, t: usize) -> Geometry
+fn geometry_of(
+    work: &[f64],
+    p: GeometriesPlan,
+    i: usize,
+    j: usize,
+    k: usize,
+    t: usize,
+) -> Result<TriangleGeometry, Degenerate>
     requires points_in_bounds { (p.x + p.points ≤ length work.now) × (p.y + p.points ≤ length work.now) }
     requires cornered { Cornered p.points (tri i j k) }
     ensures { result ≡ geometry_on (xs_in p work.now) (ys_in p work.now) (tri i j k) t }
@@ -50,7 +57,12 @@ fn geometry_of(work: &[f64], p: GeometriesPlan, i: usize, j: usize, k: usize, t:
 }
 
 // Triangle t as given.
-fn geometry_at(work: &[f64], words: &[u32], p: GeometriesPlan, t: usize) -> Geometry
+fn geometry_at(
+    work: &[f64],
+    words: &[u32],
+    p: GeometriesPlan,
+    t: usize,
+) -> Result<TriangleGeometry, Degenerate>
     requires geometries_room { GeometriesRoom p (length work.now) (length words.now) × (t < p.triangles) }
     requires below { Below p.points p.given words.now (3 * p.triangles) }
     ensures { result ≡ geometry_in p work.now words.now t }
@@ -73,33 +85,36 @@ fn keep(work: &mut [f64], words: &mut [u32], p: GeometriesPlan, t: usize, g: Tri
     work[p.areas + t] = g.area;
 }
 
-// Looks at triangle t: whether it has a geometry, which is then kept.
-fn look(work: &mut [f64], words: &mut [u32], p: GeometriesPlan, t: usize) -> bool
+// Looks at triangle t: its geometry is kept, where it has one.
+fn look(
+    work: &mut [f64],
+    words: &mut [u32],
+    p: GeometriesPlan,
+    t: usize,
+) -> Result<(), Degenerate>
     requires geometries_room { GeometriesRoom p (length work.old) (length words.old) × (t < p.triangles) }
     requires below { Below p.points p.given words.old (3 * p.triangles) }
-    ensures { Looked p t work.old words.old work.new words.new result }
+    ensures looked { Looked p t work.old words.old work.new words.new (is_ok result) }
+    ensures place { IfErr result (λ e. e.triangle ≡ t) }
 {
-    let found = geometry_at(work, words, p, t);
-    let Geometry::Triangle(g) = found else {
-        return false;
-    };
+    let g = geometry_at(work, words, p, t)?;
     keep(work, words, p, t, g);
-    true
+    Ok(())
 }
 
-// Keeps the geometry of the triangles before the first degenerate one, and answers that one's number, or how many there are where there is none.
-pub fn geometries(work: &mut [f64], words: &mut [u32], p: GeometriesPlan) -> usize
+// Keeps the geometry of the triangles before the first degenerate one, which is the error.
+pub fn geometries(
+    work: &mut [f64],
+    words: &mut [u32],
+    p: GeometriesPlan,
+) -> Result<(), Degenerate>
     requires geometries_room { GeometriesRoom p (length work.old) (length words.old) }
     requires below { Below p.points p.given words.old (3 * p.triangles) }
-    ensures { Kept p work.old words.old work.new words.new result }
+    ensures kept { Kept p work.old words.old work.new words.new (reached p.triangles result) }
+    ensures place { IfErr result (λ e. e.triangle < p.triangles) }
 {
-    let mut i = 0;
-    while i < p.triangles {
-        if look(work, words, p, i) {
-            i += 1;
-        } else {
-            return i;
-        }
+    for i in 0..p.triangles {
+        look(work, words, p, i)?;
     }
-    i
+    Ok(())
 }

@@ -17,9 +17,7 @@ use Rattle.linear_cells.proofs.Changes.{part-region}
 use Rattle.floor.specs.Floor.{Floor, triangle_count}
 use Rattle.floor.proofs.Lowest.{lowest-most}
 use Rattle.pass_gradients.specs.Gradients.{first_refused}
-use Rattle.pass_transports.specs.declared.Answer.{Answer}
-use Rattle.pass_transports.specs.declared.Answer.TheVariants as answer
-use Rattle.pass_transports.specs.Transports.{end_of, first_mean, transports_answer}
+use Rattle.pass_transports.specs.Transports.{end_of, first_mean, transports_answer, Answer}
 use Rattle.pass_transports.specs.Work.{points_from, kept_to, Ends, Transported}
 use Rattle.pass_transports.specs.Work as transports
 use Rattle.pass_transports.proofs.Steps.{transported-length}
@@ -156,18 +154,18 @@ module _ {l : Layout} {m : ℕ} {w : List Float} {u : List ℕ} (o : Ordered l (
       edged = j.edged;
     })
 
-    row-22 : (a b : ℕ) → r ≡ answer.MeanSize a b → {s : Setup} → s ≡ Err (between a b) → SetUp l w u w₁ u s
+    row-22 : (a b : ℕ) → r ≡ Err (record { from = a; to = b }) → {s : Setup} → s ≡ Err (between a b) → SetUp l w u w₁ u s
     row-22 a b e q = refused-by (between a b) stays q (sym (rest (floor_in l w u) t.none j.averaged.sound (sym answered ∙ e))) (λ h. absurd (omega (arith, none-refused t))) (λ h. still-turned)
         (λ h. still-summed) (means-sound j.averaged.sound) (λ h p. still-joined)
 
-    carried : r ≡ answer.Done → region_c w₁ l.transports m ≡ transports_of (floor_in l w u)
+    carried : r ≡ Ok tt → region_c w₁ l.transports m ≡ transports_of (floor_in l w u)
     unfolding transports_of
     carried e =
         ap (region_c w₁ l.transports) (sym graph.all-a)
         ∙ transported-region (transports_at l) _ _ w w₁ (room refl) d e
         ∙ coefficients-same (points_from w (transports_at l)) (points_in (floor_in l w u)) l.points _ _ ends point
 
-    done : r ≡ answer.Done → SetUp l w u w₁ u (Ok m)
+    done : r ≡ Ok tt → SetUp l w u w₁ u (Ok m)
     done e = record {
       answer = ap Ok j.all_edges ∙ sym (rest (floor_in l w u) t.none j.averaged.sound (sym answered ∙ e));
       all-reals = stays.all-reals;
@@ -201,8 +199,8 @@ module _ {l : Layout} {m : ℕ} {w : List Float} {u : List ℕ} (o : Ordered l (
   over-lists : Transported (transports_at l) (lowers_of (floor_in l w u)) (uppers_of (floor_in l w u)) w w₁ r
   over-lists = rw (← e, ← h) d
 
-  pub refused-22 : (a b : ℕ) → r ≡ answer.MeanSize a b → {s : Setup} → s ≡ Err (between a b) → SetUp l w u w₁ u s
+  pub refused-22 : (a b : ℕ) → r ≡ Err (record { from = a; to = b }) → {s : Setup} → s ≡ Err (between a b) → SetUp l w u w₁ u s
   refused-22 = row-22 o j over-lists
 
-  pub all_done : r ≡ answer.Done → SetUp l w u w₁ u (Ok m)
+  pub all_done : r ≡ Ok tt → SetUp l w u w₁ u (Ok m)
   all_done = done o j over-lists

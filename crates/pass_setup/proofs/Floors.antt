@@ -22,13 +22,12 @@ use Rattle.pass_geometries.specs.Geometries.{geometry_on, is_degenerate, corners
 use Rattle.pass_geometries.specs.Work.{Cornered}
 use Rattle.pass_geometries.proofs.Steps.{kept-corners}
 use Rattle.pass_geometries.proofs.Good.{sound-before, first-most, degenerate-at, good-at, good-swapped}
-use Rattle.pass_transports.specs.declared.Answer.{Answer}
-use Rattle.pass_transports.specs.declared.Answer.TheVariants as answer
 use Rattle.pass_transports.specs.Transports as transports
 use Rattle.pass_transports.proofs.Lists.{length-coefficients}
 use Rattle.mesh.specs.Claim.{InRange}
 use Rattle.refusals.specs.Refusal.{row_at, Verdict}
 use Rattle.pass_setup.specs.Setup.{geometry_at, degenerate_of, wound_of, areas_of, means_of, gradients_x, gradients_y, edges_of, lowers_of, uppers_of, points_in, transports_of, triangle_refusal, after_transports, after_means, setup_of, Setup}
+use Rattle.pass_transports.specs.Transports.{Answer}
 
 -- ---- what holds of all of a list, place by place
 
@@ -139,9 +138,9 @@ after-means : (c : Verdict) (next : Setup) {m : ℕ} → after_means c next ≡ 
 after-means (Ok tt) next h = (refl, h)
 after-means (Err x) next h = let z : ◌≡◌ {A = ℕ} 0 1 = cc in absurd (omega arith)
 
-after-transports : (k : ℕ) (a : Answer) {m : ℕ} → after_transports k a ≡ Ok m → (a ≡ answer.Done) × (k ≡ m)
-after-transports k answer.Done h = (refl, cc)
-after-transports k (answer.MeanSize i j) h = let z : ◌≡◌ {A = ℕ} 0 1 = cc in absurd (omega arith)
+after-transports : (k : ℕ) (a : Answer) {m : ℕ} → after_transports k a ≡ Ok m → (a ≡ Ok tt) × (k ≡ m)
+after-transports k (Ok tt) h = (refl, cc)
+after-transports k (Err e) h = let z : ◌≡◌ {A = ℕ} 0 1 = cc in absurd (omega arith)
 
 module _ (f : Floor) {m : ℕ} (h : setup_of f ≡ Ok m) where
   passed : (degenerate_of f ≡ triangle_count f) × (after_means (means_of f) (after_transports (length (edges_of f)) (transports.transports_answer (points_in f) (lowers_of f) (uppers_of f))) ≡ Ok m)

@@ -17,12 +17,10 @@ use Rattle.mesh.specs.Mesh.{Tri, tri}
 use Rattle.refusals.specs.Refusal.{row_at}
 use Rattle.floor.specs.Floor.{Floor, point_count, triangle_count, value_at, triangle_at}
 use Rattle.floor.proofs.Lowest.{lowest-most, lowest-before, lowest-clear, lowest-holds, lowest-is}
-use Rattle.geometry.specs.declared.Geometry.{Geometry}
-use Rattle.geometry.specs.declared.Geometry.TheVariants as geometries
 use Rattle.geometry.specs.declared.TriangleGeometry.{TriangleGeometry}
 use Rattle.geometry.specs.Triangle.{area_of, degenerate, placed, geometry}
 use Rattle.geometry.proofs.Sound.{positive-area}
-use Rattle.pass_geometries.specs.Geometries.{geometry_on, is_degenerate}
+use Rattle.pass_geometries.specs.Geometries.{geometry_on, is_degenerate, Geometry}
 use Rattle.pass_geometries.specs.Geometries as geo
 use Rattle.pass_geometries.proofs.Good.{no-refusal}
 use Rattle.pass_gradients.specs.Gradients.{not_finite, row_of, row_of_point, first_refused, check_means}
@@ -41,7 +39,7 @@ module _ (f : Floor) (none : degenerate_of f ≡ triangle_count f) where
   unfolding placed
   placed-area a b c p q r w i h = go (record { i = a; j = b; k = c; p = p; q = q; r = r; area = w }) (degenerate p q r w) h
     where
-      go : (g : TriangleGeometry) (d : Bool) → is_degenerate (cond d (geometries.Degenerate i) (geometries.Triangle g)) ≡ false → geo.area_of (cond d (geometries.Degenerate i) (geometries.Triangle g)) ≡ g.area
+      go : (g : TriangleGeometry) (d : Bool) → is_degenerate (cond d (Err (record { triangle = i })) (Ok g)) ≡ false → geo.area_of (cond d (Err (record { triangle = i })) (Ok g)) ≡ g.area
       go g true h = absurd (subst T h tt)
       go g false h = refl
 

@@ -18,11 +18,8 @@ use Rattle.edges.specs.Sides.{lower, upper}
 use Rattle.refusals.specs.Refusal.{row_at, between, Verdict}
 use Rattle.floor.specs.Floor.{Floor, point_count, triangle_count, value_at}
 use Rattle.floor.proofs.Lowest.{lowest-most, lowest-before, lowest-clear, lowest-holds, lowest-is}
-use Rattle.geometry.specs.declared.Transport.TheVariants.{Coefficient, MeanSize}
 use Rattle.geometry.specs.Edge.{transport_of}
 use Rattle.pass_gradients.specs.Gradients.{first_refused}
-use Rattle.pass_transports.specs.declared.Answer.{Answer}
-use Rattle.pass_transports.specs.declared.Answer.TheVariants as answer
 use Rattle.pass_transports.specs.Transports as transports
 use Rattle.refusals.specs.declared.Refusal.{Refusal}
 use Rattle.pass_setup.specs.Setup.{degenerate_of, sum_x, sum_y, weight_of, means_of, edges_of, lowers_of, uppers_of, points_in, after_transports, after_means, setup_of, Setup}
@@ -31,6 +28,7 @@ use Rattle.pass_setup.proofs.Keyed.{Keyed}
 use Rattle.pass_setup.proofs.Floors.{at_all, get_d_map, length-lowers, fault-19, wound-good, edges-keyed}
 use Rattle.pass_setup.proofs.Triangles.{Tests, passed, failed, most-19, before-19, holds-19, is-19, clear-19, no-19}
 use Rattle.pass_setup.proofs.Points.{most-point, before-point, holds-point, means-clear, means-at, row-20, row-21, tests-20}
+use Rattle.pass_transports.specs.Transports.{Answer}
 
 module _ (f : Floor) where
   -- ---- row 22, where row 19 holds of no triangle
@@ -64,7 +62,7 @@ module _ (f : Floor) where
     unfolding transports.transport_at transports.end_of transports.points_of points_in transport_of not_positive
     refused-is e = go _ (not (is_finite (mean_at e)) || le (mean_at e) (lit 0))
       where
-        go : (z : Complex) (b : Bool) → transports.is_refused (cond b (MeanSize (lower_of f e) (upper_of f e)) (Coefficient z)) ≡ b
+        go : (z : Complex) (b : Bool) → transports.is_refused (cond b (Err (record { from = lower_of f e; to = upper_of f e })) (Ok z)) ≡ b
         go z true = refl
         go z false = refl
 
@@ -92,7 +90,7 @@ module _ (f : Floor) where
     unfolding transports.first_mean
     holds-22 l = (tests-22 first_edge l).0 (lowest-holds is_refused_at (length (lowers_of f)) (omega (arith, length-lowers f)))
 
-    answer-clear : NoneBefore (Row22 f) (length (edges_of f)) → answered ≡ answer.Done
+    answer-clear : NoneBefore (Row22 f) (length (edges_of f)) → answered ≡ Ok tt
     unfolding transports.transports_answer transports.first_mean
     answer-clear n =
         rw (
@@ -100,7 +98,7 @@ module _ (f : Floor) where
           le-ltb (length (lowers_of f)) (length (lowers_of f)) (omega arith),
         )
 
-    answer_at : (e : ℕ) → e < length (edges_of f) → Row22 f e → NoneBefore (Row22 f) e → answered ≡ answer.MeanSize (lower_of f e) (upper_of f e)
+    answer_at : (e : ℕ) → e < length (edges_of f) → Row22 f e → NoneBefore (Row22 f) e → answered ≡ Err (record { from = lower_of f e; to = upper_of f e })
     unfolding transports.transports_answer transports.first_mean
     answer_at e l r n =
         let m : e < length (lowers_of f) = omega (arith, length-lowers f) in

@@ -6,11 +6,11 @@ use mathlib.Core.Logic.{◌⊎◌, inl, inr}
 use mathlib.Core.Bool.{Bool, true, false, not, cond, ◌||◌}
 use lib.Dec.{T}
 use lib.Ieee.{Float, lt, le}
+use Rattle.std.specs.Prelude.{Ok, Err}
 use Rattle.float.specs.Double.{lit, is_finite, ◌⊗◌}
 use Rattle.mesh.specs.Mesh.{Tri, tri}
 use Rattle.floor.specs.Floor.{Floor, triangle_count, value_at, triangle_at}
 use Rattle.floor.proofs.Lowest.{lowest-most, lowest-before, lowest-clear, lowest-holds, lowest-is}
-use Rattle.geometry.specs.declared.Geometry.TheVariants as geometries
 use Rattle.geometry.specs.declared.TriangleGeometry.{TriangleGeometry}
 use Rattle.geometry.specs.Triangle.{longest, SMALLEST-AREA, degenerate, placed, geometry}
 use Rattle.pass_geometries.specs.Geometries.{geometry_on, is_degenerate, first_degenerate}
@@ -53,7 +53,7 @@ neither false b = (λ h. inl refl, λ h. refl)
 module _ (f : Floor) where
   -- ---- row 19
 
-  shape : (d : Bool) (i : ℕ) (g : TriangleGeometry) → is_degenerate (cond d (geometries.Degenerate i) (geometries.Triangle g)) ≡ d
+  shape : (d : Bool) (i : ℕ) (g : TriangleGeometry) → is_degenerate (cond d (Err (record { triangle = i })) (Ok g)) ≡ d
   shape true i g = refl
   shape false i g = refl
 

@@ -7,15 +7,13 @@ use Rattle.linear_cells.specs.Region.{tab}
 use Rattle.mesh.specs.Mesh.{Tri, Side, sides_after}
 use Rattle.edges.specs.Sides.{lower, upper}
 use Rattle.floor.specs.Floor.{Floor, point_count, triangle_count, value_at, triangle_at}
-use Rattle.geometry.specs.declared.Geometry.{Geometry}
 use Rattle.geometry.specs.Triangle.{number, place}
-use Rattle.pass_geometries.specs.Geometries.{geometry_on, corners_of, area_of, first_degenerate}
+use Rattle.pass_geometries.specs.Geometries.{geometry_on, corners_of, area_of, first_degenerate, Geometry}
 use Rattle.pass_gradients.specs.Gradients.{sum_to, weighed_x, weighed_y, check_means}
-use Rattle.pass_transports.specs.declared.Answer.{Answer}
-use Rattle.pass_transports.specs.declared.Answer.TheVariants as answer
 use Rattle.pass_transports.specs.Transports as transports
 use Rattle.refusals.specs.declared.Refusal.{Refusal}
 use Rattle.refusals.specs.Refusal.{row_at, Verdict}
+use Rattle.pass_transports.specs.Transports.{Answer}
 
 -- ---- the triangles, lines 1245 to 1264
 
@@ -85,8 +83,8 @@ abbrev pub edge_refusal : Answer → Refusal
 edge_refusal a = record { number = transports.number a; place = get_or (transports.place a) 0 0; other = get_or (transports.place a) 1 0; pass = 0; reason = 0 }
 
 abbrev pub after_transports : ℕ → Answer → Setup
-after_transports m answer.Done = Ok m
-after_transports m (answer.MeanSize a b) = Err (edge_refusal (answer.MeanSize a b))
+after_transports m (Ok tt) = Ok m
+after_transports m (Err e) = Err (edge_refusal (Err e))
 
 abbrev pub after_means : Verdict → Setup → Setup
 after_means (Ok tt) next = next

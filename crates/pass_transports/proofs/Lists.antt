@@ -9,6 +9,7 @@ use borrow.Author.Tests.{lt-ltb, ltb-false}
 use lib.Dec.{ltb}
 use lib.ListN.{length, get_or}
 use lib.Ieee.{Float, nan}
+use Rattle.std.specs.Prelude.{Ok}
 use Rattle.complex.specs.declared.Complex.{Complex}
 use Rattle.floor.proofs.Lowest.{lowest-most, lowest-same}
 use Rattle.linear_cells.specs.Region.{region}
@@ -16,19 +17,17 @@ use Rattle.linear_cells.specs.Cell.{region_c, put_c}
 use Rattle.linear_cells.proofs.Loops.{apart, length-tab, tab-ext}
 use Rattle.linear_cells.proofs.Regions.{get_or-region}
 use Rattle.linear_cells.proofs.Cells.{length-region_c, region_c-put_c, put_c-else-real}
-use Rattle.pass_transports.specs.declared.Answer.{Answer}
-use Rattle.pass_transports.specs.declared.Answer.TheVariants as answer
 use Rattle.pass_transports.specs.declared.TransportsPlan.{TransportsPlan}
-use Rattle.pass_transports.specs.Transports.{Points, points_of, end_of, transport_at, is_refused, coefficient, first_mean, coefficient_at, coefficients_of, refused_at, transports_answer}
+use Rattle.pass_transports.specs.Transports.{Points, points_of, end_of, transport_at, is_refused, coefficient, first_mean, coefficient_at, coefficients_of, refused_at, transports_answer, Answer}
 use Rattle.pass_transports.specs.Work.{points_from, TransportsRoom, Ends, kept_to, Transported}
 
 -- ---- accepted
 
-done_first : (p : Points) (a b : List ℕ) → transports_answer p a b ≡ answer.Done → first_mean p a b (length a) ≡ length a
+done_first : (p : Points) (a b : List ℕ) → transports_answer p a b ≡ Ok tt → first_mean p a b (length a) ≡ length a
 unfolding transports_answer first_mean
 done_first p a b h = go (ltb (first_mean p a b (length a)) (length a)) refl h
   where
-    go : (c : Bool) → ltb (first_mean p a b (length a)) (length a) ≡ c → cond c (refused_at a b (first_mean p a b (length a))) answer.Done ≡ answer.Done → first_mean p a b (length a) ≡ length a
+    go : (c : Bool) → ltb (first_mean p a b (length a)) (length a) ≡ c → cond c (refused_at a b (first_mean p a b (length a))) (Ok tt) ≡ Ok tt → first_mean p a b (length a) ≡ length a
     go true e h = let z : ◌≡◌ {A = ℕ} 0 1 = cc in absurd (omega arith)
     go false e h = omega (arith, ltb-false (first_mean p a b (length a)) (length a) e, lowest-most (λ e. is_refused (transport_at p a b e)) (length a))
 
@@ -37,7 +36,7 @@ unfolding kept_to coefficients_of
 all-kept p a b v k = rw k (tab-ext _ _ (length a) (λ e l. rw (lt-ltb e (length a) l)))
 
 -- the vector of all coefficients, and nothing else
-pub transported-all : (l : TransportsPlan) (a b : List ℕ) (w w' : List Float) {r : Answer} → Transported l a b w w' r → r ≡ answer.Done → w' ≡ put_c w l.transports (coefficients_of (points_from w l) a b)
+pub transported-all : (l : TransportsPlan) (a b : List ℕ) (w w' : List Float) {r : Answer} → Transported l a b w w' r → r ≡ Ok tt → w' ≡ put_c w l.transports (coefficients_of (points_from w l) a b)
 transported-all l a b w w' t h =
     t.work
     ∙ rw (done_first (points_from w l) a b (sym t.result ∙ h))
@@ -47,7 +46,7 @@ pub length-coefficients : (p : Points) (a b : List ℕ) → length (coefficients
 unfolding coefficients_of
 length-coefficients p a b = length-tab _ (length a)
 
-pub transported-region : (l : TransportsPlan) (a b : List ℕ) (w w' : List Float) {r : Answer} → TransportsRoom (length w) l (length a) → Transported l a b w w' r → r ≡ answer.Done
+pub transported-region : (l : TransportsPlan) (a b : List ℕ) (w w' : List Float) {r : Answer} → TransportsRoom (length w) l (length a) → Transported l a b w w' r → r ≡ Ok tt
     → region_c w' l.transports (length a) ≡ coefficients_of (points_from w l) a b
 transported-region l a b w w' ok t h =
     ap (λ o. region_c o l.transports (length a)) (transported-all l a b w w' t h)

@@ -12,20 +12,17 @@ use lib.Dec.{ltb}
 use lib.ListN.{length, get_or}
 use lib.Seq.{ext_get_or}
 use lib.Ieee.{Float, nan}
+use Rattle.std.specs.Prelude.{Ok, Err}
 use Rattle.complex.specs.declared.Complex.{Complex}
 use Rattle.complex.specs.Complex.{cnan}
 use Rattle.floor.proofs.Lowest.{lowest-none, lowest-again, lowest-found}
-use Rattle.geometry.specs.declared.Transport.{Transport}
-use Rattle.geometry.specs.declared.Transport.TheVariants.{Coefficient, MeanSize}
 use Rattle.linear_cells.specs.Region.{tab}
 use Rattle.linear_cells.specs.Cell.{set_c, region_c, put_c}
 use Rattle.linear_cells.proofs.Loops.{apart, length-tab, get_or-tab}
 use Rattle.linear_cells.proofs.Cells.{length-region_c, length-put_c, put_c-region_c, put_c-else-real}
 use Rattle.linear_cells.proofs.Over.{over, over_none, length_over, over-todo, over_done, over-cell}
-use Rattle.pass_transports.specs.declared.Answer.{Answer}
-use Rattle.pass_transports.specs.declared.Answer.TheVariants as answer
 use Rattle.pass_transports.specs.declared.TransportsPlan.{TransportsPlan}
-use Rattle.pass_transports.specs.Transports.{Points, end_of, transport_at, is_refused, coefficient, first_mean, coefficient_at, refused_at, transports_answer}
+use Rattle.pass_transports.specs.Transports.{Points, end_of, transport_at, is_refused, coefficient, first_mean, coefficient_at, refused_at, transports_answer, Answer, Transport}
 use Rattle.pass_transports.specs.Work.{points_from, TransportsRoom, Ends, kept, Looked, kept_to, Transported}
 
 -- ---- the points of a slice that is the same below the coefficients
@@ -48,24 +45,24 @@ module _ (w w' : List Float) (l : TransportsPlan) {len m : ℕ} (ok : Transports
 
 -- ---- one edge
 
-pub looked-none : {l : TransportsPlan} (a b : List ℕ) (e : ℕ) (w : List Float) (i j : ℕ) {f : Transport} → f ≡ transport_at (points_from w l) a b e → f ≡ MeanSize i j → Looked l a b e w w false
+pub looked-none : {l : TransportsPlan} (a b : List ℕ) (e : ℕ) (w : List Float) (i j : ℕ) {f : Transport} → f ≡ transport_at (points_from w l) a b e → f ≡ Err (record { from = i; to = j }) → Looked l a b e w w false
 looked-none {l} a b e w i j p q =
-    let z : transport_at (points_from w l) a b e ≡ MeanSize i j = sym p ∙ q in
+    let z : transport_at (points_from w l) a b e ≡ Err (record { from = i; to = j }) = sym p ∙ q in
     record { sound = sym (ap (λ (t : Transport). not (is_refused t)) z); work = sym (ap (kept w l.transports (length a) e) z) }
 
-pub looked-kept : {l : TransportsPlan} (a b : List ℕ) (e : ℕ) (w : List Float) {w' : List Float} (z : Complex) {f : Transport} → f ≡ transport_at (points_from w l) a b e → f ≡ Coefficient z
+pub looked-kept : {l : TransportsPlan} (a b : List ℕ) (e : ℕ) (w : List Float) {w' : List Float} (z : Complex) {f : Transport} → f ≡ transport_at (points_from w l) a b e → f ≡ Ok z
     → w' ≡ set_c w l.transports (length a) e z → Looked l a b e w w' true
 looked-kept {l} a b e w c p q s =
-    let z : transport_at (points_from w l) a b e ≡ Coefficient c = sym p ∙ q in
+    let z : transport_at (points_from w l) a b e ≡ Ok c = sym p ∙ q in
     record { sound = sym (ap (λ (t : Transport). not (is_refused t)) z); work = s ∙ sym (ap (kept w l.transports (length a) e) z) }
 
 kept-some : (w : List Float) (b m e : ℕ) (t : Transport) → is_refused t ≡ false → kept w b m e t ≡ set_c w b m e (coefficient t)
-kept-some w b m e (Coefficient z) h = refl
-kept-some w b m e (MeanSize i j) h = let z : ◌≡◌ {A = ℕ} (cond true 0 1) (cond false 0 1) = ap (λ (b : Bool). cond b 0 1) h in absurd (omega (arith, z))
+kept-some w b m e (Ok z) h = refl
+kept-some w b m e (Err f) h = let z : ◌≡◌ {A = ℕ} (cond true 0 1) (cond false 0 1) = ap (λ (b : Bool). cond b 0 1) h in absurd (omega (arith, z))
 
 kept-none : (w : List Float) (b m e : ℕ) (t : Transport) → is_refused t ≡ true → kept w b m e t ≡ w
-kept-none w b m e (Coefficient z) h = let z : ◌≡◌ {A = ℕ} (cond false 0 1) (cond true 0 1) = ap (λ (b : Bool). cond b 0 1) h in absurd (omega (arith, z))
-kept-none w b m e (MeanSize i j) h = refl
+kept-none w b m e (Ok z) h = let z : ◌≡◌ {A = ℕ} (cond false 0 1) (cond true 0 1) = ap (λ (b : Bool). cond b 0 1) h in absurd (omega (arith, z))
+kept-none w b m e (Err f) h = refl
 
 not-true : (b : Bool) → true ≡ not b → b ≡ false
 not-true true h = h
@@ -103,7 +100,7 @@ told-refused : (p : Points) (a b : List ℕ) (e : ℕ) → e ≡ first_mean p a 
 unfolding transports_answer
 told-refused p a b e f h = rw (← f, lt-ltb e (length a) h)
 
-told-done : (p : Points) (a b : List ℕ) → length a ≡ first_mean p a b (length a) → answer.Done ≡ transports_answer p a b
+told-done : (p : Points) (a b : List ℕ) → length a ≡ first_mean p a b (length a) → ◌≡◌ {A = Answer} (Ok tt) (transports_answer p a b)
 unfolding transports_answer
 told-done p a b f = rw (← f, le-ltb (length a) (length a) (omega arith))
 
@@ -162,7 +159,7 @@ module _ (l : TransportsPlan) (a b : List ℕ) (e : ℕ) (w₀ w : List Float) (
             ∙ ap (put_c w₀ l.transports) (part (points_from w₀ l) a b e v₀ (omega (arith, n₀)) ∙ ap (λ i. kept_to (points_from w₀ l) a b i v₀) first);
       }
 
-pub to-done : {l : TransportsPlan} {a b : List ℕ} {e : ℕ} {w₀ w : List Float} {o : Answer} → e ≡ length a → To l a b e w₀ w → o ≡ answer.Done → Transported l a b w₀ w o
+pub to-done : {l : TransportsPlan} {a b : List ℕ} {e : ℕ} {w₀ w : List Float} {o : Answer} → e ≡ length a → To l a b e w₀ w → o ≡ Ok tt → Transported l a b w₀ w o
 to-done {l} {a} {b} {e} {w₀} {w} z k s =
     let first : length a ≡ first_mean (points_from w₀ l) a b (length a) = rw z at k.sound in
     let v : List Complex = region_c w₀ l.transports (length a) in

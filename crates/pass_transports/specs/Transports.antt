@@ -1,20 +1,16 @@
 -- The transport coefficient of every edge of a pass, up to the first whose mean size is refused (row 22): lines 1286 to 1291 of the Rust's solve_mesh,
 -- with its transport_coefficient, lines 697 to 720. Definitions only.
 -- Edge e goes from its lower end a e to its upper end b e, where a and b list the ends of the edges in the order first met.
-use Rattle.std.specs.Prelude.{ℕ, Bool, not, cond, List, [], ◌∷◌, eqb, ltb, length, get_or, Float}
+use Rattle.std.specs.Prelude.{ℕ, Bool, not, cond, List, [], ◌∷◌, eqb, ltb, length, get_or, Float, Ok, Err}
 use Rattle.std.specs.Float.{nan}
 use Rattle.complex.specs.declared.Complex.{Complex}
 use Rattle.complex.specs.Complex.{cnan}
 use Rattle.floor.specs.Checks.{lowest}
 use Rattle.geometry.specs.declared.End.{End}
-use Rattle.geometry.specs.declared.Transport.{Transport}
-use Rattle.geometry.specs.declared.Transport.TheVariants.{Coefficient, MeanSize}
 use Rattle.geometry.specs.Triangle.{at}
 use Rattle.geometry.specs.Edge as edge
 use Rattle.geometry.specs.Edge.{transport_of}
 use Rattle.linear_cells.specs.Region.{tab}
-use Rattle.pass_transports.specs.declared.Answer.{Answer}
-use Rattle.pass_transports.specs.declared.Answer.TheVariants as answer
 
 -- the points of a pass: coordinates, sizes, and the size gradients' two parts
 pub record Points : Type 0 where
@@ -45,8 +41,8 @@ abbrev pub is_refused : Transport → Bool
 is_refused t = not (eqb (edge.number t) 0)
 
 abbrev pub coefficient : Transport → Complex
-coefficient (Coefficient z) = z
-coefficient (MeanSize i j) = cnan
+coefficient (Ok z) = z
+coefficient (Err e) = cnan
 
 -- the lowest of m edges that is refused, or m
 unfoldable pub first_mean : Points → List ℕ → List ℕ → ℕ → ℕ
@@ -60,16 +56,16 @@ coefficients_of p a b = tab (coefficient_at p a b) (length a)
 
 -- the answer, with the refused edge's ends, the lower first
 abbrev pub refused_at : List ℕ → List ℕ → ℕ → Answer
-refused_at a b e = answer.MeanSize (get_or a e 0) (get_or b e 0)
+refused_at a b e = Err (record { from = get_or a e 0; to = get_or b e 0 })
 
 unfoldable pub transports_answer : Points → List ℕ → List ℕ → Answer
-transports_answer p a b = cond (ltb (first_mean p a b (length a)) (length a)) (refused_at a b (first_mean p a b (length a))) answer.Done
+transports_answer p a b = cond (ltb (first_mean p a b (length a)) (length a)) (refused_at a b (first_mean p a b (length a))) (Ok tt)
 
 -- the refusal's number and place that an answer stands for: 0 and none where it is no refusal
 abbrev pub number : Answer → ℕ
-number answer.Done = 0
-number (answer.MeanSize i j) = 22
+number (Ok tt) = 0
+number (Err e) = 22
 
 abbrev pub place : Answer → List ℕ
-place answer.Done = []
-place (answer.MeanSize i j) = i ∷ j ∷ []
+place (Ok tt) = []
+place (Err e) = e.from ∷ e.to ∷ []

@@ -1,15 +1,12 @@
 -- How the work slice holds the points and the coefficients, and what is required of it. Definitions only.
-use Rattle.std.specs.Prelude.{ℕ, ◌+◌, ◌*◌, ◌≤◌, ◌<◌, ◌≡◌, Bool, cond, not, List, ltb, length, get_or, Float}
+use Rattle.std.specs.Prelude.{ℕ, ◌+◌, ◌*◌, ◌≤◌, ◌<◌, ◌≡◌, Bool, cond, not, List, ltb, length, get_or, Float, Ok, Err}
 use Rattle.complex.specs.declared.Complex.{Complex}
 use Rattle.complex.specs.Complex.{cnan}
-use Rattle.geometry.specs.declared.Transport.{Transport}
-use Rattle.geometry.specs.declared.Transport.TheVariants.{Coefficient, MeanSize}
 use Rattle.pass_geometries.specs.Work.{coords_from}
 use Rattle.linear_cells.specs.Region.{tab}
 use Rattle.linear_cells.specs.Cell.{set_c, region_c, put_c}
-use Rattle.pass_transports.specs.declared.Answer.{Answer}
 use Rattle.pass_transports.specs.declared.TransportsPlan.{TransportsPlan}
-use Rattle.pass_transports.specs.Transports.{Points, transport_at, is_refused, first_mean, coefficient_at, transports_answer}
+use Rattle.pass_transports.specs.Transports.{Points, transport_at, is_refused, first_mean, coefficient_at, transports_answer, Answer, Transport}
 
 -- the gradients' first parts, and then their second
 unfoldable pub points_from : List Float → TransportsPlan → Points
@@ -37,8 +34,8 @@ pub record Ends (n : ℕ) (a b : List ℕ) : Type 0 where
 
 -- edge e's coefficient is kept where it has one
 abbrev pub kept : List Float → ℕ → ℕ → ℕ → Transport → List Float
-kept w base m e (Coefficient z) = set_c w base m e z
-kept w base m e (MeanSize i j) = w
+kept w base m e (Ok z) = set_c w base m e z
+kept w base m e (Err f) = w
 
 -- edge e was looked at: r says whether it has a coefficient, which is then kept
 pub record Looked (l : TransportsPlan) (a b : List ℕ) (e : ℕ) (w w' : List Float) (r : Bool) : Type 0 where

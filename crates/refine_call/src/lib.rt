@@ -107,7 +107,7 @@ fn put_pieces(
 {
     let count = triangles.len() / 3;
     if cut.flagged == 0 {
-        slices::copy_u32(triangles, new_triangles, 0);
+        slices::copy(triangles, new_triangles, 0);
         return count;
     }
     let table = Table {

@@ -131,7 +131,7 @@ pub fn cut_sides(
             flagged: 0,
         };
     }
-    slices::zeros_u32(marks, 3 * count, 3 * flagged);
+    slices::fill(marks, 3 * count, 3 * flagged, 0);
     let sides = cut_all(triangles, count, points, ends, marks, 3 * flagged);
     Cut { sides, flagged }
 }

@@ -153,14 +153,14 @@ fn wipe(n: usize, out: &mut [f64])
     requires { n ≤ length out.old }
     ensures { out.new ≡ over (replicate n (lit 0)) out.old }
 {
-    slices::zero(&mut out[0..n]);
+    out[0..n].fill(0.0);
 }
 
 fn wipe_u32(n: usize, out: &mut [u32])
     requires { n ≤ length out.old }
     ensures { out.new ≡ over (replicate n 0) out.old }
 {
-    slices::zero_u32(&mut out[0..n]);
+    out[0..n].fill(0);
 }
 
 // Whether all of the work is as lent, or the lent part zeros.

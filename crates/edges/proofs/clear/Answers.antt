@@ -8,4 +8,4 @@ use Rattle.edges.proofs.clear.Goals as goal
 
 pub returns : goal.returns
 returns c =
-    (c.zeros_u32.ensures, subst (λ (l : List ℕ). Held c.args.base c.args.n l 0) (sym c.zeros_u32.ensures) (empty-held _ _ _ c.requires.0 c.requires.1))
+    (c.fill.ensures, subst (λ (l : List ℕ). Held c.args.base c.args.n l 0) (sym c.fill.ensures) (empty-held _ _ _ c.requires.0 c.requires.1))

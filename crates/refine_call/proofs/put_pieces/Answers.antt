@@ -5,7 +5,7 @@ use Rattle.refine_call.proofs.put_pieces.Goals as goal
 
 pub returns-then-cut-eq0 : goal.returns-then-cut-eq0
 returns-then-cut-eq0 c =
-    pieces_none c.requires c.if-cut-eq0.true c.copy_u32.ensures
+    pieces_none c.requires c.if-cut-eq0.true c.copy.ensures
 
 pub overflow_mul-table-2 : goal.overflow_mul-table-2
 overflow_mul-table-2 c = record { fits = omega (arith, (c.requires.held c.if-cut-eq0.false).links-in) }

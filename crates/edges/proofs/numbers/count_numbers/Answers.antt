@@ -8,13 +8,13 @@ use Rattle.edges.proofs.numbers.count_numbers.Goals as goal
 
 pub count_all-requires : goal.count_all-requires
 count_all-requires c = record {
-  k_bound = ((c.requires.k_bound.0.0, omega (arith, ap length c.zeros_u32.ensures ∙ length-sets c.args.w.now c.args.a (replicate c.args.m 0))), c.requires.k_bound.1);
+  k_bound = ((c.requires.k_bound.0.0, omega (arith, ap length c.fill.ensures ∙ length-sets c.args.w.now c.args.a (replicate c.args.m 0))), c.requires.k_bound.1);
   below = below-still c.args.e c.args.k c.args.a c.args.m c.args.w.now c.requires.k_bound.0.0
-      c.zeros_u32.ensures c.requires.below;
+      c.fill.ensures c.requires.below;
   counted = counted_none c.args.e c.args.a c.args.m
-      c.args.w.now c.requires.k_bound.0.1 c.zeros_u32.ensures;
+      c.args.w.now c.requires.k_bound.0.1 c.fill.ensures;
 }
 
 pub returns : goal.returns
 returns c =
-    counted-done c.requires.k_bound.0.0 c.zeros_u32.ensures c.count_all.ensures
+    counted-done c.requires.k_bound.0.0 c.fill.ensures c.count_all.ensures

@@ -6,8 +6,8 @@ pub returns-then-flagged-eq0 : goal.returns-then-flagged-eq0
 returns-then-flagged-eq0 c = none-flagged c.put_flags-flagged.ensures c.if-flagged-eq0.true
 
 pub cut_all-sides-requires : goal.cut_all-sides-requires
-cut_all-sides-requires c = let all = cut-room c.put_flags-flagged.ensures _ _ _ c.requires c.if-flagged-eq0.false c.zeros_u32.ensures in record { held_in_two = all.0; marks_room = all.1 }
+cut_all-sides-requires c = let all = cut-room c.put_flags-flagged.ensures _ _ _ c.requires c.if-flagged-eq0.false c.fill.ensures in record { held_in_two = all.0; marks_room = all.1 }
 
 pub returns : goal.returns
 returns c =
-    some-flagged c.put_flags-flagged.ensures c.zeros_u32.ensures c.cut_all-sides.ensures
+    some-flagged c.put_flags-flagged.ensures c.fill.ensures c.cut_all-sides.ensures
