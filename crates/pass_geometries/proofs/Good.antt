@@ -18,10 +18,12 @@ use Rattle.edges.specs.Numbering.{tri_from, tris_from}
 use Rattle.floor.proofs.Lowest.{lowest-most, lowest-before}
 use Rattle.geometry.specs.declared.TriangleGeometry.{TriangleGeometry}
 use Rattle.plane.specs.Pair.{orientation}
+use Rattle.geometry.specs.declared.Degenerate.{Degenerate}
 use Rattle.geometry.specs.Triangle.{area_of, degenerate, placed, geometry, number, at}
 use Rattle.geometry.proofs.Orientation.{three-corners}
+use Rattle.pass_geometries.specs.declared.GeometriesPlan.{GeometriesPlan}
 use Rattle.pass_geometries.specs.Geometries.{geometry_on, is_degenerate, corners_of, first_degenerate, Geometry}
-use Rattle.pass_geometries.specs.Work.{corners_on, wound_up_to, Cornered}
+use Rattle.pass_geometries.specs.Work.{corners_on, wound_up_to, Cornered, xs_in, ys_in, geometry_in}
 use Rattle.pass_geometries.proofs.Steps.{kept-corners, one-area}
 use Rattle.pass_geometries.proofs.Joined.{joined_length, joined_at}
 
@@ -31,15 +33,18 @@ pub no-refusal : (g : Geometry) → is_degenerate g ≡ false → number g ≡ 0
 no-refusal (Ok g) h = refl
 no-refusal (Err e) h = let z : ◌≡◌ {A = ℕ} 0 1 = cc in absurd (omega arith)
 
--- a degenerate triangle answers its own number in the list
-pub degenerate-at : (X Y : ℕ → Float) (s : Tri) (t : ℕ) → is_degenerate (geometry_on X Y s t) ≡ true → geometry_on X Y s t ≡ Err (record { triangle = t })
+-- what a degenerate triangle answers: its own number in the list
+abbrev pub row-19 : ℕ → Geometry
+row-19 t = Err (record { triangle = t })
+
+pub degenerate-at : (X Y : ℕ → Float) (s : Tri) (t : ℕ) → is_degenerate (geometry_on X Y s t) ≡ true → geometry_on X Y s t ≡ row-19 t
 unfolding geometry
 degenerate-at X Y (tri i j k) t h = go (lt (orientation (at X Y i) (at X Y j) (at X Y k)) (lit 0)) h
   where
-    one : (a b c : ℕ) (p q r : Pair) (w : Float) → is_degenerate (placed a b c p q r w t) ≡ true → placed a b c p q r w t ≡ Err (record { triangle = t })
+    one : (a b c : ℕ) (p q r : Pair) (w : Float) → is_degenerate (placed a b c p q r w t) ≡ true → placed a b c p q r w t ≡ row-19 t
     one a b c p q r w h = unfold placed in by (degenerate p q r w) (record { i = a; j = b; k = c; p = p; q = q; r = r; area = w }) h
       where
-        by : (d : Bool) (g : TriangleGeometry) → is_degenerate (cond d (Err (record { triangle = t })) (Ok g)) ≡ true → cond d (Err (record { triangle = t })) (Ok g) ≡ Err (record { triangle = t })
+        by : (d : Bool) (g : TriangleGeometry) → is_degenerate (cond d (row-19 t) (Ok g)) ≡ true → cond d (row-19 t) (Ok g) ≡ row-19 t
         by true g h = refl
         by false g h = absurd (subst T (sym h) tt)
 
@@ -49,9 +54,19 @@ degenerate-at X Y (tri i j k) t h = go (lt (orientation (at X Y i) (at X Y j) (a
     given : Geometry
     given = placed i j k (at X Y i) (at X Y j) (at X Y k) (area_of (orientation (at X Y i) (at X Y j) (at X Y k))) t
 
-    go : (l : Bool) → is_degenerate (cond l turned given) ≡ true → cond l turned given ≡ Err (record { triangle = t })
+    go : (l : Bool) → is_degenerate (cond l turned given) ≡ true → cond l turned given ≡ row-19 t
     go true h = one i k j (at X Y i) (at X Y k) (at X Y j) (area_of (orientation (at X Y i) (at X Y j) (at X Y k))) h
     go false h = one i j k (at X Y i) (at X Y j) (at X Y k) (area_of (orientation (at X Y i) (at X Y j) (at X Y k))) h
+
+pub error-place : (p : GeometriesPlan) (i : ℕ) (w : List Float) (u : List ℕ) {f : Geometry} (e : Degenerate) → f ≡ geometry_in p w u i → f ≡ Err e → e.triangle ≡ i
+error-place p i w u {f} e read h =
+    let g : geometry_in p w u i ≡ Err e = sym read ∙ h in
+    let d : ◌≡◌ {A = Geometry} (Err e) (row-19 i) = sym g ∙ degenerate-at (xs_in p w) (ys_in p w) (tri_from p.given u i) i (ap is_degenerate g) in
+    ap told d
+  where
+    told : Geometry → ℕ
+    told (Ok g) = 0
+    told (Err e) = e.triangle
 
 pub good-given : (X Y : ℕ → Float) (n : ℕ) (s : Tri) (t : ℕ) → Cornered n s → is_degenerate (geometry_on X Y s t) ≡ false → Good n s
 good-given X Y n (tri i j k) t b h =

@@ -19,6 +19,7 @@ use Rattle.slices.proofs.Runs.{sets-before, sets-append}
 use Rattle.floor.proofs.Lowest.{lowest-none, lowest-again, lowest-found}
 use Rattle.geometry.specs.declared.TriangleGeometry.{TriangleGeometry}
 use Rattle.plane.specs.Pair.{orientation}
+use Rattle.geometry.specs.declared.Degenerate.{Degenerate}
 use Rattle.geometry.specs.Triangle.{geometry, placed, degenerate, area_of as area, at}
 use Rattle.pass_geometries.specs.declared.GeometriesPlan.{GeometriesPlan}
 use Rattle.pass_geometries.specs.Geometries.{geometry_on, is_degenerate, corners_of, first_degenerate, Geometry}
@@ -65,9 +66,9 @@ kept-cornered X Y m t (tri i j k) b h = ⊎_elim (λ e. subst (Cornered m) (sym 
 -- ---- the triangle is looked at
 
 module _ (p : GeometriesPlan) (i : ℕ) (w : List Float) (u : List ℕ) {f : Geometry} (read : f ≡ geometry_in p w u i) where
-  pub looked-none : (t : ℕ) → f ≡ Err (record { triangle = t }) → Looked p i w u w u false
+  pub looked-none : (t : Degenerate) → f ≡ Err t → Looked p i w u w u false
   looked-none t h =
-      let z : geometry_in p w u i ≡ Err (record { triangle = t }) = sym read ∙ h in
+      let z : geometry_in p w u i ≡ Err t = sym read ∙ h in
       record {
         sound = sym (ap (λ (g : Geometry). not (is_degenerate g)) z);
         area = sym (ap (λ (g : Geometry). sets w (p.areas + i) (area_on g)) z);

@@ -5,7 +5,6 @@ use Rattle.std.specs.Float.{nan}
 use Rattle.mesh.specs.Mesh.{Tri, tri}
 use Rattle.edges.specs.Numbering.{tri_from}
 use Rattle.geometry.specs.declared.Degenerate.{Degenerate}
-use Rattle.geometry.specs.Triangle.{geometry, at}
 use Rattle.pass_geometries.specs.declared.GeometriesPlan.{GeometriesPlan}
 use Rattle.pass_geometries.specs.Geometries.{geometry_on, is_degenerate, first_degenerate, Geometry}
 

@@ -86,12 +86,7 @@ fn keep(work: &mut [f64], words: &mut [u32], p: GeometriesPlan, t: usize, g: Tri
 }
 
 // Looks at triangle t: its geometry is kept, where it has one.
-fn look(
-    work: &mut [f64],
-    words: &mut [u32],
-    p: GeometriesPlan,
-    t: usize,
-) -> Result<(), Degenerate>
+fn look(work: &mut [f64], words: &mut [u32], p: GeometriesPlan, t: usize) -> Result<(), Degenerate>
     requires geometries_room { GeometriesRoom p (length work.old) (length words.old) × (t < p.triangles) }
     requires below { Below p.points p.given words.old (3 * p.triangles) }
     ensures looked { Looked p t work.old words.old work.new words.new (is_ok result) }
@@ -103,11 +98,7 @@ fn look(
 }
 
 // Keeps the geometry of the triangles before the first degenerate one, which is the error.
-pub fn geometries(
-    work: &mut [f64],
-    words: &mut [u32],
-    p: GeometriesPlan,
-) -> Result<(), Degenerate>
+pub fn geometries(work: &mut [f64], words: &mut [u32], p: GeometriesPlan) -> Result<(), Degenerate>
     requires geometries_room { GeometriesRoom p (length work.old) (length words.old) }
     requires below { Below p.points p.given words.old (3 * p.triangles) }
     ensures kept { Kept p work.old words.old work.new words.new (reached p.triangles result) }
