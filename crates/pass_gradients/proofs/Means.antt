@@ -6,18 +6,19 @@ use mathlib.Core.Path.{◌≡◌, refl, sym, ap, ap₂, ◌∙◌, subst}
 use mathlib.Core.Logic.{◌≢◌, ◌⊎◌, inl, inr}
 use mathlib.Core.Bool.{Bool, true, false, cond, not}
 use mathlib.Core.List.{List}
-use borrow.Author.Tests.{eq-eqb, ne_eqb, lt-ltb, le-ltb, ltb-true, ltb-false}
+use borrow.Author.Tests.{eq-eqb, ne_eqb, lt-ltb, le-ltb, eqb-true, ltb-true, ltb-false}
 use lib.Dec.{eqb, ltb}
 use lib.ListN.{length, length-set, get_or, set}
 use lib.Seq.{get_or-set_same, get_or-set_other}
 use lib.Ieee.{Float, nan}
 use Rattle.std.specs.Prelude.{Ok, Err}
 use Rattle.float.specs.Double.{◌⊘◌}
+use Rattle.refusals.specs.declared.Refusal.{Refusal}
 use Rattle.refusals.specs.Refusal.{row_at, Verdict}
 use Rattle.floor.specs.Checks.{lowest}
 use Rattle.floor.proofs.Lowest.{lowest-none, lowest-again, lowest-found, lowest-most, lowest-same}
 use Rattle.pass_geometries.specs.Work.{coords_from}
-use Rattle.pass_gradients.specs.Gradients.{row_of_point, first_refused, check_means}
+use Rattle.pass_gradients.specs.Gradients.{point_verdict, row_of_point, first_refused, check_means}
 use Rattle.pass_gradients.specs.Work.{sums_x, sums_y, weights, divide_at, DividedTo, DividedPoint, Divided}
 
 -- ---- one point
@@ -45,6 +46,33 @@ module _ (g n v : ℕ) (w : List Float) (h : v < n) (room : g + 3 * n ≤ length
   unfolding divide_at x y
   divide-else j p q = get_or-set_other (set w (g + v) x) (g + n + v) j y nan q ∙ get_or-set_other w (g + v) j x nan p
 
+-- what a point's verdict says of its row
+verdict-ok : (r v : ℕ) → point_verdict r v ≡ Ok tt → r ≡ 0
+verdict-ok r v e = go (eqb r 0) refl e
+  where
+    go : (b : Bool) → eqb r 0 ≡ b → ◌≡◌ {A = Verdict} (cond b (Ok tt) (Err (row_at r v))) (Ok tt) → r ≡ 0
+    go true q h = eqb-true r 0 q
+    go false q h = absurd (cc)
+
+verdict-err : (r v : ℕ) (x : Refusal) → point_verdict r v ≡ Err x → (r ≢ 0) × (x ≡ row_at r v)
+verdict-err r v x e = go (eqb r 0) refl e
+  where
+    go : (b : Bool) → eqb r 0 ≡ b → ◌≡◌ {A = Verdict} (cond b (Ok tt) (Err (row_at r v))) (Err x) → (r ≢ 0) × (x ≡ row_at r v)
+    go true q h = absurd (cc)
+    go false q h = (λ z. let y : eqb r 0 ≡ true = eq-eqb r 0 z in absurd (cc), cc)
+
+pub point-refused : {g n v : ℕ} {w : List Float} {q : Verdict} (x : Refusal) → q ≡ point_verdict (row_of_point (sums_x g n w) (sums_y g n w) (weights g n w) v) v → q ≡ Err x
+    → DividedPoint g n v w w (Err x)
+point-refused {g} {n} {v} {w} x e z =
+    let r = row_of_point (sums_x g n w) (sums_y g n w) (weights g n w) v in
+    record { answer = sym z ∙ e; work = sym (ap (λ (b : Bool). cond b (divide_at g n v w) w) (ne_eqb r 0 (verdict-err r v x (sym e ∙ z)).0)) }
+
+pub point-divided : {g n v : ℕ} {w w' : List Float} {q : Verdict} → q ≡ point_verdict (row_of_point (sums_x g n w) (sums_y g n w) (weights g n w) v) v → q ≡ Ok tt
+    → w' ≡ divide_at g n v w → DividedPoint g n v w w' (Ok tt)
+point-divided {g} {n} {v} {w} e z d =
+    let r = row_of_point (sums_x g n w) (sums_y g n w) (weights g n w) v in
+    record { answer = sym z ∙ e; work = d ∙ sym (ap (λ (b : Bool). cond b (divide_at g n v w) w) (eq-eqb r 0 (verdict-ok r v (sym e ∙ z)))) }
+
 -- ---- the first i points
 
 pub record To (g n i : ℕ) (w₀ w : List Float) : Type 0 where
@@ -64,7 +92,7 @@ check-refused : (X Y W : ℕ → Float) (n : ℕ) {i r : ℕ} → i ≡ first_re
 unfolding check_means
 check-refused X Y W n {i} {r} p q h = rw (← p, ← q, lt-ltb i n h)
 
-check_sound : (X Y W : ℕ → Float) (n : ℕ) → n ≡ first_refused X Y W n → (Ok tt) ≡ check_means X Y W n
+check_sound : (X Y W : ℕ → Float) (n : ℕ) → n ≡ first_refused X Y W n → ◌≡◌ {A = Verdict} (Ok tt) (check_means X Y W n)
 unfolding check_means
 check_sound X Y W n p = rw (← p, le-ltb n n (omega arith))
 
@@ -81,11 +109,13 @@ module _ {g n i : ℕ} {w₀ w : List Float} (h : i < n) (room : g + 3 * n ≤ l
   now-room : g + 3 * n ≤ length w
   now-room = omega (arith, k.means.same_length)
 
-  pub to-more : {w' : List Float} {r : ℕ} → r ≡ 0 → DividedPoint g n i w w' r → To g n (i + 1) w₀ w'
+  pub to-more : {w' : List Float} {q : Verdict} → q ≡ Ok tt → DividedPoint g n i w w' q → To g n (i + 1) w₀ w'
   unfolding first_refused
-  to-more {w'} {r} z s =
-      let d : w' ≡ divide_at g n i w = s.work ∙ ap (λ (b : Bool). cond b (divide_at g n i w) w) (eq-eqb r 0 z) in
-      let good : not (eqb (row_of_point (sums_x g n w₀) (sums_y g n w₀) (weights g n w₀) i) 0) ≡ false = ap not (eq-eqb _ 0 (sym (s.row ∙ same_row) ∙ z)) in
+  to-more {w'} z s =
+      let r = row_of_point (sums_x g n w) (sums_y g n w) (weights g n w) i in
+      let zero : r ≡ 0 = verdict-ok r i (sym s.answer ∙ z) in
+      let d : w' ≡ divide_at g n i w = s.work ∙ ap (λ (b : Bool). cond b (divide_at g n i w) w) (eq-eqb r 0 zero) in
+      let good : not (eqb (row_of_point (sums_x g n w₀) (sums_y g n w₀) (weights g n w₀) i) 0) ≡ false = ap not (eq-eqb _ 0 (sym same_row ∙ zero)) in
       record {
         sound = lowest-again _ i k.sound good;
         means = record {
@@ -119,18 +149,19 @@ module _ {g n i : ℕ} {w₀ w : List Float} (h : i < n) (room : g + 3 * n ≤ l
       still j (inr (inl q)) = inr (inl (omega arith, q.1))
       still j (inr (inr q)) = inr (inr (omega arith))
 
-  pub to-found : {w' : List Float} {r : ℕ} {f : Verdict} → r ≢ 0 → DividedPoint g n i w w' r → f ≡ Err (row_at r i)
-      → Divided g n w₀ w' f
-  to-found {w'} {r} {f} z s a =
-      let bad : not (eqb (row_of_point (sums_x g n w₀) (sums_y g n w₀) (weights g n w₀) i) 0) ≡ true = ap not (ne_eqb _ 0 (λ q. z (s.row ∙ same_row ∙ q))) in
+  pub to-found : {w' : List Float} {q f : Verdict} (x : Refusal) → q ≡ Err x → DividedPoint g n i w w' q → f ≡ Err x → Divided g n w₀ w' f
+  to-found {w'} {q} {f} x z s a =
+      let r = row_of_point (sums_x g n w) (sums_y g n w) (weights g n w) i in
+      let at = verdict-err r i x (sym s.answer ∙ z) in
+      let bad : not (eqb (row_of_point (sums_x g n w₀) (sums_y g n w₀) (weights g n w₀) i) 0) ≡ true = ap not (ne_eqb _ 0 (λ q. at.0 (same_row ∙ q))) in
       let first = found bad in
-      let d : w' ≡ w = s.work ∙ ap (λ (b : Bool). cond b (divide_at g n i w) w) (ne_eqb r 0 z) in
-      record { answer = a ∙ told first (s.row ∙ same_row); means = subst (λ (m : ℕ). DividedTo g n m w₀ w') first (subst (DividedTo g n i w₀) (sym d) k.means) }
+      let d : w' ≡ w = s.work ∙ ap (λ (b : Bool). cond b (divide_at g n i w) w) (ne_eqb r 0 at.0) in
+      record { answer = a ∙ ap Err at.1 ∙ told first same_row; means = subst (λ (m : ℕ). DividedTo g n m w₀ w') first (subst (DividedTo g n i w₀) (sym d) k.means) }
     where
       found : not (eqb (row_of_point (sums_x g n w₀) (sums_y g n w₀) (weights g n w₀) i) 0) ≡ true → i ≡ first_refused (sums_x g n w₀) (sums_y g n w₀) (weights g n w₀) n
       found b = found_first g n i w₀ b k.sound h
 
-      told : i ≡ first_refused (sums_x g n w₀) (sums_y g n w₀) (weights g n w₀) n → r ≡ row_of_point (sums_x g n w₀) (sums_y g n w₀) (weights g n w₀) i
+      told : {r : ℕ} → i ≡ first_refused (sums_x g n w₀) (sums_y g n w₀) (weights g n w₀) n → r ≡ row_of_point (sums_x g n w₀) (sums_y g n w₀) (weights g n w₀) i
           → Err (row_at r i) ≡ check_means (sums_x g n w₀) (sums_y g n w₀) (weights g n w₀) n
       told p q = check-refused (sums_x g n w₀) (sums_y g n w₀) (weights g n w₀) n p q h
 
@@ -150,7 +181,7 @@ check-same X Y W X' Y' W' n p q r =
     same : (v : ℕ) → v < n → row_of_point X Y W v ≡ row_of_point X' Y' W' v
     same v h = rw (p v h, q v h, r v h)
 
-    go : (k : ℕ) {k' : ℕ} → k ≡ k' → (b : Bool) → ltb k n ≡ b → cond (ltb k n) (Err (row_at (row_of_point X Y W k) k)) (Ok tt) ≡ cond (ltb k' n) (Err (row_at (row_of_point X' Y' W' k') k')) (Ok tt)
+    go : (k : ℕ) {k' : ℕ} → k ≡ k' → (b : Bool) → ltb k n ≡ b → ◌≡◌ {A = Verdict} (cond (ltb k n) (Err (row_at (row_of_point X Y W k) k)) (Ok tt)) (cond (ltb k' n) (Err (row_at (row_of_point X' Y' W' k') k')) (Ok tt))
     go k e true h = rw (← e, h, same k (ltb-true k n h))
     go k e false h = rw (← e, h)
 
@@ -161,6 +192,6 @@ sound-all X Y W n h = go (ltb (first_refused X Y W n) n) refl h
     most : first_refused X Y W n ≤ n
     most = unfold first_refused in lowest-most _ n
 
-    go : (b : Bool) → ltb (first_refused X Y W n) n ≡ b → cond b (Err (row_at (row_of_point X Y W (first_refused X Y W n)) (first_refused X Y W n))) (Ok tt) ≡ Ok tt → first_refused X Y W n ≡ n
+    go : (b : Bool) → ltb (first_refused X Y W n) n ≡ b → ◌≡◌ {A = Verdict} (cond b (Err (row_at (row_of_point X Y W (first_refused X Y W n)) (first_refused X Y W n))) (Ok tt)) (Ok tt) → first_refused X Y W n ≡ n
     go true e z = let y : ◌≡◌ {A = ℕ} 0 1 = cc in absurd (omega arith)
     go false e z = omega (arith, ltb-false (first_refused X Y W n) n e, most)

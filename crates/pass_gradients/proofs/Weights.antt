@@ -2,13 +2,13 @@
 use Prim.Native.Nat.{ℕ, zero, suc, ◌<◌}
 use native.Mathlib.Omega.{arith}
 use native.Mathlib.Decide.{ℕ_discrete}
-use mathlib.Core.Path.{◌≡◌, refl, sym, ap, ◌∙◌, subst}
+use mathlib.Core.Path.{◌≡◌, refl, sym, ◌∙◌, subst}
 use mathlib.Core.Logic.{◌≢◌, ◌⊎◌, inl, inr}
 use borrow.Author.Tests.{eq-eqb, ne_eqb}
 use lib.Dec.{T}
 use lib.Ieee.{Float, binary64, fits}
 use lib.Ieee.Positive.{positive, above}
-use Rattle.float.specs.Double.{lit, ◌⊕◌}
+use Rattle.float.specs.Double.{lit}
 use Rattle.float.proofs.Sign.{Plain}
 use Rattle.float.proofs.Above.{add-above, above-plain, zero-plain}
 use Rattle.mesh.specs.Mesh.{Tri, tri}

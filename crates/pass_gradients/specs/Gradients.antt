@@ -43,6 +43,10 @@ not_finite x y = not (is_finite x) || not (is_finite y)
 unfoldable pub row_of : Float → Float → Float → ℕ
 row_of x y weight = cond (not_positive weight) 20 (cond (not_finite (x ⊘ weight) (y ⊘ weight)) 21 0)
 
+-- such a row as the refusal of point v
+abbrev pub point_verdict : ℕ → ℕ → Verdict
+point_verdict r v = cond (eqb r 0) (Ok tt) (Err (row_at r v))
+
 abbrev pub row_of_point : (ℕ → Float) → (ℕ → Float) → (ℕ → Float) → ℕ → ℕ
 row_of_point X Y W v = row_of (X v) (Y v) (W v)
 

@@ -5,10 +5,9 @@ use Rattle.float.specs.Double.{◌⊕◌, ◌⊘◌}
 use Rattle.plane.specs.declared.Pair.{Pair}
 use Rattle.mesh.specs.Mesh.{Tri, tri}
 use Rattle.edges.specs.Numbering.{tri_from}
-use Rattle.geometry.specs.Triangle.{gradient, at}
 use Rattle.pass_geometries.specs.Work.{coords_from}
 use Rattle.pass_gradients.specs.declared.GradientsPlan.{GradientsPlan}
-use Rattle.pass_gradients.specs.Gradients.{gradient_on, sum_to, weighed_x, weighed_y, row_of_point, first_refused, check_means}
+use Rattle.pass_gradients.specs.Gradients.{gradient_on, sum_to, weighed_x, weighed_y, row_of_point, first_refused, check_means, point_verdict}
 use Rattle.refusals.specs.Refusal.{Verdict}
 
 -- there is room: coordinates, sizes and areas before the sums, three for each point; corners
@@ -73,10 +72,10 @@ pub record DividedTo (g n i : ℕ) (w w' : List Float) : Type 0 where
   pub mean-y : (v : ℕ) → v < i → sums_y g n w' v ≡ sums_y g n w v ⊘ weights g n w v
   pub elsewhere : (j : ℕ) → (j < g) ⊎ ((g + i ≤ j) × (j < g + n)) ⊎ (g + n + i ≤ j) → get_or w' j nan ≡ get_or w j nan
 
--- point v was looked at: the row r that refuses it, or 0 and its sums are divided
-pub record DividedPoint (g n v : ℕ) (w w' : List Float) (r : ℕ) : Type 0 where
-  pub row : r ≡ row_of_point (sums_x g n w) (sums_y g n w) (weights g n w) v
-  pub work : w' ≡ cond (eqb r 0) (divide_at g n v w) w
+-- point v was looked at: the row that refuses it, or its sums are divided
+pub record DividedPoint (g n v : ℕ) (w w' : List Float) (r : Verdict) : Type 0 where
+  pub answer : r ≡ point_verdict (row_of_point (sums_x g n w) (sums_y g n w) (weights g n w) v) v
+  pub work : w' ≡ cond (eqb (row_of_point (sums_x g n w) (sums_y g n w) (weights g n w) v) 0) (divide_at g n v w) w
 
 -- the answer, and the points before the first that is refused
 pub record Divided (g n : ℕ) (w w' : List Float) (r : Verdict) : Type 0 where

@@ -6,10 +6,11 @@ ghost use Rattle.std.specs.Prelude.{◌≡◌, ◌+◌, ◌*◌, ◌<◌, ◌≤
 ghost use Rattle.mesh.specs.Mesh.{tri};
 ghost use Rattle.edges.specs.Numbering.{Below};
 ghost use Rattle.pass_geometries.specs.Work.{Cornered};
-ghost use Rattle.pass_gradients.specs.Gradients.{not_finite, row_of};
+ghost use Rattle.pass_gradients.specs.Gradients.{not_finite, row_of, point_verdict};
 ghost use Rattle.pass_gradients.specs.Work.{gradient_in, GradientsRoom, add_at, add_three, add_triangle, GatheredTriangle, GatheredTo, divide_at, DividedPoint, Divided};
 
 use plane::Pair;
+use refusals::{Refusal, refused};
 
 // How many points and triangles there are, and where: in the f64 work the points' coordinates and sizes and the triangles' areas, and the sums, n first
 // parts, then n second parts, then n weights; in the u32 work the corners, counter-clockwise.
@@ -95,10 +96,8 @@ fn gather_all(work: &mut [f64], words: &[u32], p: GradientsPlan)
     requires below { Below p.points p.wound words.now (3 * p.triangles) × GatheredTo p 0 words.now work.old work.old }
     ensures { GatheredTo p p.triangles words.now work.old work.new }
 {
-    let mut i = 0;
-    while i < p.triangles {
-        gather_triangle(work, words, p, i);
-        i += 1;
+    for t in 0..p.triangles {
+        gather_triangle(work, words, p, t);
     }
 }
 
@@ -118,17 +117,17 @@ fn not_finite(x: f64, y: f64) -> bool
     !float::is_finite(x) || !float::is_finite(y)
 }
 
-// The row that refuses a point with these sums and weight, or 0.
-fn row_of(x: f64, y: f64, weight: f64) -> u64
-    ensures { result ≡ row_of x y weight }
+// Rows 20 and 21, of point v with these sums and weight.
+fn check_point(x: f64, y: f64, weight: f64, v: usize) -> Result<(), Refusal>
+    ensures { result ≡ point_verdict (row_of x y weight) v }
 {
     if float::not_positive(weight) {
-        return 20;
+        return Err(refused(20, v));
     }
     if not_finite(x / weight, y / weight) {
-        return 21;
+        return Err(refused(21, v));
     }
-    0
+    Ok(())
 }
 
 // Divides point v's sums by its weight.
@@ -143,31 +142,28 @@ fn divide_at(work: &mut [f64], sums: usize, n: usize, v: usize)
     work[sums + n + v] = y;
 }
 
-// Point v: the row that refuses it, or 0 and its means.
-fn divide_point(work: &mut [f64], sums: usize, n: usize, v: usize) -> u64
+// Point v: its means, or the row that refuses it.
+fn divide_point(work: &mut [f64], sums: usize, n: usize, v: usize) -> Result<(), Refusal>
     requires { (v < n) × (sums + 3 * n ≤ length work.old) }
     ensures { DividedPoint sums n v work.old work.new result }
 {
-    let r = row_of(work[sums + v], work[sums + n + v], work[sums + 2 * n + v]);
-    if r == 0 {
-        divide_at(work, sums, n, v);
-        return 0;
-    }
-    r
+    check_point(
+        work[sums + v],
+        work[sums + n + v],
+        work[sums + 2 * n + v],
+        v,
+    )?;
+    divide_at(work, sums, n, v);
+    Ok(())
 }
 
 // Divides the sums of n points by their weights, up to the first point that row 20 or 21 refuses.
-pub fn divide(work: &mut [f64], sums: usize, n: usize) -> floor::Check
+pub fn divide(work: &mut [f64], sums: usize, n: usize) -> Result<(), Refusal>
     requires { sums + 3 * n ≤ length work.old }
     ensures { Divided sums n work.old work.new result }
 {
-    let mut i = 0;
-    while i < n {
-        let r = divide_point(work, sums, n, i);
-        if r != 0 {
-            return floor::refused(r, i);
-        }
-        i += 1;
+    for v in 0..n {
+        divide_point(work, sums, n, v)?;
     }
-    floor::Check::Sound
+    Ok(())
 }

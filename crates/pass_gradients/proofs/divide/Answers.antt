@@ -1,29 +1,28 @@
--- `pass_gradients::divide` meets its contract: the loop keeps what `Inv-loop` says, and what is left to do falls at each iteration; the laws are in proofs/Means.
-use Rattle.pass_gradients.proofs.Means.{to_none, to-more, to-found, to-done}
-use Prim.Native.Nat.{◌-◌}
+-- `pass_gradients::divide` meets its contract: the loop keeps what the invariant says; the laws are in proofs/Means.
 use native.Mathlib.Omega.{arith}
+use borrow.Author.Rules.{rules}
+use Rattle.pass_gradients.proofs.Means.{to_none, to-more, to-found, to-done}
 use Rattle.pass_gradients.proofs.divide.Goals as goal
 
-pub loop-i-init : goal.loop-i-init
-loop-i-init c = (omega arith, to_none _ _ _)
+pub loop-v-init : goal.loop-v-init
+loop-v-init c = to_none _ _ _
 
-pub divide_point-r-requires : goal.divide_point-r-requires
-divide_point-r-requires c = (c.loop-i-test.true, omega (arith, c.loop-i.invariant.1.means.same_length))
+pub divide_point-requires : goal.divide_point-requires
+divide_point-requires c = (c.loop-v-test.true, omega (arith, c.loop-v.invariant.means.same_length))
 
-pub shape_of-work-then-r-ne0 : goal.shape_of-work-then-r-ne0
-shape_of-work-then-r-ne0 c =
-    (to-found c.loop-i-test.true c.requires c.loop-i.invariant.1 c.if-r-ne0.true c.divide_point-r.ensures c.refused.ensures).means.same_length
+pub loop-v-preserved : goal.loop-v-preserved
+loop-v-preserved c = to-more c.loop-v-test.true c.requires c.loop-v.invariant c.in_ok-divide_point.was c.divide_point.ensures
 
-pub returns-then-r-ne0 : goal.returns-then-r-ne0
-returns-then-r-ne0 c =
-    to-found c.loop-i-test.true c.requires c.loop-i.invariant.1 c.if-r-ne0.true c.divide_point-r.ensures c.refused.ensures
+pub shape_of-work-in_err-divide_point : goal.shape_of-work-in_err-divide_point
+shape_of-work-in_err-divide_point c =
+    (to-found c.loop-v-test.true c.requires c.loop-v.invariant _ c.in_err-divide_point.was c.divide_point.ensures c.in_err-divide_point.was).means.same_length
 
-pub loop-i-preserved : goal.loop-i-preserved
-loop-i-preserved c =
-    (omega arith, to-more c.loop-i-test.true c.requires c.loop-i.invariant.1 c.if-r-ne0.false c.divide_point-r.ensures)
+pub returns-in_err-divide_point : goal.returns-in_err-divide_point
+returns-in_err-divide_point c =
+    to-found c.loop-v-test.true c.requires c.loop-v.invariant _ c.in_err-divide_point.was c.divide_point.ensures (search rules)
 
 pub shape_of-work : goal.shape_of-work
-shape_of-work c = c.loop-i.invariant.1.means.same_length
+shape_of-work c = c.loop-v.invariant.means.same_length
 
 pub returns : goal.returns
-returns c = to-done (omega arith) c.loop-i.invariant.1
+returns c = to-done (omega arith) c.loop-v.invariant

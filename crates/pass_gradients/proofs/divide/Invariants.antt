@@ -1,9 +1,5 @@
 use Rattle.pass_gradients.proofs.Means.{To}
-use Prim.Native.Nat.{◌-◌, ◌≤◌}
 use Rattle.pass_gradients.proofs.divide.Given as goal
 
-abbrev pub invariant-loop-i : goal.invariant-loop-i
-invariant-loop-i l = (l.i ≤ l.n) × To l.sums l.n l.i l.initial.work l.work
-
-abbrev pub decreases-loop-i : goal.decreases-loop-i
-decreases-loop-i l = l.n - l.i
+abbrev pub invariant-loop-v : goal.invariant-loop-v
+invariant-loop-v l = To l.sums l.n l.v l.initial.work l.work
