@@ -16,13 +16,15 @@ use Rattle.std.specs.Prelude.{Ok, Err}
 use Rattle.complex.specs.declared.Complex.{Complex}
 use Rattle.complex.specs.Complex.{cnan}
 use Rattle.floor.proofs.Lowest.{lowest-none, lowest-again, lowest-found}
+use Rattle.geometry.specs.declared.MeanSize.{MeanSize}
+use Rattle.geometry.specs.Edge.{transport_of}
 use Rattle.linear_cells.specs.Region.{tab}
 use Rattle.linear_cells.specs.Cell.{set_c, region_c, put_c}
 use Rattle.linear_cells.proofs.Loops.{apart, length-tab, get_or-tab}
 use Rattle.linear_cells.proofs.Cells.{length-region_c, length-put_c, put_c-region_c, put_c-else-real}
 use Rattle.linear_cells.proofs.Over.{over, over_none, length_over, over-todo, over_done, over-cell}
 use Rattle.pass_transports.specs.declared.TransportsPlan.{TransportsPlan}
-use Rattle.pass_transports.specs.Transports.{Points, end_of, transport_at, is_refused, coefficient, first_mean, coefficient_at, refused_at, transports_answer, Answer, Transport}
+use Rattle.pass_transports.specs.Transports.{Points, end_of, transport_at, is_refused, coefficient, first_mean, coefficient_at, ends_at, refused_at, transports_answer, Answer, Transport}
 use Rattle.pass_transports.specs.Work.{points_from, TransportsRoom, Ends, kept, Looked, kept_to, Transported}
 
 -- ---- the points of a slice that is the same below the coefficients
@@ -45,9 +47,17 @@ module _ (w w' : List Float) (l : TransportsPlan) {len m : ℕ} (ok : Transports
 
 -- ---- one edge
 
-pub looked-none : {l : TransportsPlan} (a b : List ℕ) (e : ℕ) (w : List Float) (i j : ℕ) {f : Transport} → f ≡ transport_at (points_from w l) a b e → f ≡ Err (record { from = i; to = j }) → Looked l a b e w w false
-looked-none {l} a b e w i j p q =
-    let z : transport_at (points_from w l) a b e ≡ Err (record { from = i; to = j }) = sym p ∙ q in
+pub error-is : (p : Points) (a b : List ℕ) (e : ℕ) (x : MeanSize) {f : Transport} → f ≡ transport_at p a b e → f ≡ Err x → x ≡ ends_at a b e
+unfolding transport_at transport_of end_of
+error-is p a b e x q h = go _ _ (sym q ∙ h)
+  where
+    go : (c : Bool) (z : Complex) → ◌≡◌ {A = Transport} (cond c (Err (ends_at a b e)) (Ok z)) (Err x) → x ≡ ends_at a b e
+    go true z k = cc
+    go false z k = absurd (cc)
+
+pub looked-none : {l : TransportsPlan} (a b : List ℕ) (e : ℕ) (w : List Float) (x : MeanSize) {f : Transport} → f ≡ transport_at (points_from w l) a b e → f ≡ Err x → Looked l a b e w w false
+looked-none {l} a b e w x p q =
+    let z : transport_at (points_from w l) a b e ≡ Err x = sym p ∙ q in
     record { sound = sym (ap (λ (t : Transport). not (is_refused t)) z); work = sym (ap (kept w l.transports (length a) e) z) }
 
 pub looked-kept : {l : TransportsPlan} (a b : List ℕ) (e : ℕ) (w : List Float) {w' : List Float} (z : Complex) {f : Transport} → f ≡ transport_at (points_from w l) a b e → f ≡ Ok z
@@ -132,10 +142,10 @@ module _ (l : TransportsPlan) (a b : List ℕ) (e : ℕ) (w₀ w : List Float) (
       λ j q. ap (λ t. get_or t j nan) k.work ∙ (rw zero-add at (put_c-else-real w₀ l.transports v (length-written (points_from w₀ l) a b e v₀ ∙ n₀) 0 l.transports j (omega (arith, apart)) q)) in
       transport-same w₀ w l ok below a b e g h
 
-  pub to-more : {w' : List Float} {r : Bool} → r ≡ true → Looked l a b e w w' r → To l a b (e + 1) w₀ w'
+  pub to-more : {w' : List Float} → Looked l a b e w w' true → To l a b (e + 1) w₀ w'
   unfolding first_mean written_to v₀ coefficient_at
-  to-more {w'} {r} p q =
-      let good : is_refused (transport_at (points_from w₀ l) a b e) ≡ false = ap is_refused (sym same) ∙ not-true _ (sym p ∙ q.sound) in
+  to-more {w'} q =
+      let good : is_refused (transport_at (points_from w₀ l) a b e) ≡ false = ap is_refused (sym same) ∙ not-true _ q.sound in
       record {
         sound = lowest-again _ e k.sound good;
         work = q.work
@@ -145,10 +155,10 @@ module _ (l : TransportsPlan) (a b : List ℕ) (e : ℕ) (w₀ w : List Float) (
             ∙ over-cell (λ j z. coefficient_at (points_from w₀ l) a b j) w₀ l.transports v₀ n₀ ok.transports-in e h;
       }
 
-  pub to-found : {w' : List Float} {r : Bool} {o : Answer} → r ≡ false → Looked l a b e w w' r → o ≡ refused_at a b e → Transported l a b w₀ w' o
+  pub to-found : {w' : List Float} {o : Answer} → Looked l a b e w w' false → o ≡ refused_at a b e → Transported l a b w₀ w' o
   unfolding first_mean v₀
-  to-found {w'} {r} {o} p q s =
-      let bad : is_refused (transport_at (points_from w₀ l) a b e) ≡ true = ap is_refused (sym same) ∙ not-false _ (sym p ∙ q.sound) in
+  to-found {w'} {o} q s =
+      let bad : is_refused (transport_at (points_from w₀ l) a b e) ≡ true = ap is_refused (sym same) ∙ not-false _ q.sound in
       let first : e ≡ first_mean (points_from w₀ l) a b (length a) = lowest-found _ e (length a) k.sound bad h in
       record {
         result = s ∙ told-refused (points_from w₀ l) a b e first h;

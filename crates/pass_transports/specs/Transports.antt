@@ -1,12 +1,13 @@
 -- The transport coefficient of every edge of a pass, up to the first whose mean size is refused (row 22): lines 1286 to 1291 of the Rust's solve_mesh,
 -- with its transport_coefficient, lines 697 to 720. Definitions only.
 -- Edge e goes from its lower end a e to its upper end b e, where a and b list the ends of the edges in the order first met.
-use Rattle.std.specs.Prelude.{ℕ, Bool, not, cond, List, [], ◌∷◌, eqb, ltb, length, get_or, Float, Ok, Err}
+use Rattle.std.specs.Prelude.{ℕ, Bool, not, cond, List, [], ◌∷◌, eqb, ltb, length, get_or, Float, Result, Ok, Err}
 use Rattle.std.specs.Float.{nan}
 use Rattle.complex.specs.declared.Complex.{Complex}
 use Rattle.complex.specs.Complex.{cnan}
 use Rattle.floor.specs.Checks.{lowest}
 use Rattle.geometry.specs.declared.End.{End}
+use Rattle.geometry.specs.declared.MeanSize.{MeanSize}
 use Rattle.geometry.specs.Triangle.{at}
 use Rattle.geometry.specs.Edge as edge
 use Rattle.geometry.specs.Edge.{transport_of}
@@ -33,6 +34,14 @@ points_of xs ys sizes gxs gys = record {
 unfoldable pub end_of : Points → ℕ → End
 end_of p v = record { vertex = v; position = at p.x p.y v; size = p.size v; gradient = at p.gx p.gy v }
 
+-- what one edge has: its coefficient, or row 22
+abbrev pub Transport : Type 0
+Transport = Result Complex MeanSize
+
+-- what all edges have: their coefficients, or row 22 of the first that it refuses
+abbrev pub Answer : Type 0
+Answer = Result (Unit {0}) MeanSize
+
 unfoldable pub transport_at : Points → List ℕ → List ℕ → ℕ → Transport
 transport_at p a b e = transport_of (end_of p (get_or a e 0)) (end_of p (get_or b e 0))
 
@@ -55,8 +64,11 @@ unfoldable pub coefficients_of : Points → List ℕ → List ℕ → List Compl
 coefficients_of p a b = tab (coefficient_at p a b) (length a)
 
 -- the answer, with the refused edge's ends, the lower first
+abbrev pub ends_at : List ℕ → List ℕ → ℕ → MeanSize
+ends_at a b e = record { from = get_or a e 0; to = get_or b e 0 }
+
 abbrev pub refused_at : List ℕ → List ℕ → ℕ → Answer
-refused_at a b e = Err (record { from = get_or a e 0; to = get_or b e 0 })
+refused_at a b e = Err (ends_at a b e)
 
 unfoldable pub transports_answer : Points → List ℕ → List ℕ → Answer
 transports_answer p a b = cond (ltb (first_mean p a b (length a)) (length a)) (refused_at a b (first_mean p a b (length a))) (Ok tt)

@@ -2,11 +2,12 @@
 // specs/Transports.antt says what they are, and specs/Work.antt how the slice holds them.
 #![tactic(auto)]
 
-ghost use Rattle.std.specs.Prelude.{◌≡◌, ◌+◌, ◌<◌, length};
-ghost use Rattle.pass_transports.specs.Transports.{end_of, transport_at, refused_at};
+ghost use Rattle.std.specs.Prelude.{◌≡◌, ◌+◌, ◌<◌, length, is_ok, IfErr};
+ghost use Rattle.pass_transports.specs.Transports.{end_of, transport_at, ends_at};
 ghost use Rattle.pass_transports.specs.Work.{points_from, TransportsRoom, Ends, Looked, Transported};
 
-use geometry::{End, Transport};
+use complex::Complex;
+use geometry::{End, MeanSize};
 
 // Where the points stand: their coordinates, sizes and gradients, the gradients' first parts and then their second; and where the coefficients go.
 #[derive(Clone, Copy)]
@@ -17,13 +18,6 @@ pub struct TransportsPlan {
     pub sizes: usize,
     pub gradients: usize,
     pub transports: usize,
-}
-
-// Every edge has its coefficient; or refusal 22, with the edge's lower and upper end.
-#[derive(Clone, Copy)]
-pub enum Answer {
-    Done,
-    MeanSize(usize, usize),
 }
 
 // Point v as an edge's end.
@@ -43,7 +37,13 @@ fn end_at(w: &[f64], l: TransportsPlan, v: usize) -> End
 }
 
 // Edge e's coefficient, or its refusal.
-fn transport_at(w: &[f64], l: TransportsPlan, from: &[u32], to: &[u32], e: usize) -> Transport
+fn transport_at(
+    w: &[f64],
+    l: TransportsPlan,
+    from: &[u32],
+    to: &[u32],
+    e: usize,
+) -> Result<Complex, MeanSize>
     requires transports_room { TransportsRoom (length w.now) l 0 × (e < length from.now) }
     requires ends { Ends l.points from.now to.now }
     ensures { result ≡ transport_at (points_from w.now l) from.now to.now e }
@@ -53,41 +53,37 @@ fn transport_at(w: &[f64], l: TransportsPlan, from: &[u32], to: &[u32], e: usize
     geometry::transport_coefficient(a, b)
 }
 
-// Looks at edge e: whether it has a coefficient, which is then kept.
-fn look(w: &mut [f64], l: TransportsPlan, from: &[u32], to: &[u32], e: usize) -> bool
+// Looks at edge e: its coefficient is kept, where it has one.
+fn look(
+    w: &mut [f64],
+    l: TransportsPlan,
+    from: &[u32],
+    to: &[u32],
+    e: usize,
+) -> Result<(), MeanSize>
     requires transports_room { TransportsRoom (length w.old) l (length from.now) × (e < length from.now) }
     requires ends { Ends l.points from.now to.now }
-    ensures { Looked l from.now to.now e w.old w.new result }
+    ensures looked { Looked l from.now to.now e w.old w.new (is_ok result) }
+    ensures refused { IfErr result (λ x. x ≡ ends_at from.now to.now e) }
 {
-    let found = transport_at(w, l, from, to, e);
-    let Transport::Coefficient(z) = found else {
-        return false;
-    };
+    let z = transport_at(w, l, from, to, e)?;
     linear_cells::store(w, l.transports, from.len(), e, z);
-    true
+    Ok(())
 }
 
-// The refusal of edge e.
-fn refused_at(from: &[u32], to: &[u32], e: usize) -> Answer
-    requires { (e < length from.now) × (e < length to.now) }
-    ensures { result ≡ refused_at from.now to.now e }
-{
-    Answer::MeanSize(mesh::index(from[e]), mesh::index(to[e]))
-}
-
-// The coefficients of the edges from `from` to `to`, up to the first that is refused.
-pub fn transports(w: &mut [f64], l: TransportsPlan, from: &[u32], to: &[u32]) -> Answer
+// The coefficients of the edges from `from` to `to`, up to the first that row 22 refuses, which is the error: its lower and its upper end.
+pub fn transports(
+    w: &mut [f64],
+    l: TransportsPlan,
+    from: &[u32],
+    to: &[u32],
+) -> Result<(), MeanSize>
     requires transports_room { TransportsRoom (length w.old) l (length from.now) }
     requires ends { Ends l.points from.now to.now }
     ensures { Transported l from.now to.now w.old w.new result }
 {
-    let mut e = 0;
-    while e < from.len() {
-        if look(w, l, from, to, e) {
-            e += 1;
-        } else {
-            return refused_at(from, to, e);
-        }
+    for e in 0..from.len() {
+        look(w, l, from, to, e)?;
     }
-    Answer::Done
+    Ok(())
 }
