@@ -195,3 +195,12 @@ sound-all X Y W n h = go (ltb (first_refused X Y W n) n) refl h
     go : (b : Bool) → ltb (first_refused X Y W n) n ≡ b → ◌≡◌ {A = Verdict} (cond b (Err (row_at (row_of_point X Y W (first_refused X Y W n)) (first_refused X Y W n))) (Ok tt)) (Ok tt) → first_refused X Y W n ≡ n
     go true e z = let y : ◌≡◌ {A = ℕ} 0 1 = cc in absurd (omega arith)
     go false e z = omega (arith, ltb-false (first_refused X Y W n) n e, most)
+
+-- a refusal of a point is a row with its place
+pub means-row : (X Y W : ℕ → Float) (n : ℕ) (x : Refusal) → check_means X Y W n ≡ Err x → x ≡ row_at x.number x.place
+unfolding check_means
+means-row X Y W n x h = go (ltb (first_refused X Y W n) n) _ _ h
+  where
+    go : (b : Bool) (r i : ℕ) → ◌≡◌ {A = Verdict} (cond b (Err (row_at r i)) (Ok tt)) (Err x) → x ≡ row_at x.number x.place
+    go true r i z = let e : row_at r i ≡ x = cc in subst (λ (y : Refusal). y ≡ row_at y.number y.place) e refl
+    go false r i z = absurd (cc)

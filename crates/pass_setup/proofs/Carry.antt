@@ -8,6 +8,7 @@ use lib.ListN.{length, get_or, take, drop}
 use lib.Ieee.{Float, nan}
 use Rattle.std.specs.Prelude.{Ok, Err}
 use Rattle.complex.specs.declared.Complex.{Complex}
+use Rattle.geometry.specs.declared.MeanSize.{MeanSize}
 use Rattle.linear_cells.specs.Region.{region}
 use Rattle.linear_cells.specs.Cell.{region_c, put_c}
 use Rattle.linear_cells.proofs.Loops.{apart, length-tab, tab-ext}
@@ -154,8 +155,8 @@ module _ {l : Layout} {m : ℕ} {w : List Float} {u : List ℕ} (o : Ordered l (
       edged = j.edged;
     })
 
-    row-22 : (a b : ℕ) → r ≡ Err (record { from = a; to = b }) → {s : Setup} → s ≡ Err (between a b) → SetUp l w u w₁ u s
-    row-22 a b e q = refused-by (between a b) stays q (sym (rest (floor_in l w u) t.none j.averaged.sound (sym answered ∙ e))) (λ h. absurd (omega (arith, none-refused t))) (λ h. still-turned)
+    row-22 : (x : MeanSize) → r ≡ Err x → {s : Setup} → s ≡ Err (between x.from x.to) → SetUp l w u w₁ u s
+    row-22 x e q = refused-by (between x.from x.to) stays q (sym (rest (floor_in l w u) t.none j.averaged.sound (sym answered ∙ e))) (λ h. absurd (omega (arith, none-refused t))) (λ h. still-turned)
         (λ h. still-summed) (means-sound j.averaged.sound) (λ h p. still-joined)
 
     carried : r ≡ Ok tt → region_c w₁ l.transports m ≡ transports_of (floor_in l w u)
@@ -199,7 +200,7 @@ module _ {l : Layout} {m : ℕ} {w : List Float} {u : List ℕ} (o : Ordered l (
   over-lists : Transported (transports_at l) (lowers_of (floor_in l w u)) (uppers_of (floor_in l w u)) w w₁ r
   over-lists = rw (← e, ← h) d
 
-  pub refused-22 : (a b : ℕ) → r ≡ Err (record { from = a; to = b }) → {s : Setup} → s ≡ Err (between a b) → SetUp l w u w₁ u s
+  pub refused-22 : (x : MeanSize) → r ≡ Err x → {s : Setup} → s ≡ Err (between x.from x.to) → SetUp l w u w₁ u s
   refused-22 = row-22 o j over-lists
 
   pub all_done : r ≡ Ok tt → SetUp l w u w₁ u (Ok m)

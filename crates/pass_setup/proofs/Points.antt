@@ -26,7 +26,7 @@ use Rattle.pass_geometries.proofs.Good.{no-refusal}
 use Rattle.pass_gradients.specs.Gradients.{not_finite, row_of, row_of_point, first_refused, check_means}
 use Rattle.pass_gradients.proofs.Weights.{Misses, so-sum, none-sum}
 use Rattle.pass_setup.specs.Setup.{geometry_at, degenerate_of, wound_of, areas_of, sum_x, sum_y, weight_of, means_of}
-use Rattle.pass_setup.specs.Rows.{corner_at, signed_on, area_on, Degenerate, IsCorner, Row20, Row21, NoPointBefore}
+use Rattle.pass_setup.specs.Rows.{corner_at, signed_on, area_on, IsCorner, Row20, Row21, NoPointBefore}
 use Rattle.pass_setup.proofs.Floors.{area-at, turned-at}
 use Rattle.pass_setup.proofs.Triangles.{Tests, passed, failed, neither, no-19, tests-19}
 

@@ -8,7 +8,7 @@ use borrow.Author.Tests.{ltb-true, ltb-false, lt-ltb, le-ltb, not-true}
 use lib.Dec.{T, ltb}
 use lib.ListN.{length, get_or}
 use lib.Ieee.{Float, le}
-use lib.Ieee.Positive.{positive, above}
+use lib.Ieee.Positive.{above}
 use Rattle.std.specs.Prelude.{Ok, Err}
 use Rattle.float.specs.Double.{HALF, lit, is_finite, not_positive, ◌⊕◌, ◌⊗◌}
 use Rattle.float.proofs.Above.{above-test, passes-positive, mean-above}
@@ -175,21 +175,21 @@ module _ (f : Floor) where
     setup-rows x = (λ h. from decided h, to-setup x)
       where
         from : ((y : Refusal) × RefusedFloor f y) ⊎ AcceptedFloor f → setup_of f ≡ Err x → RefusedFloor f x
-        from (inl y) h = let z : Err y.0 ≡ Err x = sym (to-setup y.0 y.1) ∙ h in subst (RefusedFloor f) (same z) y.1
+        from (inl y) h = let z : ◌≡◌ {A = Setup} (Err y.0) (Err x) = sym (to-setup y.0 y.1) ∙ h in subst (RefusedFloor f) (same z) y.1
           where
-            same : {x y : Refusal} → Err x ≡ Err y → x ≡ y
+            same : {x y : Refusal} → ◌≡◌ {A = Setup} (Err x) (Err y) → x ≡ y
             same e = cc
-        from (inr a) h = let z : Ok (length (edges_of f)) ≡ Err x = sym (accepted-setup a) ∙ h in absurd (differ z)
+        from (inr a) h = let z : ◌≡◌ {A = Setup} (Ok (length (edges_of f))) (Err x) = sym (accepted-setup a) ∙ h in absurd (differ z)
           where
-            differ : Ok (length (edges_of f)) ≡ Err x → ⊥
+            differ : ◌≡◌ {A = Setup} (Ok (length (edges_of f))) (Err x) → ⊥
             differ e = let z : ◌≡◌ {A = ℕ} 0 1 = cc in omega arith
 
     pub setup-accepted : (m : ℕ) → setup_of f ≡ Ok m → AcceptedFloor f
     setup-accepted m h = from decided
       where
         from : ((y : Refusal) × RefusedFloor f y) ⊎ AcceptedFloor f → AcceptedFloor f
-        from (inl y) = let e : Err y.0 ≡ Ok m = sym (to-setup y.0 y.1) ∙ h in absurd (differ e)
+        from (inl y) = let e : ◌≡◌ {A = Setup} (Err y.0) (Ok m) = sym (to-setup y.0 y.1) ∙ h in absurd (differ e)
           where
-            differ : Err y.0 ≡ Ok m → ⊥
+            differ : ◌≡◌ {A = Setup} (Err y.0) (Ok m) → ⊥
             differ e = let z : ◌≡◌ {A = ℕ} 0 1 = cc in omega arith
         from (inr a) = a

@@ -1,33 +1,31 @@
 -- What a floor that rows 19 to 22 let through has at the sides of its triangles: their mean size is positive, and the middle of their ends is finite.
 -- So no midpoint of it is refused by rows 6 and 7. Assumes nothing.
-use Prim.Native.Nat.{ℕ, zero, suc, ◌+◌, ◌-◌, ◌^◌, ◌≤◌, ◌<◌}
+use Prim.Native.Nat.{ℕ, zero, suc, ◌+◌, ◌-◌, ◌^◌, ◌<◌}
 use native.Mathlib.Omega.{arith}
 use mathlib.Core.Path.{◌≡◌, refl, sym, ap, ◌∙◌, subst}
 use mathlib.Core.Logic.{◌≢◌, ◌⊎◌, inl, inr}
-use mathlib.Core.Bool.{Bool, true, false, cond, ◌&&◌, ◌||◌}
+use mathlib.Core.Bool.{Bool, true, false, ◌||◌}
 use mathlib.Core.List.{List, [], ◌∷◌}
-use mathlib.Core.Option.{Option, some}
+use mathlib.Core.Option.{some}
 use borrow.Author.Tests.{eqb-true}
 use lib.Dec.{T, eqb}
 use lib.ListN.{length, get_or}
-use lib.Ieee.{Float}
 use lib.Ieee.Positive.{positive}
-use lib.Ieee.Bits.{is_true}
-use Rattle.float.specs.Double.{HALF, lit, is_finite, ◌⊕◌, ◌⊗◌}
+use Rattle.float.specs.Double.{HALF, is_finite, ◌⊕◌, ◌⊗◌}
 use Rattle.float.proofs.Within.{Within, and_both}
 use Rattle.float.proofs.Above.{above-finite}
 use Rattle.float.proofs.Far.{middle-finite}
-use Rattle.mesh.specs.Mesh.{Tri, tri, Side, side, key, index_in, marked, cuts, mid, at, lies, one, count, Good, All}
+use Rattle.mesh.specs.Mesh.{Tri, tri, side, key, index_in, marked, cuts, at, lies, one, count, Good, All}
 use Rattle.mesh.proofs.Cuts.{index-only, key-rising}
 use Rattle.mesh.proofs.Theorem.{refines}
 use Rattle.mesh.specs.Claim.{InRange}
 use Rattle.edges.specs.Sides.{lower, upper}
 use Rattle.floor.specs.Floor.{Floor, point_count, triangle_count, value_at, triangle_at}
-use Rattle.geometry.proofs.Sound.{Spot, small-corners}
+use Rattle.geometry.proofs.Sound.{small-corners}
 use Rattle.pass_geometries.specs.Geometries.{geometry_on, is_degenerate}
 use Rattle.pass_geometries.proofs.Good.{no-refusal}
 use Rattle.pass_setup.specs.Setup.{geometry_at, degenerate_of, wound_of, edges_of, lowers_of, uppers_of}
-use Rattle.pass_setup.specs.Rows.{SoundFloor, corner_at, lower_of, upper_of, Row22, AcceptedFloor}
+use Rattle.pass_setup.specs.Rows.{SoundFloor, corner_at, lower_of, upper_of, AcceptedFloor}
 use Rattle.pass_setup.proofs.Floors.{at_all, get_d_map, length-wound, turned-at, wound-good}
 use Rattle.pass_setup.proofs.Triangles.{failed, tests-19, clear-19}
 use Rattle.pass_setup.proofs.Rows.{mean-positive}

@@ -15,7 +15,7 @@ use Rattle.geometry.specs.declared.TriangleGeometry.{TriangleGeometry}
 use Rattle.geometry.specs.Triangle.{longest, SMALLEST-AREA, degenerate, placed, geometry}
 use Rattle.pass_geometries.specs.Geometries.{geometry_on, is_degenerate, first_degenerate}
 use Rattle.pass_setup.specs.Setup.{geometry_at, degenerate_of}
-use Rattle.pass_setup.specs.Rows.{corner_at, signed_on, area_on, longest_on, Degenerate, Row19, NoneBefore, NoTriangle}
+use Rattle.pass_setup.specs.Rows.{corner_at, signed_on, area_on, longest_on, Row19, NoneBefore, NoTriangle}
 
 -- ---- a test and what it says
 

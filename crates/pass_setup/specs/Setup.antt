@@ -1,6 +1,6 @@
 -- The first part of a pass, over lists: the corners of each triangle counter-clockwise and its area (row 19), the size gradient at each point (rows 20
 -- and 21), the edges in the order first met, and the transport along each (row 22). Lines 1236 to 1291 of the Rust's solve_mesh. Definitions only.
-use Rattle.std.specs.Prelude.{ℕ, cond, List, [], map, ltb, length, get_or, Float, Ok, Err}
+use Rattle.std.specs.Prelude.{ℕ, cond, List, [], map, ltb, length, get_or, Float, Result, Ok, Err}
 use Rattle.float.specs.Double.{◌⊘◌}
 use Rattle.complex.specs.declared.Complex.{Complex}
 use Rattle.linear_cells.specs.Region.{tab}
@@ -74,6 +74,10 @@ unfoldable pub transports_of : Floor → List Complex
 transports_of f = transports.coefficients_of (points_in f) (lowers_of f) (uppers_of f)
 
 -- ---- the answer: how many edges there are, or rows 19 to 22 in their order
+
+-- what set-up answers: how many edges the floor has, or a refusal
+abbrev pub Setup : Type 0
+Setup = Result ℕ Refusal
 
 -- row 19's number and place of a degenerate triangle, and row 22's of an edge
 abbrev pub triangle_refusal : Geometry → Refusal

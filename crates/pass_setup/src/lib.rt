@@ -10,44 +10,11 @@ ghost use Rattle.pass_layout.specs.Layout.{Ordered};
 ghost use Rattle.pass_layout.specs.Work.{floor_in};
 ghost use Rattle.pass_setup.specs.Work.{Wound, Averaged, Joined, SetUp};
 
-use floor::Check;
 use pass_layout::Layout;
-use pass_transports::Answer;
 use refusals::Refusal;
 
-// How many edges the floor has; or a refusal.
-#[derive(Clone, Copy)]
-pub enum Setup {
-    Edges(usize),
-    Refused(Refusal),
-}
-
-fn refused(number: u64, place: u64) -> Setup
-    ensures { result ≡ Setup.Refused (row_at number place) }
-{
-    Setup::Refused(Refusal {
-        number,
-        place,
-        other: 0,
-        pass: 0,
-        reason: 0,
-    })
-}
-
-fn refused_between(a: usize, b: usize) -> Setup
-    ensures { result ≡ Setup.Refused (between a b) }
-{
-    Setup::Refused(Refusal {
-        number: 22,
-        place: a as u64,
-        other: b as u64,
-        pass: 0,
-        reason: 0,
-    })
-}
-
-// The last stage: the transports of the m edges, up to the first that row 22 refuses.
-fn set_up_transports(work: &mut [f64], words: &[u32], l: Layout, m: usize) -> Setup
+// The last stage: the transports of the m edges, up to the first that row 22 refuses. How many edges the floor has.
+fn set_up_transports(work: &mut [f64], words: &[u32], l: Layout, m: usize) -> Result<usize, Refusal>
     requires ordered { Ordered l (length work.old) (length words.now) }
     requires joined { Joined l m (floor_in l work.old words.now) work.old words.now }
     ensures { SetUp l work.old words.now work.new words.now result }
@@ -66,15 +33,12 @@ fn set_up_transports(work: &mut [f64], words: &[u32], l: Layout, m: usize) -> Se
     let uppers = l.to;
     let uppers_end = uppers + m;
     let to = &words[uppers..uppers_end];
-    let answer = pass_transports::transports(work, p, from, to);
-    let Answer::MeanSize(a, b) = answer else {
-        return Setup::Edges(m);
-    };
-    refused_between(a, b)
+    pass_transports::transports(work, p, from, to)?;
+    Ok(m)
 }
 
 // From the edges on: they are numbered in the order first met; then the transports.
-fn set_up_from_edges(work: &mut [f64], words: &mut [u32], l: Layout) -> Setup
+fn set_up_from_edges(work: &mut [f64], words: &mut [u32], l: Layout) -> Result<usize, Refusal>
     requires ordered { Ordered l (length work.old) (length words.old) }
     requires averaged { Averaged l (floor_in l work.old words.old) work.old words.old }
     ensures { SetUp l work.old words.old work.new words.new result }
@@ -97,7 +61,7 @@ fn set_up_from_edges(work: &mut [f64], words: &mut [u32], l: Layout) -> Setup
 }
 
 // From the size gradients on, up to the first point that row 20 or 21 refuses; then the edges and transports.
-fn set_up_from_gradients(work: &mut [f64], words: &mut [u32], l: Layout) -> Setup
+fn set_up_from_gradients(work: &mut [f64], words: &mut [u32], l: Layout) -> Result<usize, Refusal>
     requires ordered { Ordered l (length work.old) (length words.old) }
     requires wound { Wound l (floor_in l work.old words.old) work.old words.old }
     ensures { SetUp l work.old words.old work.new words.new result }
@@ -113,15 +77,12 @@ fn set_up_from_gradients(work: &mut [f64], words: &mut [u32], l: Layout) -> Setu
         wound: l.wound,
     };
     pass_gradients::gather(work, words, p);
-    let means = pass_gradients::divide(work, l.gradients, l.points);
-    let Check::Refused(found) = means else {
-        return set_up_from_edges(work, words, l);
-    };
-    refused(found.number, found.place)
+    pass_gradients::divide(work, l.gradients, l.points)?;
+    set_up_from_edges(work, words, l)
 }
 
 // All of set-up: the corners counter-clockwise and the areas, up to the first triangle that row 19 refuses; then the gradients, edges and transports.
-pub fn set_up(work: &mut [f64], words: &mut [u32], l: Layout) -> Setup
+pub fn set_up(work: &mut [f64], words: &mut [u32], l: Layout) -> Result<usize, Refusal>
     requires ordered { Ordered l (length work.old) (length words.old) }
     requires below { Below l.points l.given words.old (3 * l.triangles) }
     ensures { SetUp l work.old words.old work.new words.new result }
@@ -135,9 +96,6 @@ pub fn set_up(work: &mut [f64], words: &mut [u32], l: Layout) -> Setup
         given: l.given,
         wound: l.wound,
     };
-    let first = pass_geometries::geometries(work, words, p);
-    if first < l.triangles {
-        return refused(19, first as u64);
-    }
+    pass_geometries::geometries(work, words, p)?;
     set_up_from_gradients(work, words, l)
 }
