@@ -4,7 +4,8 @@ use mathlib.Core.Bool.{Bool, true, false, cond}
 use mathlib.Core.List.{List}
 use Prim.Native.Nat.{ℕ, zero, suc}
 use native.Mathlib.Omega.{arith}
-use lib.Dec.{ltb}
+use Rattle.std.specs.Prelude.{Option, Some, None}
+use Rattle.std.specs.Option.{option_map_or}
 use lib.Ieee.{Float, le}
 use lib.ListN.{length, replicate, length-replicate}
 use Rattle.float.specs.Double.{recip_of, not_positive, ◌⊗◌, ◌⊘◌}
@@ -46,6 +47,11 @@ pub long-cond : (n : ℕ) (b : Bool) (f g : Found) → Long n f → Long n g →
 long-cond n true f g y z = y
 long-cond n false f g y z = z
 
+-- a place where there is one
+pub long-place : (n : ℕ) (v : Option ℕ) (f : ℕ → Found) (g : Found) → ((i : ℕ) → Long n (f i)) → Long n g → Long n (option_map_or f v g)
+long-place n None f g y z = z
+long-place n (Some i) f g y z = y i
+
 -- ---- conjugate gradients
 
 step-long : (n : ℕ) (m : Matrix) (inverse : List Float) (limit : Float) (s : LoopState) (next : LoopState → Found) → length s.x ≡ n
@@ -75,10 +81,9 @@ solution-long m k rhs =
     let n : ℕ = length rhs in
     let z : List Complex = scaled (recips_of m.diagonal) rhs in
     let dot : Float = (dot_of z rhs).re in
-    let vertex : ℕ = first_not_positive m.diagonal in
     let s : LoopState = record { x = replicate n czero; residual = rhs; direction = z; residual_dot = dot } in
     long-cond n (not_positive (vector_norm rhs)) _ _ (long-gave n 3 0)
-    (long-cond n (ltb vertex (length m.diagonal)) _ _ (long-gave n 4 vertex)
+    (long-place n (first_not_positive m.diagonal) _ _ (long-gave n 4)
     (long-cond n (not_positive dot) _ _ (long-gave n 5 0)
     (steps-long n m (recips_of m.diagonal) (inner_tolerance ⊗ vector_norm rhs) k s (length-replicate n czero))))
 

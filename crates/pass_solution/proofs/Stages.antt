@@ -6,7 +6,6 @@ use Prim.Native.Nat.{ℕ}
 use native.Mathlib.Omega.{arith}
 use lib.Ieee.{Float, nan}
 use lib.ListN.{length}
-use Rattle.std.specs.Prelude.{Ok, Err}
 use Rattle.float.specs.Double.{recip_of, not_positive}
 use Rattle.root.specs.Root.{root_of}
 use Rattle.complex.specs.declared.Complex.{Complex}
@@ -21,10 +20,7 @@ use Rattle.linear_vectors.specs.Vectors.{scaled_by}
 use Rattle.linear_conjugate_gradient.specs.declared.Vectors.{Vectors}
 use Rattle.linear_conjugate_gradient.specs.declared.Reason.{Reason}
 use Rattle.linear_conjugate_gradient.specs.declared.Reason.TheVariants.{MassOfIterate}
-use Rattle.linear_conjugate_gradient.specs.declared.Answer.{Answer}
-use Rattle.linear_conjugate_gradient.specs.declared.Answer.TheVariants.{Iterate, GaveUp}
-use Rattle.linear_conjugate_gradient.specs.declared.Normalized.{Normalized}
-use Rattle.linear_conjugate_gradient.specs.declared.Normalized.TheVariants as normalized
+use Rattle.std.specs.Prelude.{Result, Ok, Err}
 use Rattle.linear_conjugate_gradient.specs.Answer.{reason, place}
 use Rattle.linear_conjugate_gradient.specs.Method.{mass_squared, normalized_of}
 use Rattle.linear_conjugate_gradient.specs.Solve.{State, Outcome, solved, normalized_answer, normalized_vector}
@@ -47,7 +43,7 @@ framed w n l ok s z e = e ∙ ap (lay w n l) (sym (left_in w n l ok s z e))
 
 -- ---- solve
 
-module _ (w : List Float) (h : Hermitian) (l : Vectors) (from to : List ℕ) (most : ℕ) (ok : SolverRoom (length w) h l) {w₁ : List Float} {a : Answer}
+module _ (w : List Float) (h : Hermitian) (l : Vectors) (from to : List ℕ) (most : ℕ) (ok : SolverRoom (length w) h l) {w₁ : List Float} {a : Result ℕ Reason}
     (s : Solved w w₁ h.size l (solved (matrix w h from to) inner_tolerance most (read w h.size l)) a) where
   abbrev out : Outcome
   out = solved (matrix w h from to) inner_tolerance most (read w h.size l)
@@ -72,11 +68,11 @@ module _ (w : List Float) (h : Hermitian) (l : Vectors) (from to : List ℕ) (mo
     held = λ v q. answered-held a (region_c w₁ l.x h.size) v (sym found-is ∙ q);
   }
 
-  pub solve-done : {count : ℕ} → a ≡ Iterate count → Solves w w₁ h l from to most (Ok tt)
+  pub solve-done : {count : ℕ} → a ≡ Ok count → Solves w w₁ h l from to most (Ok tt)
   unfolding found_stage answered
   solve-done e = solves (rw e)
 
-  pub solve-gave : {r : Reason} {t : Verdict} → a ≡ GaveUp r → t ≡ Err (refusal_of r) → Solves w w₁ h l from to most t
+  pub solve-gave : {r : Reason} {t : Verdict} → a ≡ Err r → t ≡ Err (refusal_of r) → Solves w w₁ h l from to most t
   unfolding found_stage answered
   solve-gave e f = solves (f ∙ rw e)
 
@@ -86,18 +82,18 @@ normal-held : (b : Bool) (x u v : List Complex) → cond b (gave 9 0) (vector u)
 normal-held true x u v e = let z : ◌≡◌ {A = ℕ} 0 1 = cc in absurd (omega arith)
 normal-held false x u v e = cc
 
-normal-done : (b : Bool) (u : List Complex) → normalized.Done ≡ cond b (normalized.GaveUp MassOfIterate) normalized.Done → (Ok tt) ≡ found_stage (cond b (gave 9 0) (vector u))
+normal-done : (b : Bool) (u : List Complex) → ◌≡◌ {A = Result (Unit {0}) Reason} (Ok tt) (cond b (Err MassOfIterate) (Ok tt)) → ◌≡◌ {A = Verdict} (Ok tt) (found_stage (cond b (gave 9 0) (vector u)))
 unfolding found_stage
 normal-done true u e = let z : ◌≡◌ {A = ℕ} 0 1 = cc in absurd (omega arith)
 normal-done false u e = refl
 
-normal-gave : (b : Bool) (u : List Complex) (r : Reason) → normalized.GaveUp r ≡ cond b (normalized.GaveUp MassOfIterate) normalized.Done
+normal-gave : (b : Bool) (u : List Complex) (r : Reason) → ◌≡◌ {A = Result (Unit {0}) Reason} (Err r) (cond b (Err MassOfIterate) (Ok tt))
     → Err (refusal_of r) ≡ found_stage (cond b (gave 9 0) (vector u))
 unfolding found_stage reason place
 normal-gave true u r e = let q : r ≡ MassOfIterate = cc in rw q
 normal-gave false u r e = let z : ◌≡◌ {A = ℕ} 0 1 = cc in absurd (omega arith)
 
-module _ (w : List Float) (mass : Hermitian) (l : Vectors) (from to : List ℕ) (ok : SolverRoom (length w) mass l) {w₁ : List Float} {a : Normalized}
+module _ (w : List Float) (mass : Hermitian) (l : Vectors) (from to : List ℕ) (ok : SolverRoom (length w) mass l) {w₁ : List Float} {a : Result (Unit {0}) Reason}
     (s : InMass w w₁ l.x l.direction mass.size (matrix w mass from to) a) where
   abbrev n : ℕ
   n = mass.size
@@ -164,10 +160,10 @@ module _ (w : List Float) (mass : Hermitian) (l : Vectors) (from to : List ℕ) 
       held : (v : List Complex) → normalized_of m x ≡ vector v → region_c w₁ l.x n ≡ v
       held v q = normal-x ∙ (unfold normalized_vector in normal-held (not_positive squared) x (scaled_by (recip_of (root_of squared)) x) v (unfold normalized_of in q))
 
-  pub normalize-done : a ≡ normalized.Done → Normalizes w w₁ mass l from to (Ok tt)
+  pub normalize-done : a ≡ Ok tt → Normalizes w w₁ mass l from to (Ok tt)
   unfolding normalized_of normalized_answer
   normalize-done e = normalizes (normal-done (not_positive squared) _ (sym e ∙ s.result))
 
-  pub normalize-gave : {r : Reason} {t : Verdict} → a ≡ normalized.GaveUp r → t ≡ Err (refusal_of r) → Normalizes w w₁ mass l from to t
+  pub normalize-gave : {r : Reason} {t : Verdict} → a ≡ Err r → t ≡ Err (refusal_of r) → Normalizes w w₁ mass l from to t
   unfolding normalized_of normalized_answer
   normalize-gave {r} e f = normalizes (f ∙ normal-gave (not_positive squared) _ r (sym e ∙ s.result))

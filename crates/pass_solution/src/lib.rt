@@ -4,14 +4,13 @@
 ghost use Rattle.std.specs.Prelude.{◌≡◌, length};
 ghost use Rattle.linear_hermitian.specs.Work.{Graph};
 ghost use Rattle.linear_conjugate_gradient.specs.Work.{SolverRoom, Engine};
-ghost use Rattle.refusals.specs.declared.Stage.TheVariants.{Refused};
 ghost use Rattle.pass_solution.specs.Solution.{inner_most, linear_most};
 ghost use Rattle.pass_solution.specs.Work.{refusal_of, Solves, Normalizes};
 
-use linear_conjugate_gradient::{Answer, Normalized, Reason, Vectors, conjugate_gradient};
+use linear_conjugate_gradient::{Reason, Vectors, conjugate_gradient};
 use linear_hermitian::Hermitian;
 use linear_packing::Packing;
-use refusals::Stage;
+use refusals::Refusal;
 
 const INNER_TOLERANCE: f64 = 1e-9;
 
@@ -48,8 +47,8 @@ pub fn linear_most(n: usize, iterations: usize) -> usize
 }
 
 // The refusal that a reason of the linear solver stands for.
-fn gave_up(r: Reason) -> Stage
-    ensures { result ≡ Refused (refusal_of r) }
+fn refusal_of(r: Reason) -> Refusal
+    ensures { result ≡ refusal_of r }
 {
     match r {
         Reason::RightHandNorm => refusals::gave_up(3, 0),
@@ -73,28 +72,32 @@ pub fn solve(
     u: &[u32],
     copy: Packing,
     most: usize,
-) -> Stage
+) -> Result<(), Refusal>
     requires solver_room { SolverRoom (length work.old) h l }
     requires graph { Graph h from.now to.now }
     requires engine { Engine work.old h l from.now to.now u.now copy }
     ensures { Solves work.old work.new h l from.now to.now most result }
 {
-    let a = conjugate_gradient(work, h, l, from, to, u, copy, INNER_TOLERANCE, most);
-    let Answer::GaveUp(reason) = a else {
-        return Stage::Done;
-    };
-    gave_up(reason)
+    match conjugate_gradient(work, h, l, from, to, u, copy, INNER_TOLERANCE, most) {
+        Ok(_) => Ok(()),
+        Err(reason) => Err(refusal_of(reason)),
+    }
 }
 
 // x divided by its norm in the mass matrix. The direction's region is left with the matrix times the old x.
-pub fn normalize(work: &mut [f64], mass: Hermitian, l: Vectors, from: &[u32], to: &[u32]) -> Stage
+pub fn normalize(
+    work: &mut [f64],
+    mass: Hermitian,
+    l: Vectors,
+    from: &[u32],
+    to: &[u32],
+) -> Result<(), Refusal>
     requires solver_room { SolverRoom (length work.old) mass l }
     requires graph { Graph mass from.now to.now }
     ensures { Normalizes work.old work.new mass l from.now to.now result }
 {
-    let a = linear_conjugate_gradient::normalize_in_mass(work, l.x, l.direction, mass, from, to);
-    let Normalized::GaveUp(reason) = a else {
-        return Stage::Done;
-    };
-    gave_up(reason)
+    match linear_conjugate_gradient::normalize_in_mass(work, l.x, l.direction, mass, from, to) {
+        Ok(()) => Ok(()),
+        Err(reason) => Err(refusal_of(reason)),
+    }
 }

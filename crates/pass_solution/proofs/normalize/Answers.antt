@@ -5,11 +5,11 @@ use Rattle.pass_solution.proofs.Stages.{normalize-done, normalize-gave}
 use borrow.Author.Rules.{rules}
 use Rattle.pass_solution.proofs.normalize.Goals as goal
 
-pub normalize_in_mass-a-requires : goal.normalize_in_mass-a-requires
-normalize_in_mass-a-requires c = record { apply_room = omega (arith, apart); graph = search rules }
+pub normalize_in_mass-requires : goal.normalize_in_mass-requires
+normalize_in_mass-requires c = record { apply_room = omega (arith, apart); graph = search rules }
 
-pub returns-in_default : goal.returns-in_default
-returns-in_default c = search normalize-done
+pub returns-in-Ok : goal.returns-in-Ok
+returns-in-Ok c = search normalize-done
 
-pub returns : goal.returns
-returns c = search normalize-gave
+pub returns-in-Err : goal.returns-in-Err
+returns-in-Err c = search normalize-gave

@@ -2,8 +2,8 @@
 use Rattle.pass_solution.proofs.Stages.{solve-done, solve-gave}
 use Rattle.pass_solution.proofs.solve.Goals as goal
 
-pub returns-in_default : goal.returns-in_default
-returns-in_default c = search solve-done
+pub returns-in-Ok : goal.returns-in-Ok
+returns-in-Ok c = search solve-done
 
-pub returns : goal.returns
-returns c = search solve-gave
+pub returns-in-Err : goal.returns-in-Err
+returns-in-Err c = search solve-gave
