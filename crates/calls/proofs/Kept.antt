@@ -56,4 +56,4 @@ module _ (pass : Pass) (facts : PassFacts pass) (c : Call) (lent : Lent) where
     where
       go : (k : Verdict) → check_solve c (lengths_of lent) ≡ k → lengths_of (after_checks pass c lent k).lent ≡ lengths_of lent
       go (Err x) e = refl
-      go (Ok tt) e = first-kept e (first_pass pass c) refl
+      go (Ok _) e = first-kept e (first_pass pass c) refl

@@ -52,7 +52,7 @@ row_by k p n rest = cond (ltb (lowest p n) n) (Err (row_at k (lowest p n))) rest
 
 -- the rows after those that a check has passed
 abbrev pub and_then : Verdict → Verdict → Verdict
-and_then (Ok tt) rest = rest
+and_then (Ok _) rest = rest
 and_then (Err r) rest = Err r
 
 -- rows 3 to 8, in table order

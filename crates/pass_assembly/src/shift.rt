@@ -7,7 +7,7 @@ ghost use Rattle.pass_assembly.specs.Shift.{traces_of, shift_of};
 ghost use Rattle.pass_assembly.specs.Work.{traces_stage, TraceRoom};
 
 use linear_hermitian::Hermitian;
-use refusals::Stage;
+use refusals::Refusal;
 
 const ENERGY_SHIFT: f64 = 1e-8;
 
@@ -28,16 +28,16 @@ pub fn traces_of(work: &[f64], mass: Hermitian, energy: Hermitian) -> Traces
 }
 
 // Whether both traces are finite and positive.
-pub fn check(t: Traces) -> Stage
+pub fn check(t: Traces) -> Result<(), Refusal>
     ensures { result ≡ traces_stage t }
 {
     if float::not_positive(t.energy) {
-        return refusals::gave_up(1, 0);
+        return Err(refusals::gave_up(1, 0));
     }
     if float::not_positive(t.mass) {
-        return refusals::gave_up(2, 0);
+        return Err(refusals::gave_up(2, 0));
     }
-    Stage::Done
+    Ok(())
 }
 
 // The energy becomes the energy plus the shift times the mass.

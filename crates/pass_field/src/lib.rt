@@ -10,7 +10,7 @@ ghost use Rattle.pass_field.specs.Work.{FieldRoom, Fields};
 
 use complex::Complex;
 use linear_cells::{load, store_real};
-use refusals::Stage;
+use refusals::Refusal;
 
 fn is_finite(z: Complex) -> bool
     ensures { result ≡ finite z }
@@ -52,13 +52,13 @@ fn cross_angles(work: &mut [f64], x: usize, at: usize, n: usize)
 }
 
 // The angles of the n values at x, at `at`; or refusal 24 by reason 13, with nothing written.
-pub fn angles_from(work: &mut [f64], x: usize, at: usize, n: usize) -> Stage
+pub fn angles_from(work: &mut [f64], x: usize, at: usize, n: usize) -> Result<(), Refusal>
     requires { FieldRoom (length work.old) x at n }
     ensures { Fields work.old work.new x at n result }
 {
     if !all_finite(work, x, n) {
-        return refusals::gave_up(13, 0);
+        return Err(refusals::gave_up(13, 0));
     }
     cross_angles(work, x, at, n);
-    Stage::Done
+    Ok(())
 }

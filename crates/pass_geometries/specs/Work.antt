@@ -64,7 +64,7 @@ pub record Looked (p : GeometriesPlan) (i : ℕ) (w : List Float) (u : List ℕ)
 
 -- how many triangles were looked at, of n, before the degenerate one of the answer
 abbrev pub reached : ℕ → Result (Unit {0}) Degenerate → ℕ
-reached n (Ok tt) = n
+reached n (Ok _) = n
 reached n (Err e) = e.triangle
 
 -- the triangles before the first degenerate one, r, are kept

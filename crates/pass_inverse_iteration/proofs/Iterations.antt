@@ -34,11 +34,9 @@ use Rattle.pass_solution.proofs.Chains.{framed-none, framed_then, framed-matrix,
 use Rattle.pass_inverse_iteration.specs.declared.Limits.{Limits}
 use Rattle.pass_inverse_iteration.specs.declared.Outer.{Outer}
 use Rattle.pass_inverse_iteration.specs.declared.PencilPlan.{PencilPlan}
-use Rattle.pass_inverse_iteration.specs.declared.Progress.{Progress}
-use Rattle.pass_inverse_iteration.specs.declared.Progress.TheVariants.{Going, Ended}
 use Rattle.pass_inverse_iteration.specs.Inverse.{Pencil, outer_tolerance, next_of, estimate_of, relative_of, judged_by, iterated, average_of, pencil_of, inverse_of}
 use Rattle.pass_inverse_iteration.specs.Memory.{Step, going, ended, outer_judged, judged_from, outer_iteration, outer_after, with_right, next_left, judged_left, iteration_left, after_left, iterated_left, start_left, inverse_left}
-use Rattle.pass_inverse_iteration.specs.Work.{PencilRoom, pencil, progress_of, carried, ending_of, Steps, Judges, IteratesOnce, TakesNext, Iterates, start_in, Starts, Inverts}
+use Rattle.pass_inverse_iteration.specs.Work.{PencilRoom, pencil, progress_of, carried, Steps, Judges, IteratesOnce, TakesNext, Iterates, start_in, Starts, Inverts, Progress, ended_as}
 
 -- the mass matrix's own size is the energy's
 resized : (w w₁ : List Float) (mass : Hermitian) (l : Vectors) (from to : List ℕ) (n : ℕ) {r : Verdict} → mass.size ≡ n → Normalizes w w₁ mass l from to r
@@ -65,10 +63,11 @@ unfolding onward judged_by judged_from outer_judged outer_after
 from_next p f (vector x) = tests (not_positive (mass_squared p.mass x)) (not (is_finite (estimate_of p x))) (le (relative_of p x) outer_tolerance) x f
 from_next p f (gave r i) = refl
 
-step-going : (t : Step) (x : List Complex) → Going ≡ progress_of t → ((v : List Complex) → carried t ≡ vector v → x ≡ v) → t ≡ going x
-unfolding progress_of carried
+step-going : (t : Step) (x : List Complex) → ◌≡◌ {A = Progress} (Ok false) (progress_of t) → ((v : List Complex) → carried t ≡ vector v → x ≡ v) → t ≡ going x
+unfolding progress_of carried found_stage
 step-going (going v) x e h = ap going (sym (h v refl))
-step-going (ended f) x e h = let z : ◌≡◌ {A = ℕ} 0 1 = cc in absurd (omega arith)
+step-going (ended (vector v)) x e h = absurd (cc)
+step-going (ended (gave r i)) x e h = absurd (cc)
 
 -- the method ends with this iteration: with its answer, what it carried, and the vectors that it left
 pub record EndedBy (i : Step) (f : List Complex → Found) (t : State) (k : State → State) (r : Verdict) : Type 0 where
@@ -76,11 +75,20 @@ pub record EndedBy (i : Step) (f : List Complex → Found) (t : State) (k : Stat
   pub left : after_left i t k ≡ t
   pub stage : r ≡ found_stage (carried i)
 
-step-ended : (i : Step) (f : List Complex → Found) (t : State) (k : State → State) {p : Progress} {q r : Verdict} → p ≡ progress_of i → p ≡ Ended q → r ≡ ending_of p
-    → EndedBy i f t k r
-unfolding progress_of carried outer_after after_left ending_of
-step-ended (going v) f t k e h er = let z : ◌≡◌ {A = ℕ} 0 1 = cc in absurd (omega arith)
-step-ended (ended g) f t k e h er = record { found = refl; left = refl; stage = er ∙ rw e }
+same-end : (a b : Verdict) → ended_as a ≡ ended_as b → a ≡ b
+same-end (Ok _) (Ok _) e = refl
+same-end (Ok _) (Err y) e = absurd (cc)
+same-end (Err x) (Ok _) e = absurd (cc)
+same-end (Err x) (Err y) e = cc
+
+no-end : {A : Type 0} (a : Verdict) → ◌≡◌ {A = Progress} (Ok false) (ended_as a) → A
+no-end (Ok _) e = absurd (cc)
+no-end (Err x) e = absurd (cc)
+
+step-ended : (i : Step) (f : List Complex → Found) (t : State) (k : State → State) (r : Verdict) {p : Progress} → p ≡ progress_of i → p ≡ ended_as r → EndedBy i f t k r
+unfolding progress_of carried outer_after after_left
+step-ended (going v) f t k r e h = no-end r (sym e ∙ h)
+step-ended (ended g) f t k r e h = record { found = refl; left = refl; stage = same-end r (found_stage g) (sym h ∙ e) }
 
 module _ (plan : PencilPlan) where
   abbrev mass : Hermitian
@@ -166,11 +174,11 @@ module _ (plan : PencilPlan) where
     judged-gave (gave r i) g e h = refl
 
     module _ {w₁ : List Float} {s : Verdict} (a : TakesNext w w₁ plan from to o s) where
-      pub iteration-refused : (s ≡ Ok tt → ⊥) → IteratesOnce w w₁ plan from to o (Ended s)
+      pub iteration-refused : (s ≡ Ok tt → ⊥) → {t : Progress} → t ≡ ended_as s → IteratesOnce w w₁ plan from to o t
       unfolding outer_iteration iteration_left progress_of carried read
-      iteration-refused h =
+      iteration-refused h e =
           rw (judged-gave (next_of p x) (outer_judged p) a.stage h, left-gave (next_of p x) (next_left p (read w n l)) (judged_left p) a.stage h)
-          (record { frame = a.frame; left = a.left; progress = ap Ended a.stage; held = a.held })
+          (record { frame = a.frame; left = a.left; progress = e ∙ ap ended_as a.stage; held = a.held })
 
       pub iteration-judged : s ≡ Ok tt → {w₂ : List Float} {t : Progress} → Judges w₁ w₂ plan from to o t → IteratesOnce w w₂ plan from to o t
       unfolding outer_iteration iteration_left judged_from left_by read
@@ -246,7 +254,7 @@ module _ (plan : PencilPlan) where
           a.left ∙ ap (λ j. iterated_left (pencil w plan from to o) j (read w₁ energy.size l)) (one_less k i less)
           ∙ more_left (k - (i + 1)) (read w₁ energy.size l)
 
-      pub reach-again : t ≡ Going → Reached w₂ (i + 1)
+      pub reach-again : t ≡ Ok false → Reached w₂ (i + 1)
       unfolding outer_after after_left
       reach-again g =
           let p : Pencil = pencil w plan from to o in
@@ -257,11 +265,11 @@ module _ (plan : PencilPlan) where
             left = left_is ∙ ap (λ u. after_left u step_left (iterated_left p (k - (i + 1)))) s ∙ ap (iterated_left p (k - (i + 1))) (sym steps.left);
           }
 
-      pub reach-ended : {s q : Verdict} → t ≡ Ended q → s ≡ ending_of t → Iterates w w₂ plan from to o k s
-      reach-ended {s} g es =
+      pub reach-ended : (s : Verdict) → t ≡ ended_as s → Iterates w w₂ plan from to o k s
+      reach-ended s g =
           let p : Pencil = pencil w plan from to o in
           let e : EndedBy step (iterated p (k - (i + 1))) step_left (iterated_left p (k - (i + 1))) s =
-          step-ended step (iterated p (k - (i + 1))) step_left (iterated_left p (k - (i + 1))) steps.progress g es in
+          step-ended step (iterated p (k - (i + 1))) step_left (iterated_left p (k - (i + 1))) s steps.progress g in
           rw (whole_is ∙ e.found, left_is ∙ e.left) (record { frame = both; left = steps.left; stage = e.stage; held = steps.held })
 
     pub reach-done : {w₁ : List Float} {i : ℕ} {r : Verdict} → i ≤ k → k ≤ i → Reached w₁ i → r ≡ Err (gave_up 12 0) → Iterates w w₁ plan from to o k r

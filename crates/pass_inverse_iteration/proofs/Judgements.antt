@@ -24,17 +24,16 @@ use Rattle.linear_conjugate_gradient.specs.Method.{mass_squared}
 use Rattle.linear_conjugate_gradient.specs.Solve.{State}
 use Rattle.linear_conjugate_gradient.specs.Work.{read, lay, VectorRoom}
 use Rattle.linear_conjugate_gradient.proofs.Lays.{Sized, read-sized, lay-read, get-x, get-p, get-q, get-matrix, put-p, put-q, lay-then}
-use Rattle.refusals.specs.Refusal.{gave_up, Verdict}
+use Rattle.refusals.specs.Refusal.{gave_up}
 use Rattle.linear_conjugate_gradient.specs.Found.{vector, gave}
 use Rattle.pass_solution.specs.Work.{found_stage}
 use Rattle.pass_solution.proofs.Stages.{framed, left_in}
 use Rattle.pass_inverse_iteration.specs.declared.Limits.{Limits}
 use Rattle.pass_inverse_iteration.specs.declared.PencilPlan.{PencilPlan}
 use Rattle.pass_inverse_iteration.specs.declared.Quotient.{Quotient}
-use Rattle.pass_inverse_iteration.specs.declared.Progress.TheVariants.{Going, Ended}
 use Rattle.pass_inverse_iteration.specs.Inverse.{Pencil, outer_tolerance, estimate_of, residual_by, relative_of}
 use Rattle.pass_inverse_iteration.specs.Memory.{outer_judged, quoted, left_over, subtracted, judged_left}
-use Rattle.pass_inverse_iteration.specs.Work.{PencilRoom, pencil, Quotients, Relative, progress_of, carried, Judges}
+use Rattle.pass_inverse_iteration.specs.Work.{PencilRoom, pencil, Quotients, Relative, progress_of, carried, Judges, Progress}
 
 -- ---- a slice as long has the same room
 
@@ -163,14 +162,14 @@ module _ (plan : PencilPlan) where
     mass-not-positive : {b : Bool} → b ≡ not_positive q.denominator → not_positive (mass_squared p.mass next) ≡ b
     mass-not-positive e = sym (e ∙ ap (λ u. not_positive u) a.denominator)
 
-    pub judge-denominator : {b : Bool} {t : Verdict} → b ≡ not_positive q.denominator → b ≡ true → t ≡ Err (gave_up 10 0) → Judges w w₁ plan from to o (Ended t)
+    pub judge-denominator : {b : Bool} {t : Progress} → b ≡ not_positive q.denominator → b ≡ true → t ≡ Err (gave_up 10 0) → Judges w w₁ plan from to o t
     unfolding outer_judged judged_left progress_of carried found_stage read
     judge-denominator eb tb et =
         let u : not_positive (mass_squared p.mass next) ≡ true = mass-not-positive eb ∙ tb in
         rw u (record {
           frame = framed w energy.size l vectors after after-sized a.work;
           left = read_is;
-          progress = ap Ended et;
+          progress = et;
           held = λ v e. gave-held 10 0 v e;
         })
 
@@ -181,14 +180,14 @@ module _ (plan : PencilPlan) where
       finite : is_finite (estimate_of p next) ≡ g
       finite = sym (eg ∙ ap (λ u. is_finite u) estimate-is)
 
-      pub judge-estimate : {t : Verdict} → not g ≡ true → t ≡ Err (gave_up 11 0) → Judges w w₁ plan from to o (Ended t)
+      pub judge-estimate : {t : Progress} → not g ≡ true → t ≡ Err (gave_up 11 0) → Judges w w₁ plan from to o t
       unfolding outer_judged judged_left progress_of carried found_stage read
       judge-estimate fg et =
           let u : not (is_finite (estimate_of p next)) ≡ true = ap not finite ∙ fg in
           rw (fit, u) (record {
             frame = framed w energy.size l vectors after after-sized a.work;
             left = read_is;
-            progress = ap Ended et;
+            progress = et;
             held = λ v e. gave-held 11 0 v e;
           })
 
@@ -220,21 +219,18 @@ module _ (plan : PencilPlan) where
         next-stays : region_c w₂ l.x energy.size ≡ next
         next-stays = ap (λ v. region_c v l.x energy.size) last-is ∙ get-x w energy.size l vectors last last-sized ∙ (unfold subtracted quoted read in refl)
 
-        pub judge-converged : le r outer_tolerance ≡ true → Judges w w₂ plan from to o (Ended (Ok tt))
+        pub judge-ended : (b : Bool) → b ≡ le r outer_tolerance → Judges w w₂ plan from to o (Ok b)
         unfolding outer_judged judged_left progress_of carried found_stage read
-        judge-converged t =
-            let u : le (relative_of p next) outer_tolerance ≡ true = rw relative-is at t in
+        judge-ended true t =
+            let u : le (relative_of p next) outer_tolerance ≡ true = rw relative-is at (sym t) in
             rw (fit, sound, u) (record {
               frame = framed w energy.size l vectors last last-sized last-is;
               left = last-left;
               progress = refl;
               held = λ v e. next-stays ∙ cc;
             })
-
-        pub judge-going : le r outer_tolerance ≡ false → Judges w w₂ plan from to o Going
-        unfolding outer_judged judged_left progress_of carried found_stage read
-        judge-going t =
-            let u : le (relative_of p next) outer_tolerance ≡ false = rw relative-is at t in
+        judge-ended false t =
+            let u : le (relative_of p next) outer_tolerance ≡ false = rw relative-is at (sym t) in
             rw (fit, sound, u) (record {
               frame = framed w energy.size l vectors last last-sized last-is;
               left = last-left;

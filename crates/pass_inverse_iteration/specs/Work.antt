@@ -1,5 +1,5 @@
 -- What the functions of the inverse iteration require of a work slice, and leave there. n is the energy's size, and the mass matrix has the same.
-use Rattle.std.specs.Prelude.{◌≡◌, List, ℕ, ◌+◌, ◌≤◌, Float, Err}
+use Rattle.std.specs.Prelude.{◌≡◌, Bool, true, false, List, ℕ, ◌+◌, ◌≤◌, Float, Result, Ok, Err}
 use Rattle.std.specs.Float.{nan}
 use Rattle.float.specs.Double.{◌⊘◌}
 use Rattle.complex.specs.declared.Complex.{Complex}
@@ -11,7 +11,8 @@ use Rattle.linear_conjugate_gradient.specs.declared.Vectors.{Vectors}
 use Rattle.linear_conjugate_gradient.specs.Method.{mass_squared, normalized_of}
 use Rattle.linear_conjugate_gradient.specs.Solve.{State}
 use Rattle.linear_conjugate_gradient.specs.Work.{read, lay, SolverRoom}
-use Rattle.refusals.specs.Refusal.{gave_up, Verdict}
+use Rattle.refusals.specs.declared.Refusal.{Refusal}
+use Rattle.refusals.specs.Refusal.{Verdict}
 use Rattle.pass_inverse_iteration.specs.Start.{start_of}
 use Rattle.linear_conjugate_gradient.specs.Found.{Found, vector}
 use Rattle.pass_solution.specs.Work.{found_stage, Framed, Answers}
@@ -19,8 +20,6 @@ use Rattle.pass_inverse_iteration.specs.declared.Limits.{Limits}
 use Rattle.pass_inverse_iteration.specs.declared.Outer.{Outer}
 use Rattle.pass_inverse_iteration.specs.declared.PencilPlan.{PencilPlan}
 use Rattle.pass_inverse_iteration.specs.declared.Quotient.{Quotient}
-use Rattle.pass_inverse_iteration.specs.declared.Progress.{Progress}
-use Rattle.pass_inverse_iteration.specs.declared.Progress.TheVariants.{Going, Ended}
 use Rattle.pass_inverse_iteration.specs.Inverse.{Pencil, next_of, iterated, inverse_of}
 use Rattle.pass_inverse_iteration.specs.Memory.{Step, going, ended, outer_judged, outer_iteration, quoted, left_over, subtracted, next_left, judged_left, iteration_left, iterated_left, start_left, inverse_left}
 
@@ -68,20 +67,22 @@ pub record Relative (w w' : List Float) (n : ℕ) (l : Vectors) (lambda average 
   pub work : w' ≡ lay w n l (subtracted lambda (read w n l))
   pub result : r ≡ vector_norm (left_over lambda (read w n l)) ⊘ average
 
--- an iteration's answer
+-- an iteration's answer: whether the method ends with the iterate, or the refusal that it ends with
+abbrev pub Progress : Type 0
+Progress = Result Bool Refusal
+
+abbrev pub ended_as : Verdict → Progress
+ended_as (Ok _) = Ok true
+ended_as (Err x) = Err x
+
 unfoldable pub progress_of : Step → Progress
-progress_of (going x) = Going
-progress_of (ended f) = Ended (found_stage f)
+progress_of (going x) = Ok false
+progress_of (ended f) = ended_as (found_stage f)
 
 -- the vector that it leads on with, or what it found
 unfoldable pub carried : Step → Found
 carried (going x) = vector x
 carried (ended f) = f
-
--- how the method ends with an iteration: one that leads on, with none after it, is reason 12
-unfoldable pub ending_of : Progress → Verdict
-ending_of Going = Err (gave_up 12 0)
-ending_of (Ended s) = s
 
 -- w' is w with the solver's vectors as they are in t. A vector that the iteration leads on with, or that it found, stands at the solver's x
 pub record Steps (w w' : List Float) (n : ℕ) (l : Vectors) (t : State) (i : Step) (r : Progress) : Type 0 where

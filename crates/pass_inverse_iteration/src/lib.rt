@@ -8,12 +8,12 @@ ghost use Rattle.linear_conjugate_gradient.specs.Work.{SolverRoom, VectorRoom, E
 ghost use Rattle.linear_hermitian.specs.Work.{Graph};
 ghost use Rattle.pass_inverse_iteration.specs.Inverse.{average_of};
 ghost use Rattle.pass_inverse_iteration.specs.Work.{PencilRoom, PlanesBelow, Graphs};
-ghost use Rattle.pass_inverse_iteration.specs.Work.{ending_of, Quotients, Relative, Judges, TakesNext, IteratesOnce, Iterates, Starts, Inverts};
+ghost use Rattle.pass_inverse_iteration.specs.Work.{Quotients, Relative, Judges, TakesNext, IteratesOnce, Iterates, Starts, Inverts};
 
 use linear_conjugate_gradient::Vectors;
 use linear_hermitian::Hermitian;
 use linear_packing::Packing;
-use refusals::Stage;
+use refusals::Refusal;
 
 const OUTER_TOLERANCE: f64 = 1e-8;
 
@@ -49,13 +49,6 @@ struct Quotient {
     denominator: f64,
 }
 
-// One iteration leads on with the next iterate, or ends the method.
-#[derive(Clone, Copy)]
-enum Progress {
-    Going,
-    Ended(Stage),
-}
-
 fn rayleigh(work: &mut [f64], p: PencilPlan, from: &[u32], to: &[u32]) -> Quotient
     requires pencil_room { PencilRoom (length work.old) p }
     requires graphs { Graphs p from.now to.now }
@@ -80,24 +73,27 @@ fn relative(work: &mut [f64], n: usize, l: Vectors, lambda: f64, average: f64) -
     root::sqrt(float::max(sums.square, 0.0)) / average
 }
 
-// Whether the iteration goes on with the iterate, once it is normalised.
-fn judge(work: &mut [f64], p: PencilPlan, from: &[u32], to: &[u32], o: Limits) -> Progress
+// Whether the method ends with the iterate, which is normalised.
+fn judge(
+    work: &mut [f64],
+    p: PencilPlan,
+    from: &[u32],
+    to: &[u32],
+    o: Limits,
+) -> Result<bool, Refusal>
     requires pencil_room { PencilRoom (length work.old) p }
     requires graphs { Graphs p from.now to.now }
     ensures { Judges work.old work.new p from.now to.now o result }
 {
     let q = rayleigh(work, p, from, to);
     if float::not_positive(q.denominator) {
-        return Progress::Ended(refusals::gave_up(10, 0));
+        return Err(refusals::gave_up(10, 0));
     }
     let lambda = q.numerator / q.denominator;
     if !float::is_finite(lambda) {
-        return Progress::Ended(refusals::gave_up(11, 0));
+        return Err(refusals::gave_up(11, 0));
     }
-    if relative(work, p.energy.size, p.vectors, lambda, o.average) <= OUTER_TOLERANCE {
-        return Progress::Ended(Stage::Done);
-    }
-    Progress::Going
+    Ok(relative(work, p.energy.size, p.vectors, lambda, o.average) <= OUTER_TOLERANCE)
 }
 
 // The solution of the system whose right-hand side is the mass times x, normalised.
@@ -108,20 +104,18 @@ fn next(
     to: &[u32],
     words: &[u32],
     o: Limits,
-) -> Stage
+) -> Result<(), Refusal>
     requires pencil_room { PencilRoom (length work.old) p }
     requires graphs { Graphs p from.now to.now }
     requires engine { Engine work.old p.energy p.vectors from.now to.now words.now p.copy }
     ensures { TakesNext work.old work.new p from.now to.now o result }
 {
     linear_hermitian::apply(work, p.vectors.residual, p.vectors.x, p.mass, from, to);
-    let s = pass_solution::solve(work, p.energy, p.vectors, from, to, words, p.copy, o.most);
-    let Stage::Done = s else {
-        return s;
-    };
+    pass_solution::solve(work, p.energy, p.vectors, from, to, words, p.copy, o.most)?;
     pass_solution::normalize(work, p.mass, p.vectors, from, to)
 }
 
+// Whether the method ends with this iteration.
 fn iterate_once(
     work: &mut [f64],
     p: PencilPlan,
@@ -129,27 +123,14 @@ fn iterate_once(
     to: &[u32],
     words: &[u32],
     o: Limits,
-) -> Progress
+) -> Result<bool, Refusal>
     requires pencil_room { PencilRoom (length work.old) p }
     requires graphs { Graphs p from.now to.now }
     requires engine { Engine work.old p.energy p.vectors from.now to.now words.now p.copy }
     ensures { IteratesOnce work.old work.new p from.now to.now o result }
 {
-    let s = next(work, p, from, to, words, o);
-    let Stage::Done = s else {
-        return Progress::Ended(s);
-    };
+    next(work, p, from, to, words, o)?;
     judge(work, p, from, to, o)
-}
-
-// How the method ends with this iteration.
-fn ending(p: Progress) -> Stage
-    ensures { result ≡ ending_of p }
-{
-    let Progress::Ended(s) = p else {
-        return refusals::gave_up(12, 0);
-    };
-    s
 }
 
 fn iterate(
@@ -160,23 +141,23 @@ fn iterate(
     words: &[u32],
     o: Limits,
     iterations: usize,
-) -> Stage
+) -> Result<(), Refusal>
     requires pencil_room { PencilRoom (length work.old) p }
     requires graphs { Graphs p from.now to.now }
     requires engine { Engine work.old p.energy p.vectors from.now to.now words.now p.copy }
     ensures { Iterates work.old work.new p from.now to.now o iterations result }
 {
     for i in 0..iterations {
-        let progress = iterate_once(work, p, from, to, words, o);
-        let Progress::Going = progress else {
-            return ending(progress);
-        };
+        let converged = iterate_once(work, p, from, to, words, o)?;
+        if converged {
+            return Ok(());
+        }
     }
-    refusals::gave_up(12, 0)
+    Err(refusals::gave_up(12, 0))
 }
 
 // The start vector, normalised.
-fn begin(work: &mut [f64], p: PencilPlan, from: &[u32], to: &[u32], o: Outer) -> Stage
+fn begin(work: &mut [f64], p: PencilPlan, from: &[u32], to: &[u32], o: Outer) -> Result<(), Refusal>
     requires solver_room { SolverRoom (length work.old) p.mass p.vectors × PlanesBelow p.mass.size p.vectors o }
     requires graph { Graph p.mass from.now to.now }
     ensures { Starts work.old work.new p from.now to.now o result }
@@ -199,16 +180,13 @@ pub fn inverse_iteration(
     to: &[u32],
     words: &[u32],
     o: Outer,
-) -> Stage
+) -> Result<(), Refusal>
     requires pencil_room { PencilRoom (length work.old) p × PlanesBelow p.energy.size p.vectors o }
     requires graphs { Graphs p from.now to.now }
     requires engine { Engine work.old p.energy p.vectors from.now to.now words.now p.copy }
     ensures { Inverts work.old work.new p from.now to.now o result }
 {
-    let s = begin(work, p, from, to, o);
-    let Stage::Done = s else {
-        return s;
-    };
+    begin(work, p, from, to, o)?;
     let limits = Limits {
         average: average(o.trace, p.energy.size),
         most: pass_solution::inner_most(p.energy.size),

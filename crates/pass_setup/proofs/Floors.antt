@@ -135,11 +135,11 @@ module _ (f : Floor) where
 -- ---- the answer
 
 after-means : (c : Verdict) (next : Setup) {m : ℕ} → after_means c next ≡ Ok m → (c ≡ Ok tt) × (next ≡ Ok m)
-after-means (Ok tt) next h = (refl, h)
+after-means (Ok _) next h = (refl, h)
 after-means (Err x) next h = let z : ◌≡◌ {A = ℕ} 0 1 = cc in absurd (omega arith)
 
 after-transports : (k : ℕ) (a : Answer) {m : ℕ} → after_transports k a ≡ Ok m → (a ≡ Ok tt) × (k ≡ m)
-after-transports k (Ok tt) h = (refl, cc)
+after-transports k (Ok _) h = (refl, cc)
 after-transports k (Err e) h = let z : ◌≡◌ {A = ℕ} 0 1 = cc in absurd (omega arith)
 
 module _ (f : Floor) {m : ℕ} (h : setup_of f ≡ Ok m) where

@@ -87,11 +87,11 @@ abbrev pub edge_refusal : Answer → Refusal
 edge_refusal a = record { number = transports.number a; place = get_or (transports.place a) 0 0; other = get_or (transports.place a) 1 0; pass = 0; reason = 0 }
 
 abbrev pub after_transports : ℕ → Answer → Setup
-after_transports m (Ok tt) = Ok m
+after_transports m (Ok _) = Ok m
 after_transports m (Err e) = Err (edge_refusal (Err e))
 
 abbrev pub after_means : Verdict → Setup → Setup
-after_means (Ok tt) next = next
+after_means (Ok _) next = next
 after_means (Err x) next = Err (row_at x.number x.place)
 
 unfoldable pub setup_of : Floor → Setup

@@ -75,9 +75,9 @@ transports_answer p a b = cond (ltb (first_mean p a b (length a)) (length a)) (r
 
 -- the refusal's number and place that an answer stands for: 0 and none where it is no refusal
 abbrev pub number : Answer → ℕ
-number (Ok tt) = 0
+number (Ok _) = 0
 number (Err e) = 22
 
 abbrev pub place : Answer → List ℕ
-place (Ok tt) = []
+place (Ok _) = []
 place (Err e) = e.from ∷ e.to ∷ []

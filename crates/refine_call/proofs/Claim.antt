@@ -30,7 +30,7 @@ use Rattle.refine_call.specs.Claim.{AcceptedCall}
 use Rattle.refine_call.proofs.Facts.{passed, passed-last, passed-both, sizes-are}
 
 answered : (c : Verdict) (r : Refined) (counts : Counts) → answer_of c r ≡ Refinement counts → (c ≡ Ok tt) × (counts_of r ≡ counts)
-answered (Ok tt) r counts e = (refl, cc)
+answered (Ok _) r counts e = (refl, cc)
 answered (Err x) r counts e = let z : ◌≡◌ {A = ℕ} 0 1 = cc in absurd (omega arith)
 
 -- row 8

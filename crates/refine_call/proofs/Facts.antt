@@ -51,7 +51,7 @@ passed-last true x rest e = (refl, e)
 passed-last false x rest e = no x e
 
 pub passed-both : (c rest : Verdict) → and_then c rest ≡ Ok tt → (c ≡ Ok tt) × (rest ≡ Ok tt)
-passed-both (Ok tt) rest e = (refl, e)
+passed-both (Ok _) rest e = (refl, e)
 passed-both (Err x) rest e = no x e
 
 pub sizes-are : (points : List Float) (triangles : List ℕ) (sizes : List Float) → check_floor points triangles sizes ≡ Ok tt → length sizes ≡ length points / 3

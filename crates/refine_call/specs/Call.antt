@@ -30,12 +30,12 @@ counts_of r = record { points = length r.points / 3; triangles = length r.triang
 
 -- a refusal found below is passed up with its number and place
 abbrev pub answer_of : Verdict → Refined → Answer
-answer_of (Ok tt) r = Refinement (counts_of r)
+answer_of (Ok _) r = Refinement (counts_of r)
 answer_of (Err x) r = Refusal x.number x.place
 
 -- refused, a slice is as it was; accepted, its front is filled and the rest stays
 abbrev pub left : {A : Type 0} → Verdict → List A → List A → List A
-left (Ok tt) new old = over new old
+left (Ok _) new old = over new old
 left (Err x) new old = old
 
 -- what is found, c, and the floor that is made, r, decide the answer a and the four result slices

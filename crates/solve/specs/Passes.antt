@@ -46,11 +46,11 @@ ReadyFor c w u = Ready c (lengths_for c (length w) (length u))
 
 -- what checks and a pass that refused stand for; where they did not, nothing is told
 abbrev pub told_early : Verdict → Outcome
-told_early (Ok tt) = Ok (record { flagged = 0; cut = 0 })
+told_early (Ok _) = Ok (record { flagged = 0; cut = 0 })
 told_early (Err x) = Err x
 
 abbrev pub told_in : ℕ → Verdict → Found
-told_in k (Ok tt) = Ok None
+told_in k (Ok _) = Ok None
 told_in k (Err x) = Err (in_pass k x)
 
 -- ---- what is found

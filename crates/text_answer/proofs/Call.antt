@@ -44,7 +44,7 @@ few x α p z l =
 -- ---- the answer's lines
 
 holds_by : {a : Answer} (c : Verdict) (r : Refined) (l : List ℕ) (m n k : ℕ) → Few r l → length l / 3 ≤ 256 → m ≡ 3072 → n ≡ 2048 → longest ≤ k → a ≡ answer_of c r → Holds a m n k
-holds_by (Ok tt) r l m n k w t e₁ e₂ e₃ h = rw h (omega (arith, w.triangles), (omega (arith, w.cut), omega (arith, w.triangles, w.cut)))
+holds_by (Ok _) r l m n k w t e₁ e₂ e₃ h = rw h (omega (arith, w.triangles), (omega (arith, w.cut), omega (arith, w.triangles, w.cut)))
 holds_by (Err x) r l m n k w t e₁ e₂ e₃ h = rw h (omega arith)
 
 pub holds : {op os op' os' : List Float} {ot oe ot' oe' : List ℕ} {a : Answer} {c : Verdict} {r : Refined} (l : List ℕ) (m n k : ℕ) → Few r l → length l / 3 ≤ 256 → m ≡ 3072 → n ≡ 2048 → longest ≤ k
@@ -95,6 +95,6 @@ module _ (p z : List Float) (l : List ℕ) (n t : ℕ) (small : n ≤ 256) (litt
       rw (formed, a, b, rest) refl
 
 pub bytes-by : (c : Verdict) (b : Bool) (r : Refined) → bytes_of (and_then c (cond b (Err (row 12)) (Ok tt))) r ≡ cond (is_sound c && not b) (written r) refused_line
-bytes-by (Ok tt) true r = refl
-bytes-by (Ok tt) false r = refl
+bytes-by (Ok _) true r = refl
+bytes-by (Ok _) false r = refl
 bytes-by (Err x) b r = refl

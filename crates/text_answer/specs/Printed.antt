@@ -15,7 +15,7 @@ abbrev pub written : Refined → List ℕ
 written r = lines_of (counts_of r) r.triangles r.cut
 
 abbrev pub is_sound : Verdict → Bool
-is_sound (Ok tt) = true
+is_sound (Ok _) = true
 is_sound (Err x) = false
 
 -- a text whose floor and threshold refinement takes: rows 3 to 8, and 12

@@ -7,7 +7,7 @@ use Rattle.text_answer.specs.Printed.{written, longest}
 use Rattle.refusals.specs.Refusal.{Verdict}
 
 abbrev pub bytes_of : Verdict → Refined → List ℕ
-bytes_of (Ok tt) r = written r
+bytes_of (Ok _) r = written r
 bytes_of (Err x) r = refused_line
 
 -- of points p, corners k, sizes z, angles α and the threshold x, with result slices of full size

@@ -1,7 +1,6 @@
 -- `pass_assembly::add_triangles` meets its contract: the loop keeps what `Inv-loop` says, and what is left to do falls at each iteration; the laws are in proofs/Rounds.
 use native.Mathlib.Omega.{arith}
 use Rattle.pass_assembly.proofs.Rounds.{to-again, to-done}
-use Prim.Native.Nat.{◌-◌}
 use borrow.Author.Rules.{rules}
 use Rattle.pass_assembly.proofs.add_triangles.Goals as goal
 

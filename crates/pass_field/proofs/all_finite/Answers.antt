@@ -1,5 +1,4 @@
 -- `pass_field::all_finite` meets its contract: the loop keeps what `Inv-loop` says, and what is left to do falls at each iteration; the laws are in proofs/Angles.
-use Prim.Native.Nat.{◌-◌}
 use Rattle.pass_field.proofs.Angles.{finite-none, finite-again, finite-found, finite-done}
 use borrow.Author.Rules.{rules}
 use Rattle.pass_field.proofs.all_finite.Goals as goal

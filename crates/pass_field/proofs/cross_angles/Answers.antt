@@ -1,5 +1,4 @@
 -- `pass_field::cross_angles` meets its contract: the loop keeps what `Inv-loop` says, and what is left to do falls at each iteration; the laws are in proofs/Angles.
-use Prim.Native.Nat.{◌-◌}
 use Rattle.pass_field.proofs.Angles.{angles-none, angles-again, angles-done}
 use borrow.Author.Rules.{rules}
 use Rattle.pass_field.proofs.cross_angles.Goals as goal

@@ -1,6 +1,5 @@
 -- `pass_inverse_iteration::start::bounds` meets its contract: the loop keeps what `Inv-loop` says, and what is left to do falls at each iteration; the laws are in proofs/Ramps.
 use lib.Ieee.{div, neg, of_bits}
-use Prim.Native.Nat.{◌-◌}
 use Rattle.pass_inverse_iteration.proofs.Ramps.{bounds-none, bounds-again, bounds-done}
 use borrow.Author.Rules.{rules}
 use Rattle.pass_inverse_iteration.proofs.start.bounds.Goals as goal

@@ -1,5 +1,4 @@
 -- `pass_inverse_iteration::start::ramped` meets its contract: the loop keeps what `Inv-loop` says, and what is left to do falls at each iteration; the laws are in proofs/Ramps.
-use Prim.Native.Nat.{◌-◌}
 use Rattle.pass_inverse_iteration.proofs.Ramps.{ramp-none, ramp-again, ramp-done}
 use borrow.Author.Rules.{rules}
 use Rattle.pass_inverse_iteration.proofs.start.ramped.Goals as goal
