@@ -1,15 +1,15 @@
 -- Row 23 in the table's words: no boundary side is listed exactly if no side lies in exactly one triangle, where the corners of each triangle are
 -- pairwise different. Assumes nothing.
-use Prim.Native.Nat.{ℕ, zero, suc, ◌+◌}
+use Prim.Native.Nat.{ℕ}
 use native.Mathlib.Omega.{arith}
 use mathlib.Core.Path.{◌≡◌, refl, sym, ap, ◌∙◌, subst}
 use mathlib.Core.Logic.{◌≢◌, ◌⊎◌, inl, inr}
-use mathlib.Core.Bool.{Bool, true, false, not, cond, ◌&&◌}
-use mathlib.Core.List.{List, [], ◌∷◌, ◌++◌}
+use mathlib.Core.Bool.{Bool, true, false, cond}
+use mathlib.Core.List.{List, [], ◌∷◌}
 use borrow.Author.Tests.{eq-eqb, ne_eqb, eqb-true}
 use lib.Dec.{T, eqb}
 use lib.ListN.{length}
-use Rattle.mesh.specs.Mesh.{Side, side, key, Tri, tri, count, total, All, Same, Distinct}
+use Rattle.mesh.specs.Mesh.{Side, side, Tri, tri, count, total, All, Same, Distinct}
 use Rattle.mesh.proofs.Cuts.{same_key}
 use Rattle.mesh.proofs.Weigh.{F, F-cases, around}
 use Rattle.mesh.proofs.Whole.{count-around}

@@ -1,6 +1,6 @@
 -- The packed copy of the matrix that is solved with: once its entries are made the solver can multiply by it, and nothing else of the system or of the pencil has
 -- changed. Assumes nothing.
-use mathlib.Core.Path.{◌≡◌, ◌∙◌}
+use mathlib.Core.Path.{◌≡◌}
 use mathlib.Core.List.{List}
 use Prim.Native.Nat.{ℕ, ◌+◌, ◌*◌, ◌≤◌, ◌<◌}
 use native.Mathlib.Omega.{arith}

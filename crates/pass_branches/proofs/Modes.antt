@@ -9,9 +9,8 @@ use Rattle.float.specs.Double.{lit}
 use Rattle.complex.specs.declared.Complex.{Complex}
 use Rattle.linear_hermitian.specs.declared.Hermitian.{Hermitian}
 use Rattle.linear_conjugate_gradient.specs.declared.Vectors.{Vectors}
-use Rattle.linear_conjugate_gradient.specs.Work.{SolverRoom}
 use Rattle.pass_inverse_iteration.specs.declared.Outer.{Outer}
-use Rattle.pass_inverse_iteration.specs.Work.{PencilRoom, PlanesBelow}
+use Rattle.pass_inverse_iteration.specs.Work.{PencilRoom}
 use Rattle.pass_soft.specs.declared.Terms.{Terms}
 use Rattle.pass_soft.specs.Soft.{Term, System, term_of}
 use Rattle.pass_soft.specs.Work.{terms_in}

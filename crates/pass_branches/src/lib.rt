@@ -26,7 +26,7 @@ use pass_layout::Layout;
 use pass_options::{BoundaryMode, Options};
 use pass_soft::Terms;
 use pass_systems::SystemPlan;
-use refusals::Stage;
+use refusals::Refusal;
 use solver::{BranchPlan, solve_system, vector_field};
 
 // What else the field depends on: whether guidance is given, and its weight; the trace of the energy matrix before its shift; how many outer iterations
@@ -40,7 +40,13 @@ pub struct Search {
 }
 
 // The soft terms alone.
-fn soft_field(work: &mut [f64], b: BranchPlan, from: &[u32], to: &[u32], words: &[u32]) -> Stage
+fn soft_field(
+    work: &mut [f64],
+    b: BranchPlan,
+    from: &[u32],
+    to: &[u32],
+    words: &[u32],
+) -> Result<(), Refusal>
     requires branch_room { BranchRoom (length work.old) b }
     requires graphs { Graphs (pencil_at b) from.now to.now }
     requires copy_room { CopyRoom b × Copies words.now from.now to.now b }
@@ -59,7 +65,7 @@ fn weak_field(
     from: &[u32],
     to: &[u32],
     words: &[u32],
-) -> Stage
+) -> Result<(), Refusal>
     requires branch_room { BranchRoom (length work.old) b × TargetRoom (length work.old) b.system }
     requires graphs { Graphs (pencil_at b) from.now to.now × (length flag.now ≡ b.system.energy.size) }
     requires copy_room { CopyRoom b × Copies words.now from.now to.now b }
@@ -77,7 +83,7 @@ fn tangent_field(
     from: &[u32],
     to: &[u32],
     words: &[u32],
-) -> Stage
+) -> Result<(), Refusal>
     requires branch_room { BranchRoom (length work.old) b × TargetRoom (length work.old) b.system }
     requires graphs { Graphs (pencil_at b) from.now to.now × (length flag.now ≡ b.system.energy.size) }
     requires system_value { boundary_data flag.now (targets_at work.old b.system) ≡ targets_at work.old b.system }
@@ -102,7 +108,13 @@ fn none_acts(t: Terms) -> bool
 }
 
 // No boundary mode acts.
-fn free_field(work: &mut [f64], b: BranchPlan, from: &[u32], to: &[u32], words: &[u32]) -> Stage
+fn free_field(
+    work: &mut [f64],
+    b: BranchPlan,
+    from: &[u32],
+    to: &[u32],
+    words: &[u32],
+) -> Result<(), Refusal>
     requires branch_room { BranchRoom (length work.old) b }
     requires graphs { Graphs (pencil_at b) from.now to.now }
     requires copy_room { (CopyRoom b × CopyBehind b) × Copies words.now from.now to.now b }
@@ -123,7 +135,7 @@ fn field_by(
     from: &[u32],
     to: &[u32],
     words: &[u32],
-) -> Stage
+) -> Result<(), Refusal>
     requires branch_room { BranchRoom (length work.old) b × TargetRoom (length work.old) b.system }
     requires graphs { Graphs (pencil_at b) from.now to.now × (length flag.now ≡ b.system.energy.size) }
     requires system_value { mode ≡ Tangent → boundary_data flag.now (targets_at work.old b.system) ≡ targets_at work.old b.system }
@@ -173,7 +185,7 @@ fn field_at(
     edges: usize,
     o: Options,
     s: Search,
-) -> Stage
+) -> Result<(), Refusal>
     requires ordered { Ordered l (length work.old) (length words.now) }
     requires packs { Packs l edges words.now × (o.boundary ≡ Tangent → Bounds l work.old words.now) }
     ensures { LeavesAt l edges o s work.old work.new words.now result }
@@ -238,7 +250,7 @@ fn packed_field(
     edges: usize,
     o: Options,
     s: Search,
-) -> Stage
+) -> Result<(), Refusal>
     requires ordered { Ordered l (length work.old) (length words.old) }
     requires edged { Edged l edges words.old × (o.boundary ≡ Tangent → Bounds l work.old words.old) }
     ensures { LeavesPacked l edges o s work.old work.new words.old words.new result }
@@ -255,7 +267,7 @@ fn held_field(
     edges: usize,
     o: Options,
     s: Search,
-) -> Stage
+) -> Result<(), Refusal>
     requires ordered { Ordered l (length work.old) (length words.old) }
     requires edged { Edged l edges words.old × (acts o.boundary ≡ true) }
     ensures { Finds l l.energy l.table (sought_in l edges o s work.old words.old)
@@ -280,7 +292,7 @@ fn held_field(
     };
     let sides = pass_boundary::boundary_targets(work, words, listing, planes);
     if sides == 0 {
-        return refusals::refused(23, 0);
+        return Err(refusals::refused(23, 0));
     }
     packed_field(work, words, l, edges, o, s)
 }
@@ -293,7 +305,7 @@ pub fn find_field(
     edges: usize,
     o: Options,
     s: Search,
-) -> Stage
+) -> Result<(), Refusal>
     requires ordered { Ordered l (length work.old) (length words.old) }
     requires edged { Edged l edges words.old }
     ensures { Finds l l.energy l.table (sought_in l edges o s work.old words.old)

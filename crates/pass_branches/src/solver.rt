@@ -8,7 +8,7 @@ ghost use Rattle.pass_branches.specs.Work.{pencil_at, BranchRoom, CopyRoom, Copy
 use linear_packing::{Packing, Source};
 use pass_inverse_iteration::{Outer, PencilPlan};
 use pass_systems::SystemPlan;
-use refusals::Stage;
+use refusals::Refusal;
 
 // Where a branch works: its system; the packed copy of the energy matrix, which the linear solver multiplies by, and what the copy is made from; where the
 // angles are left; and what the inverse iteration starts from, with the most iterations.
@@ -28,7 +28,7 @@ pub fn solve_system(
     from: &[u32],
     to: &[u32],
     words: &[u32],
-) -> Stage
+) -> Result<(), Refusal>
     requires branch_room { BranchRoom (length work.old) b }
     requires graph { Graph b.system.energy from.now to.now }
     requires copy_room { CopyRoom b × Copies words.now from.now to.now b }
@@ -39,10 +39,7 @@ pub fn solve_system(
     let most = pass_solution::linear_most(energy.size, b.outer.iterations);
     let copy = b.copy;
     linear_packing::entries(work, words, energy, copy, b.source);
-    let s = pass_solution::solve(work, energy, vectors, from, to, words, copy, most);
-    let Stage::Done = s else {
-        return s;
-    };
+    pass_solution::solve(work, energy, vectors, from, to, words, copy, most)?;
     pass_field::angles_from(work, vectors.x, b.angles, energy.size)
 }
 
@@ -53,7 +50,7 @@ pub fn vector_field(
     from: &[u32],
     to: &[u32],
     words: &[u32],
-) -> Stage
+) -> Result<(), Refusal>
     requires branch_room { BranchRoom (length work.old) b }
     requires graphs { Graphs (pencil_at b) from.now to.now }
     requires copy_room { (CopyRoom b × CopyBehind b) × Copies words.now from.now to.now b }
@@ -70,9 +67,6 @@ pub fn vector_field(
         copy,
     };
     linear_packing::entries(work, words, energy, b.copy, b.source);
-    let s = pass_inverse_iteration::inverse_iteration(work, pencil, from, to, words, b.outer);
-    let Stage::Done = s else {
-        return s;
-    };
+    pass_inverse_iteration::inverse_iteration(work, pencil, from, to, words, b.outer)?;
     pass_field::angles_from(work, vectors.x, b.angles, energy.size)
 }
