@@ -6,7 +6,6 @@ use mathlib.Core.Bool.{Bool, true, false, cond}
 use mathlib.Core.List.{List}
 use lib.Ieee.{Float}
 use Rattle.std.specs.Prelude.{Ok, Err}
-use Rattle.mesh.specs.Mesh.{All}
 use Rattle.mesh.proofs.Whole.{all-distinct}
 use Rattle.floor.specs.Floor.{Floor, point_count}
 use Rattle.float.specs.Double.{not_positive}

@@ -14,7 +14,6 @@ use Rattle.edges.specs.Numbering.{tris_from}
 use Rattle.floor.specs.Floor.{Floor, point_count, triangle_count}
 use Rattle.linear_hermitian.specs.Hermitian.{Matrix}
 use Rattle.linear_hermitian.specs.Work.{matrix, shift_matrix, ShiftRoom}
-use Rattle.pass_assembly.specs.Assembly as assembly
 use Rattle.pass_assembly.specs.Work.{assembled_to, Indexed, TraceRoom}
 use Rattle.pass_assembly.specs.Work as work
 use Rattle.pass_assembly.proofs.Lists as lists

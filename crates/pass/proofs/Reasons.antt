@@ -7,6 +7,8 @@ use mathlib.Core.List.{List}
 use lib.Dec.{T, leb, leb→le}
 use lib.ListN.{length}
 use lib.Ieee.{Float}
+use Rattle.std.specs.Prelude.{Option, Some, None}
+use Rattle.std.specs.Option.{option_map_or}
 use Rattle.complex.specs.declared.Complex.{Complex}
 use Rattle.linear_hermitian.specs.Hermitian.{Matrix, applied}
 use Rattle.linear_conjugate_gradient.specs.Found.{Found, vector, gave}
@@ -42,7 +44,11 @@ either : (b : Bool) (f g : Found) → Reasoned f → Reasoned g → Reasoned (co
 either true f g h k = h
 either false f g h k = k
 
-ruleset reasons = (either, plain, at-vertex, found, tt)
+or-vertex : (v : Option ℕ) (f : ℕ → Found) (g : Found) → ((i : ℕ) → Reasoned (f i)) → Reasoned g → Reasoned (option_map_or f v g)
+or-vertex None f g h k = k
+or-vertex (Some i) f g h k = h i
+
+ruleset reasons = (either, or-vertex, plain, at-vertex, found, tt)
 
 -- ---- the linear solver
 

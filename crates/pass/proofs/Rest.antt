@@ -82,8 +82,8 @@ traces-cases : (t : Traces) (next : Passed) → ((traces_stage t ≡ Ok tt) × (
 unfolding traces_stage
 traces-cases t next = go (not_positive t.energy) (not_positive t.mass)
   where
-    go : (e m : Bool) → ((cond e (Err (gave_up 1 0)) (cond m (Err (gave_up 2 0)) (Ok tt)) ≡ Ok tt) × (cond e (faulty (gave_up 1 0)) (cond m (faulty (gave_up 2 0)) next) ≡ next)) ⊎
-        ((x : Refusal) × (cond e (Err (gave_up 1 0)) (cond m (Err (gave_up 2 0)) (Ok tt)) ≡ Err x) × (cond e (faulty (gave_up 1 0)) (cond m (faulty (gave_up 2 0)) next) ≡ faulty x))
+    go : (e m : Bool) → (◌≡◌ {A = Verdict} (cond e (Err (gave_up 1 0)) (cond m (Err (gave_up 2 0)) (Ok tt))) (Ok tt) × (cond e (faulty (gave_up 1 0)) (cond m (faulty (gave_up 2 0)) next) ≡ next)) ⊎
+        ((x : Refusal) × ◌≡◌ {A = Verdict} (cond e (Err (gave_up 1 0)) (cond m (Err (gave_up 2 0)) (Ok tt))) (Err x) × (cond e (faulty (gave_up 1 0)) (cond m (faulty (gave_up 2 0)) next) ≡ faulty x))
     go true m = inr (gave_up 1 0, refl, refl)
     go false true = inr (gave_up 2 0, refl, refl)
     go false false = inl (refl, refl)

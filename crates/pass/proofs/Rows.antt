@@ -2,16 +2,15 @@
 use Prim.Native.Nat.{ℕ}
 use native.Mathlib.Omega.{arith}
 use mathlib.Core.Path.{◌≡◌, refl, sym, ap, ◌∙◌, subst}
-use mathlib.Core.Logic.{◌≢◌, ◌↔◌, ◌⊎◌, inl, inr}
-use mathlib.Core.Bool.{Bool, true, false, cond, ◌&&◌}
-use mathlib.Core.List.{List, [], ◌∷◌}
+use mathlib.Core.Bool.{Bool, true, false, cond}
+use mathlib.Core.List.{List}
 use lib.Dec.{T, eqb}
 use lib.ListN.{length}
-use lib.Ieee.{Float, lt}
+use lib.Ieee.{lt}
 use Rattle.std.specs.Prelude.{Ok, Err}
 use Rattle.float.specs.Double.{lit, not_positive}
 use Rattle.complex.specs.declared.Complex.{Complex}
-use Rattle.mesh.specs.Mesh.{count, All, Distinct}
+use Rattle.mesh.specs.Mesh.{All, Distinct}
 use Rattle.mesh.proofs.Whole.{all-distinct}
 use Rattle.float.proofs.Within.{and_both}
 use Rattle.floor.specs.Floor.{Floor, point_count}
@@ -19,13 +18,12 @@ use Rattle.linear_conjugate_gradient.specs.Found.{Found, vector, gave}
 use Rattle.pass_field.specs.Field.{Angles, angles, endless, field_of}
 use Rattle.refusals.specs.declared.Refusal.{Refusal}
 use Rattle.refusals.specs.Refusal.{row_at, gave_up}
-use Rattle.pass_assembly.specs.declared.shift.Traces.{Traces}
 use Rattle.pass_soft.specs.Soft.{Term, System}
 use Rattle.pass_options.specs.declared.Options.{Options}
 use Rattle.pass_options.specs.declared.BoundaryMode.{BoundaryMode}
 use Rattle.pass_options.specs.declared.BoundaryMode.TheVariants.{None, Tangent, Weak}
 use Rattle.pass_options.specs.Options.{Guidance}
-use Rattle.pass_options.specs.Pass.{Passed, field, faulty}
+use Rattle.pass_options.specs.Pass.{Passed, faulty}
 use Rattle.pass_boundary.specs.Boundary.{boundary_sides}
 use Rattle.pass_setup.specs.Setup.{setup_of, Setup}
 use Rattle.pass_setup.specs.Rows.{SoundFloor, RefusedFloor, AcceptedFloor}
@@ -37,9 +35,9 @@ use Rattle.pass_inverse_iteration.specs.Inverse.{inverse_of}
 use Rattle.pass_systems.specs.Systems.{soft_system, weak_system, tangent_system}
 use Rattle.pass_branches.specs.Branches.{Built, no_terms, acts, unbounded, after_angles, after_vector, linear, free, by_mode, searched, branch_of}
 use Rattle.pass_branches.proofs.Bounded.{no-boundary, boundary-none}
-use Rattle.pass.specs.Pass.{traces_in, built_of, after_traces, field_over, after_setup, pass_of}
+use Rattle.pass.specs.Pass.{traces_in, built_of, field_over, after_setup, pass_of}
 use Rattle.pass.proofs.Reasons.{Reasoned, solution-reasoned, inverse-reasoned}
-use Rattle.pass.specs.Rows.{BadEnergy, BadMass, Row23, Traced, Posed, SolverReason, RefusedPass, by-floor, by-energy, by-mass, by-23, by-solver, PassRows}
+use Rattle.pass.specs.Rows.{Row23, SolverReason, RefusedPass, by-floor, by-energy, by-mass, by-23, by-solver, PassRows}
 
 -- ---- the solver's refusals are row 24's
 

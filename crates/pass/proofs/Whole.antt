@@ -19,7 +19,7 @@ use Rattle.pass_setup.specs.Work.{Stands, SetUp}
 use Rattle.pass_branches.specs.Work.{Finds}
 use Rattle.pass.specs.declared.Asked.{Asked}
 use Rattle.pass.specs.Pass.{field_over, after_setup, pass_of}
-use Rattle.pass.specs.Work.{guidance_at, pass_in, field_in, refusal_of}
+use Rattle.pass.specs.Work.{guidance_at, pass_in, field_in}
 use Rattle.pass.proofs.Below.{region-below}
 use Rattle.pass.proofs.Rest.{Alike, finds-from, refusal-found}
 use Rattle.refusals.specs.Refusal.{Verdict}
@@ -46,9 +46,9 @@ module _ (l : Layout) (w : List Float) (u : List ℕ) (o : Options) (a : Asked) 
     words-behind = λ j h. s.words-behind j (omega arith);
   }
 
-  pub pass-refused : (x : Refusal) → r ≡ Err x → {q : Verdict} → q ≡ refusal_of r → Finds l l.areas l.wound (pass_in l o a w u) w u w₁ u₁ q
+  pub pass-refused : (x : Refusal) → r ≡ Err x → {q : Verdict} → q ≡ Err x → Finds l l.areas l.wound (pass_in l o a w u) w u w₁ u₁ q
   unfolding pass_in pass_of
-  pass-refused x e f = rw (f, e) (refusal-found l (omega arith) (pass_in l o a w u) x w w₁ u u₁
+  pass-refused x e f = rw f (refusal-found l (omega arith) (pass_in l o a w u) x w w₁ u u₁
       (ap (λ (z : Setup). after_setup z (field_over (floor_in l w u) o (guidance_at l a w) a.iterations)) (sym s.answer ∙ e))
       alike)
 

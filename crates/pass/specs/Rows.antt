@@ -1,6 +1,6 @@
 -- Rows 19 to 24 of document 01's table, in its words, of one pass over a floor as rows 3 to 8 leave it. A pass is refused by one of them exactly if it
 -- holds and no earlier one does: `pass-rows` in proofs/Rows. Rows 19 to 22 are those of crate pass_setup. Definitions only.
-use Rattle.std.specs.Prelude.{ℕ, ◌≤◌, ◌≡◌, ◌≢◌, ◌↔◌, true, false}
+use Rattle.std.specs.Prelude.{ℕ, ◌≤◌, ◌≡◌, ◌≢◌, ◌↔◌, true}
 use Rattle.float.specs.Double.{not_positive}
 use Rattle.mesh.specs.Mesh.{count}
 use Rattle.floor.specs.Floor.{Floor}

@@ -1,6 +1,6 @@
 -- What a pass reads from the work slices, and what its parts leave there. What it leaves itself is `Finds` of crate pass_branches: the angles where it found
 -- them; its floor and its guidance, all before the pass and all behind its last regions as it was. What lies between is free. Definitions only.
-use Rattle.std.specs.Prelude.{ℕ, ◌≡◌, List, Float, Ok, Err}
+use Rattle.std.specs.Prelude.{ℕ, ◌≡◌, List, Float}
 use Rattle.std.specs.Float.{nan}
 use Rattle.linear_cells.specs.Region.{region}
 use Rattle.pass_terms.specs.declared.Mode.{Mode}
@@ -16,8 +16,6 @@ use Rattle.pass_layout.specs.Matrices.{mass_at, energy_at}
 use Rattle.pass_layout.specs.Work.{floor_in, guidance_in}
 use Rattle.pass.specs.declared.Asked.{Asked}
 use Rattle.pass.specs.Pass.{field_over, pass_of}
-use Rattle.refusals.specs.Refusal.{Verdict}
-use Rattle.pass_setup.specs.Setup.{Setup}
 
 -- the guidance that stands there, if it is given
 abbrev pub guidance_at : Layout → Asked → List Float → Guidance
@@ -38,8 +36,3 @@ plan_at l = record { x = l.x; y = l.y; areas = l.areas; transports = l.transport
 pub record Builds (l : Layout) (m : ℕ) (mode : Mode) (w : List Float) (u : List ℕ) (w' : List Float) (r : Traces) : Type 0 where
   pub work : w' ≡ assembled_to mode w u (plan_at l) (mass_at l m) (energy_at l m) l.triangles
   pub traces : r ≡ traces_of (region nan w' l.mass l.points) (region nan w' l.energy l.points)
-
--- what set-up refuses by, as a stage's answer: done where it refuses nothing
-abbrev pub refusal_of : Setup → Verdict
-refusal_of (Ok m) = Ok tt
-refusal_of (Err x) = Err x

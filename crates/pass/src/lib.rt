@@ -12,16 +12,15 @@ ghost use Rattle.pass_layout.specs.Matrices.{mass_at, energy_at};
 ghost use Rattle.pass_layout.specs.Work.{floor_in};
 ghost use Rattle.pass_setup.specs.Work.{Stands};
 ghost use Rattle.pass_branches.specs.Work.{Finds};
-ghost use Rattle.pass.specs.Work.{pass_in, field_in, plan_at, Builds, refusal_of};
+ghost use Rattle.pass.specs.Work.{pass_in, field_in, plan_at, Builds};
 
 use pass_assembly::AssemblyPlan;
 use pass_assembly::shift::Traces;
 use pass_branches::Search;
 use pass_layout::{Base, Layout};
 use pass_options::Options;
-use pass_setup::Setup;
 use pass_terms::Mode;
-use refusals::Stage;
+use refusals::Refusal;
 
 // What is asked beside the floor and the options: whether guidance is given, and its weight; how many outer iterations there may be.
 #[derive(Clone, Copy)]
@@ -75,7 +74,7 @@ fn field_over(
     edges: usize,
     o: Options,
     a: Asked,
-) -> Stage
+) -> Result<(), Refusal>
     requires ordered { Ordered l (length work.old) (length words.old) }
     requires stands { Stands l edges (floor_in l work.old words.old) work.old words.old }
     ensures { Finds l l.mass l.table (field_in l o a work.old words.old)
@@ -86,10 +85,7 @@ fn field_over(
         holomorphic: o.holomorphic,
     };
     let t = build(work, words, l, edges, mode);
-    let s = pass_assembly::shift::check(t);
-    let Stage::Done = s else {
-        return s;
-    };
+    pass_assembly::shift::check(t)?;
     shift_energy(work, l, edges, t);
     let search = Search {
         guided: a.guided,
@@ -100,27 +96,20 @@ fn field_over(
     pass_branches::find_field(work, words, l, edges, o, search)
 }
 
-// What set-up refuses by, as a stage's answer.
-fn refusal(found: Setup) -> Stage
-    ensures { result ≡ refusal_of found }
-{
-    let Setup::Refused(fault) = found else {
-        return Stage::Done;
-    };
-    Stage::Refused(fault)
-}
-
 // The pass over the floor that begins at `at`.
-pub fn pass(work: &mut [f64], words: &mut [u32], at: Base, o: Options, a: Asked) -> Stage
+pub fn pass(
+    work: &mut [f64],
+    words: &mut [u32],
+    at: Base,
+    o: Options,
+    a: Asked,
+) -> Result<(), Refusal>
     requires fits { Fits at (length work.old) (length words.old) }
     requires below { Below at.points at.words words.old (3 * at.triangles) }
     ensures { Finds (layout_of at) (layout_of at).areas (layout_of at).wound (pass_in (layout_of at) o a work.old words.old)
         work.old words.old work.new words.new result }
 {
     let l = pass_layout::layout_at(at);
-    let found = pass_setup::set_up(work, words, l);
-    let Setup::Edges(edges) = found else {
-        return refusal(found);
-    };
+    let edges = pass_setup::set_up(work, words, l)?;
     field_over(work, words, l, edges, o, a)
 }
