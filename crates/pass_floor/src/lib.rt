@@ -15,7 +15,7 @@ use inputs::Mean;
 use pass::Asked;
 use pass_layout::{Base, Layout};
 use pass_options::Options;
-use refusals::Stage;
+use refusals::Refusal;
 
 // The planes of the points' coordinates and sizes.
 fn lay_points(
@@ -62,7 +62,7 @@ pub fn pass_over(
     at: Base,
     o: Options,
     a: Asked,
-) -> Stage
+) -> Result<(), Refusal>
     requires laid_room { LaidRoom at a.guided (length points.now) (length sizes.now) (length guidance.now) table (length work.old) (length words.old) }
     requires below { Below at.points at.words words.old (3 * at.triangles) }
     ensures { Made at (pass_at at o a table points.now sizes.now guidance.now words.old)
@@ -84,7 +84,7 @@ pub fn first_pass(
     words: &mut [u32],
     o: Options,
     a: Asked,
-) -> Stage
+) -> Result<(), Refusal>
     requires first_room { FirstRoom a.guided (length points.now) (length triangles.now) (length sizes.now) (length guidance.now) (length work.old) (length words.old) }
     requires below { Below (length points.now / 3) 0 triangles.now (length triangles.now) }
     ensures { Made (first_base (length points.now) (length triangles.now))

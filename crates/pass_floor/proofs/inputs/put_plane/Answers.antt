@@ -1,7 +1,6 @@
 -- `pass_floor::inputs::put_plane` meets its contract: the loop keeps what `Inv-loop` says, and what is left to do falls at each iteration; the laws are those of crate linear_cells.
 use Rattle.pass_floor.proofs.Points.{plane-done}
 use Rattle.linear_cells.proofs.Writes.{write-none, write_again, write_done}
-use Prim.Native.Nat.{◌-◌}
 use borrow.Author.Rules.{rules}
 use Rattle.pass_floor.proofs.inputs.put_plane.Goals as goal
 
