@@ -18,7 +18,7 @@ use Rattle.pass_floor.specs.Lay.{Made}
 use Rattle.pass_floor.specs.First.{first_base, first_over, FirstRoom}
 use Rattle.calls.specs.Checks.{is_adaptive, most_points, most_triangles}
 use Rattle.calls.specs.Solve.{first_pass, in_pass}
-use Rattle.solve.specs.Passes.{call_for, ReadyFor, first_in, found_after, found_of, FirstStands, SecondStands, SameLengths, SecondMade, PassesMade, told_in, Found}
+use Rattle.solve.specs.Passes.{call_for, ReadyFor, first_in, found_after, found_of, FirstStands, SecondStands, SameLengths, SecondMade, PassesMade, Found}
 use Rattle.solve.proofs.Answers.{stage-faulty, stage-field}
 use Rattle.refusals.specs.Refusal.{Verdict}
 
@@ -65,12 +65,12 @@ module _ (points : List Float) (corners : List ℕ) (sizes angles : List Float) 
     same : SameLengths w w₁ u u₁
     same = record { all-reals = made.all-reals; all_words = made.all_words }
 
-    pub passes-refused : (x : Refusal) → s ≡ Err x → {r : Found} → r ≡ told_in 1 s → PassesMade (call_for points corners sizes angles o a) w w₁ u u₁ r
+    pub passes-refused : (x : Refusal) → s ≡ Err x → {r : Found} → r ≡ Err (in_pass 1 x) → PassesMade (call_for points corners sizes angles o a) w w₁ u u₁ r
     unfolding found_of
     passes-refused x h told =
         let p : first_pass pass_of (call_for points corners sizes angles o a) ≡ faulty x = stage-faulty _ x (sym h ∙ made.answer) in
         record {
-          answer = rw p (told ∙ ap (told_in 1) h);
+          answer = rw p told;
           first-stands = made.found;
           second-stands = λ alpha e. one_answer p e;
           lengths = same;

@@ -41,7 +41,7 @@ use Rattle.calls.specs.Checks.{most_points, most_triangles}
 use Rattle.calls.specs.Solve.{first_floor, second_pass, refined_by, refines, in_pass, extended, without_threshold}
 use Rattle.mesh.proofs.Good.{both-good}
 use Rattle.calls.proofs.Room.{points-in}
-use Rattle.solve.specs.Passes.{call_for, again, ReadyFor, first_in, found_after, FirstStands, SecondStands, SameLengths, CutRoom, CutsBy, SecondMade, told_in, Found}
+use Rattle.solve.specs.Passes.{call_for, again, ReadyFor, first_in, found_after, FirstStands, SecondStands, SameLengths, CutRoom, CutsBy, SecondMade, Found}
 use Rattle.solve.proofs.Answers.{stage-faulty, stage-field, both_true, front-stays}
 use Rattle.solve.proofs.Corners.{below-in-range, stored-tris, stored-below}
 use Rattle.refusals.specs.Refusal.{Verdict}
@@ -196,10 +196,10 @@ module _ (points : List Float) (corners : List ℕ) (sizes angles : List Float) 
         lengths : SameLengths w w' u u'
         lengths = record { all-reals = made.all-reals; all_words = made.all_words ∙ long }
 
-        pub second-refused : (x : Refusal) → s ≡ Err x → {r : Found} → r ≡ told_in 2 s → SecondMade (call_for points corners sizes angles o a) w w' u u' r
+        pub second-refused : (x : Refusal) → s ≡ Err x → {r : Found} → r ≡ Err (in_pass 2 x) → SecondMade (call_for points corners sizes angles o a) w w' u u' r
         unfolding found_after
         second-refused x h told = record {
-          answer = rw (some-flagged some, stage-faulty (second_pass pass_of (call_for points corners sizes angles o a) (first_in (length points / 3) w)) x (sym h ∙ answered)) (told ∙ ap (told_in 2) h);
+          answer = rw (some-flagged some, stage-faulty (second_pass pass_of (call_for points corners sizes angles o a) (first_in (length points / 3) w)) x (sym h ∙ answered)) told;
           first-stays = stays;
           second-stands = second-stands;
           lengths = lengths;

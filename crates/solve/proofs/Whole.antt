@@ -18,7 +18,7 @@ use Rattle.calls.specs.Checks.{Call, Lent, lengths_of, points_in, triangles_in, 
 use Rattle.calls.specs.Solve.{first_pass, second_pass, refined_by, refines, Ended, after_second, after_first, solved_once, solve_of, Ends}
 use Rattle.calls.proofs.Ready.{sound-ready}
 use Rattle.calls.proofs.Room.{second-points, second-few}
-use Rattle.solve.specs.Passes.{told_early, found_second, found_after, found_first, found_of, ReadyFor, PassesMade, FinishRoom, SecondFits, Finished, outcome_of, coarse_left, fine_left, Found}
+use Rattle.solve.specs.Passes.{found_second, found_after, found_first, found_of, ReadyFor, PassesMade, FinishRoom, SecondFits, Finished, outcome_of, coarse_left, fine_left, Found}
 use Rattle.solve.proofs.Answers.{both_true}
 use Rattle.solve.proofs.Made.{some-points-fit}
 use Rattle.refusals.specs.Refusal.{Verdict}
@@ -29,9 +29,9 @@ module _ (c : Call) (l : Lent) where
   unfolding solve_of
   refused-ends x e = rw e (record { outcome = refl; coarse-left = refl; fine-left = refl; work-left = refl; words_left = refl })
 
-  pub ends-early : {k : Verdict} → k ≡ check_solve c (lengths_of l) → (x : Refusal) → k ≡ Err x → {r : Outcome} → r ≡ told_early k
+  pub ends-early : {k : Verdict} → k ≡ check_solve c (lengths_of l) → (x : Refusal) → k ≡ Err x → {r : Outcome} → r ≡ Err x
       → Ends (solve_of pass_of c l) r l.coarse l.fine l.work l.words
-  ends-early e x h told = rw (told ∙ ap told_early h) (refused-ends x (sym e ∙ h))
+  ends-early e x h told = rw told (refused-ends x (sym e ∙ h))
 
   module _ (sound : check_solve c (lengths_of l) ≡ Ok tt) {w' : List Float} {u' : List ℕ} {found : Found} (made : PassesMade c l.work w' l.words u' found) where
     module _ {coarse' fine' : List Float} {r : Outcome} (done : Finished found (points_in c) w' l.coarse l.fine coarse' fine' r)

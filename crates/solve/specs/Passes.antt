@@ -1,6 +1,6 @@
 -- What the passes of a call find, where they leave it in the work slices, and how it gets from there to the angle slices. `solve_of` of crate calls is
 -- put together from these in proofs/Whole. Definitions only.
-use Rattle.std.specs.Prelude.{ℕ, ◌+◌, ◌*◌, ◌/◌, ◌^◌, ◌≤◌, ◌<◌, ◌≡◌, true, cond, ◌&&◌, List, length, Float, Some, Ok, None, Err}
+use Rattle.std.specs.Prelude.{ℕ, ◌+◌, ◌*◌, ◌/◌, ◌^◌, ◌≤◌, ◌<◌, ◌≡◌, true, cond, ◌&&◌, List, length, Float, Option, Some, None, Result, Ok, Err}
 use Rattle.std.specs.Float.{nan}
 use Rattle.std.specs.Float.Ieee.{lt}
 use Rattle.float.specs.Double.{lit}
@@ -15,9 +15,10 @@ use Rattle.pass_options.specs.declared.Options.{Options}
 use Rattle.pass_options.specs.Pass.{Passed, field, faulty}
 use Rattle.pass.specs.declared.Asked.{Asked}
 use Rattle.pass.specs.Pass.{pass_of}
-use Rattle.calls.specs.declared.Counts.{Counts}
 use Rattle.calls.specs.declared.Lengths.{Lengths}
 use Rattle.calls.specs.Checks.{Call, Lent, call_of, points_in, triangles_in, is_adaptive, Ready, Outcome}
+use Rattle.refusals.specs.declared.Refusal.{Refusal}
+use Rattle.calls.specs.declared.Counts.{Counts}
 use Rattle.calls.specs.Solve.{first_pass, second_pass, refined_by, refines, in_pass}
 use Rattle.refusals.specs.Refusal.{Verdict}
 
@@ -42,18 +43,11 @@ lengths_for c work words = record { coarse = points_in c; fine = points_in c + 3
 abbrev pub ReadyFor : Call → List Float → List ℕ → Type 0
 ReadyFor c w u = Ready c (lengths_for c (length w) (length u))
 
--- ---- refusals, passed up
-
--- what checks and a pass that refused stand for; where they did not, nothing is told
-abbrev pub told_early : Verdict → Outcome
-told_early (Ok _) = Ok (record { flagged = 0; cut = 0 })
-told_early (Err x) = Err x
-
-abbrev pub told_in : ℕ → Verdict → Found
-told_in k (Ok _) = Ok None
-told_in k (Err x) = Err (in_pass k x)
-
 -- ---- what is found
+
+-- one field in the f64 work, or a second behind it where a triangle was flagged; or a refusal
+abbrev pub Found : Type 0
+Found = Result (Option Counts) Refusal
 
 -- the counts of a call that refines, by the first pass's angles alpha
 abbrev pub counts_by : Call → List Float → Counts
