@@ -117,7 +117,7 @@ pub fn atan(x: f64) -> f64
         if is_nan(x) {
             return x + x;
         }
-        if float::sign_bit(x) == 0 {
+        if float::is_sign_positive(x) {
             return ATANHI3 + ATANLO3;
         }
         return -ATANHI3 - ATANLO3;
@@ -129,13 +129,14 @@ pub fn atan(x: f64) -> f64
         return x - atan_tail(x);
     }
     let z = atan_size(float::abs(x), ix);
-    if float::sign_bit(x) == 0 {
+    if float::is_sign_positive(x) {
         return z;
     }
     -z
 }
 
 // m: the sign of y, and twice that of x.
+// Kept: m is a number and no enum, since the C's m is what the definition says, and switch_of chooses by it.
 fn quadrant_of(y: f64, x: f64) -> u64
     ensures { result ≡ quadrant y x }
 {
@@ -145,16 +146,12 @@ fn quadrant_of(y: f64, x: f64) -> u64
 fn switch_of(m: u64, a: f64, b: f64, c: f64, d: f64) -> f64
     ensures { result ≡ switch m a b c d }
 {
-    if m == 0 {
-        return a;
+    match m {
+        0 => a,
+        1 => b,
+        2 => c,
+        _ => d,
     }
-    if m == 1 {
-        return b;
-    }
-    if m == 2 {
-        return c;
-    }
-    d
 }
 
 // z: the arc of |y / x|. k > 60 is ix + 61 * 2^20 <= iy, and k < -60 is iy + 60 * 2^20 < ix.
@@ -167,7 +164,7 @@ fn atan_ratio(y: f64, x: f64) -> f64
         return PI_O_2 + 0.5 * PI_LO;
     }
     if iy + 0x3c0_0000 < ix {
-        if float::sign_bit(x) == 0 {
+        if float::is_sign_positive(x) {
             return atan(float::abs(y / x));
         }
         return 0.0;
@@ -200,7 +197,7 @@ fn at_infinity(m: u64, iy: u64) -> f64
 fn upright_of(y: f64) -> f64
     ensures { result ≡ upright y }
 {
-    if float::sign_bit(y) == 0 {
+    if float::is_sign_positive(y) {
         return PI_O_2 + TINY;
     }
     -PI_O_2 - TINY
@@ -210,10 +207,7 @@ fn upright_of(y: f64) -> f64
 pub fn atan2(y: f64, x: f64) -> f64
     ensures { result ≡ atan2_of y x }
 {
-    if is_nan(x) {
-        return x + y;
-    }
-    if is_nan(y) {
+    if is_nan(x) || is_nan(y) {
         return x + y;
     }
     if is_one(x) {

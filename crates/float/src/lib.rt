@@ -2,7 +2,7 @@
 // definition of specs/Double.antt. No public one has a `requires`: every pattern of 64 bits is an input.
 #![tactic(auto)]
 
-ghost use Rattle.std.specs.Prelude.{◌≡◌, ◌*◌, ◌%◌, ◌^◌, ◌<◌, pos, from_bits, to_bits};
+ghost use Rattle.std.specs.Prelude.{◌≡◌, ◌*◌, ◌%◌, ◌^◌, ◌<◌, nat_eq, pos, from_bits, to_bits};
 ghost use Rattle.std.specs.Float.{binary64};
 ghost use Rattle.std.specs.Float.Ieee.{to_unsigned, to_signed, of_int, rem};
 ghost use Rattle.float.specs.Double.{is_finite, not_positive, mag, max_of, min_of, recip_of, rem_euclid, high, field, sign, round_size, round_away, significand, places, power_of};
@@ -137,7 +137,7 @@ pub fn remainder(x: f64, y: f64) -> f64
     }
     let rest = remainder_of_doubled(significand(x), above - below, significand(y));
     let size = from_whole(rest) * power_of(below);
-    if sign_bit(x) == 0 {
+    if is_sign_positive(x) {
         return size;
     }
     -size
@@ -218,11 +218,11 @@ pub fn from_whole(n: u64) -> f64
     std::num::nearest_u64_to_f64(n)
 }
 
-// 1 where the sign's bit is set, 0 otherwise.
-pub fn sign_bit(x: f64) -> u64
-    ensures { result ≡ sign x }
+// f64::is_sign_positive, also of a NaN.
+pub fn is_sign_positive(x: f64) -> bool
+    ensures { result ≡ nat_eq (sign x) 0 }
 {
-    bits(x) / 0x8000_0000_0000_0000
+    bits(x) / 0x8000_0000_0000_0000 == 0
 }
 
 // The whole part of a, or one more where what is left is a half or more.

@@ -4,9 +4,6 @@ ghost use Rattle.probe.specs.Probe.{probe_of};
 ghost use Rattle.singularities.specs.Count.{singularities};
 ghost use Rattle.godf.specs.Answers.{Probed, CountedIn};
 
-use probe::Probe;
-use singularities::Singularities;
-
 // 0: `angle` is the angle at (x, y); 1: a length is not a multiple of 3; 2: no angle; 3: an angle of `alpha` is over 131,072 in absolute value.
 #[unsafe(no_mangle)]
 pub extern "C" fn godf_interp_angle(
@@ -19,15 +16,12 @@ pub extern "C" fn godf_interp_angle(
 ) -> u32
     ensures { Probed (probe_of alpha.now points.now tris.now (record { x = x; y = y })) angle.old result angle.new }
 {
-    let answer = probe::interp_angle(alpha, points, tris, x, y);
-    match answer {
-        Probe::Angle(a) => {
+    match probe::interp_angle(alpha, points, tris, x, y) {
+        Ok(a) => {
             *angle = a;
             0
         }
-        Probe::NotTriples => 1,
-        Probe::NoAngle => 2,
-        Probe::TooLarge => 3,
+        Err(error) => u32::from(error),
     }
 }
 
@@ -42,8 +36,7 @@ pub extern "C" fn godf_count_singularities(
     ensures { CountedIn (singularities alpha.now tris.now)
         valence_3.old valence_5.old result valence_3.new valence_5.new }
 {
-    let answer = singularities::count_singularities(alpha, tris);
-    let Singularities::Counted(counts) = answer else {
+    let Ok(counts) = singularities::count_singularities(alpha, tris) else {
         return 1;
     };
     *valence_3 = counts.valence_3;

@@ -1,40 +1,29 @@
--- What the probe's loops keep: a test of every angle speaks of those still to come (`every-`), and the search of the triangles still to come (`found-`).
+-- What the probe's loop keeps: the search speaks of the triangles still to come (`found-`).
 use mathlib.Core.Path.{◌≡◌, refl, sym, ap, ◌∙◌}
 use Prim.Native.Nat.{ℕ, suc, ◌+◌, ◌-◌, ◌*◌, ◌/◌, ◌%◌, ◌^◌, ◌≤◌, ◌<◌}
 use native.Mathlib.Numerals.{add-one}
 use native.Mathlib.Omega.{arith}
 use mathlib.Core.Bool.{Bool, true, false, not, ◌&&◌, ◌||◌}
 use mathlib.Core.List.{List, [], ◌∷◌}
-use lib.ListN.{length, drop, get_or, drop_of_length-le}
-use lib.Seq.{drop-cons}
+use lib.ListN.{length}
+use Rattle.std.specs.List.{list_all}
 use lib.Dec.{ltb, eqb}
 use lib.Ieee.{Float, nan, inf, fin, up, down, lt, le, eq, neg, of_bits}
 use Rattle.float.specs.Double.{mag}
 use Rattle.float.proofs.Within.{and_both, le-or, below-zero}
-use Rattle.probe.specs.declared.Visit.{Visit}
-use Rattle.probe.specs.declared.Visit.TheVariants.{Passed, Vanished, Found}
-use Rattle.probe.specs.declared.Probe.TheVariants.{NoAngle, Angle}
+use Rattle.std.specs.Prelude.{Option, Some, None, Result, Ok, Err}
+use Rattle.probe.specs.declared.ProbeError.{ProbeError}
+use Rattle.probe.specs.declared.ProbeError.TheVariants.{NoAngle}
 use Rattle.probe.specs.Probe.{every, finite, small, taken, visit_at, decided, found_from, probe_of}
 use Rattle.plane.specs.declared.Pair.{Pair}
 use borrow.Author.Tests.{eq-eqb, ne_eqb, le-ltb, ltb-true, ltb-false}
 
-module _ (p : Float → Bool) (xs : List Float) where
-  pub every-none : every p xs ≡ every p (drop 0 xs)
-  every-none = refl
+-- a test of every angle is the library's
+pub every-is : (p : Float → Bool) (xs : List Float) → list_all p xs ≡ every p xs
+every-is p [] = refl
+every-is p (x ∷ xs) = ap (p x &&◌) (every-is p xs)
 
-  every-step : (i : ℕ) → i < length xs → every p (drop i xs) ≡ p (get_or xs i nan) && every p (drop (i + 1) xs)
-  every-step i h = rw (add-one i, drop-cons xs i nan h)
-
-  pub every_more : (i : ℕ) → i < length xs → every p xs ≡ every p (drop i xs) → p (get_or xs i nan) ≡ true → every p xs ≡ every p (drop (i + 1) xs)
-  every_more i h e t = e ∙ every-step i h ∙ rw t
-
-  pub every-fail : (i : ℕ) → i < length xs → every p xs ≡ every p (drop i xs) → p (get_or xs i nan) ≡ false → false ≡ every p xs
-  every-fail i h e t = sym (e ∙ every-step i h ∙ rw t)
-
-  pub every-done : (i : ℕ) → length xs ≤ i → every p xs ≡ every p (drop i xs) → true ≡ every p xs
-  every-done i h e = sym (e ∙ ap (every p) (drop_of_length-le xs h))
-
-module _ (v : ℕ → Visit) (n : ℕ) where
+module _ (v : ℕ → Result (Option Float) ProbeError) (n : ℕ) where
   pub found_none : found_from v 0 n ≡ found_from v 0 (n - 0)
   found_none = let e : n - 0 ≡ n = omega arith in rw e
 
@@ -42,16 +31,16 @@ module _ (v : ℕ → Visit) (n : ℕ) where
   unfolding found_from
   found-step t h = let e : n - t ≡ suc (n - (t + 1)) = omega arith in rw (e, add-one t)
 
-  pub found-more : (t : ℕ) → t < n → found_from v 0 n ≡ found_from v t (n - t) → v t ≡ Passed → found_from v 0 n ≡ found_from v (t + 1) (n - (t + 1))
+  pub found-more : (t : ℕ) → t < n → found_from v 0 n ≡ found_from v t (n - t) → v t ≡ Ok None → found_from v 0 n ≡ found_from v (t + 1) (n - (t + 1))
   found-more t h e f = e ∙ found-step t h ∙ rw f
 
-  pub found-vanished : (t : ℕ) → t < n → found_from v 0 n ≡ found_from v t (n - t) → v t ≡ Vanished → NoAngle ≡ found_from v 0 n
-  found-vanished t h e f = sym (e ∙ found-step t h ∙ rw f)
+  pub found-failed : (t : ℕ) (x : ProbeError) → t < n → found_from v 0 n ≡ found_from v t (n - t) → v t ≡ Err x → Err x ≡ found_from v 0 n
+  found-failed t x h e f = sym (e ∙ found-step t h ∙ rw f)
 
-  pub found_here : (t : ℕ) (a : Float) → t < n → found_from v 0 n ≡ found_from v t (n - t) → v t ≡ Found a → Angle a ≡ found_from v 0 n
+  pub found_here : (t : ℕ) (a : Float) → t < n → found_from v 0 n ≡ found_from v t (n - t) → v t ≡ Ok (Some a) → Ok a ≡ found_from v 0 n
   found_here t a h e f = sym (e ∙ found-step t h ∙ rw f)
 
-  pub found-done : (t : ℕ) → n ≤ t → found_from v 0 n ≡ found_from v t (n - t) → NoAngle ≡ found_from v 0 n
+  pub found-done : (t : ℕ) → n ≤ t → found_from v 0 n ≡ found_from v t (n - t) → Err NoAngle ≡ found_from v 0 n
   unfolding found_from
   found-done t h e = let z : n - t ≡ 0 = omega arith in sym (e ∙ rw z)
 

@@ -1,3 +1,4 @@
 mod Kept
-mod Usable
 mod Range
+mod Usable
+mod Weighed

@@ -2,8 +2,8 @@
 #![tactic(auto)]
 
 ghost use Rattle.std.specs.Prelude.{◌≡◌, ◌+◌, ◌*◌, ◌<◌, ◌≤◌, length};
-ghost use Rattle.probe.specs.Weights.{usable, within, weight, weighed, interpolated, answered};
-ghost use Rattle.probe.specs.Probe.{every, finite, taken, corner_at, visited_by, visit_of, visit_at, found_from, probe_of, AngleRange};
+ghost use Rattle.probe.specs.Weights.{usable, within, weight_within, weighed, interpolated, answered};
+ghost use Rattle.probe.specs.Probe.{taken, corner_at, visited_by, visit_of, visit_at, found_from, probe_of, AngleRange, error_number};
 
 use complex::Complex;
 use plane::Pair;
@@ -16,28 +16,25 @@ pub struct Weights {
     pub k: f64,
 }
 
-// The weights of a question point, or none: the triangle has no usable denominator, or the point lies outside.
-#[derive(Clone, Copy)]
-pub enum Weighing {
-    Inside(Weights),
-    Outside,
-}
-
-// What one triangle says: nothing, a sum that vanishes, or an angle.
-#[derive(Clone, Copy)]
-pub enum Visit {
-    Passed,
-    Vanished,
-    Found(f64),
-}
-
-// Refusal 1 (slices not of whole triples), no angle, an angle above 131,072 in size among those given, or the angle.
-#[derive(Clone, Copy)]
-pub enum Probe {
+// Why there is no angle: slices not of whole triples (refusal 1), no triangle that answers, or an angle above 131,072 in size among those given.
+#[derive(Clone, Copy, Debug, PartialEq, Eq)]
+pub enum ProbeError {
     NotTriples,
     NoAngle,
     TooLarge,
-    Angle(f64),
+}
+
+// Its number in C.
+impl From<ProbeError> for u32 {
+    ghost from_gives = { λ error code. code ≡ error_number error };
+
+    fn from(error: ProbeError) -> u32 {
+        match error {
+            ProbeError::NotTriples => 1,
+            ProbeError::NoAngle => 2,
+            ProbeError::TooLarge => 3,
+        }
+    }
 }
 
 // f64::MIN_POSITIVE.
@@ -66,33 +63,25 @@ fn is_within(w: f64) -> bool
     !(w > 1.0 + 1e-12)
 }
 
-// The weight of the corner across from the side a b, seen from p.
-fn weight_of(p: Pair, a: Pair, b: Pair, denominator: f64) -> f64
-    ensures { result ≡ weight p a b denominator }
+// The weight of the corner across from the side a b, seen from p: none where p lies outside of it.
+fn weight_of(p: Pair, a: Pair, b: Pair, denominator: f64) -> Option<f64>
+    ensures { result ≡ weight_within p a b denominator }
 {
-    plane::cross2(plane::sub2(a, p), plane::sub2(b, p)) / denominator
+    let w = plane::cross2(plane::sub2(a, p), plane::sub2(b, p)) / denominator;
+    if is_within(w) { Some(w) } else { None }
 }
 
 // Each weight is tested before the next is computed.
-fn weights_of(p: Pair, corners: [Pair; 3], denominator: f64) -> Weighing
+fn weights_of(p: Pair, corners: [Pair; 3], denominator: f64) -> Option<Weights>
     ensures { result ≡ weighed p corners denominator }
 {
     let a = corners[0];
     let b = corners[1];
     let c = corners[2];
-    let i = weight_of(p, b, c, denominator);
-    if is_within(i) {
-        let j = weight_of(p, c, a, denominator);
-        if is_within(j) {
-            let k = weight_of(p, a, b, denominator);
-            if is_within(k) {
-                return Weighing::Inside(Weights { i, j, k });
-            }
-            return Weighing::Outside;
-        }
-        return Weighing::Outside;
-    }
-    Weighing::Outside
+    let i = weight_of(p, b, c, denominator)?;
+    let j = weight_of(p, c, a, denominator)?;
+    let k = weight_of(p, a, b, denominator)?;
+    Some(Weights { i, j, k })
 }
 
 // The weighted sum of the fourfold directions.
@@ -105,13 +94,14 @@ fn interpolate(w: Weights, a: f64, b: f64, c: f64) -> Complex
     first.add(second).add(third)
 }
 
-fn answer(z: Complex) -> Visit
+// The angle of a sum that does not vanish.
+fn answer(z: Complex) -> Result<Option<f64>, ProbeError>
     ensures { result ≡ answered z }
 {
     if z.is_zero() {
-        return Visit::Vanished;
+        return Err(ProbeError::NoAngle);
     }
-    Visit::Found(complex::cross_angle(z))
+    Ok(Some(complex::cross_angle(z)))
 }
 
 // The position of point v.
@@ -125,43 +115,56 @@ fn position(points: &[f64], v: usize) -> Pair
     }
 }
 
-// What a triangle with these corners and angles says of the question point.
-fn visit_corners(at: Pair, corners: [Pair; 3], a: f64, b: f64, c: f64) -> Visit
+// What a triangle with these corners and angles says of the question point: an angle, or none where the point lies outside; where the sum vanishes, the
+// search ends.
+fn visit_corners(
+    at: Pair,
+    corners: [Pair; 3],
+    a: f64,
+    b: f64,
+    c: f64,
+) -> Result<Option<f64>, ProbeError>
     ensures { result ≡ visited_by at corners a b c }
 {
     let denominator = plane::twice_signed_area(corners);
-    if is_usable(denominator) {
-        let weighing = weights_of(at, corners, denominator);
-        let Weighing::Inside(w) = weighing else {
-            return Visit::Passed;
-        };
-        return answer(interpolate(w, a, b, c));
+    if !is_usable(denominator) {
+        return Ok(None);
     }
-    Visit::Passed
+    let Some(w) = weights_of(at, corners, denominator) else {
+        return Ok(None);
+    };
+    answer(interpolate(w, a, b, c))
 }
 
-fn visit_points(alpha: &[f64], points: &[f64], at: Pair, i: usize, j: usize, k: usize) -> Visit
+fn visit_points(
+    alpha: &[f64],
+    points: &[f64],
+    at: Pair,
+    i: usize,
+    j: usize,
+    k: usize,
+) -> Result<Option<f64>, ProbeError>
     requires { 3 * length alpha.now ≤ length points.now }
     ensures { result ≡ visit_of alpha.now points.now at i j k }
 {
-    if i < alpha.len() {
-        if j < alpha.len() {
-            if k < alpha.len() {
-                let corners = [
-                    position(points, i),
-                    position(points, j),
-                    position(points, k),
-                ];
-                return visit_corners(at, corners, alpha[i], alpha[j], alpha[k]);
-            }
-            return Visit::Passed;
-        }
-        return Visit::Passed;
+    if i < alpha.len() && j < alpha.len() && k < alpha.len() {
+        let corners = [
+            position(points, i),
+            position(points, j),
+            position(points, k),
+        ];
+        return visit_corners(at, corners, alpha[i], alpha[j], alpha[k]);
     }
-    Visit::Passed
+    Ok(None)
 }
 
-fn visit_triangle(alpha: &[f64], points: &[f64], tris: &[u32], at: Pair, t: usize) -> Visit
+fn visit_triangle(
+    alpha: &[f64],
+    points: &[f64],
+    tris: &[u32],
+    at: Pair,
+    t: usize,
+) -> Result<Option<f64>, ProbeError>
     requires { (3 * length alpha.now ≤ length points.now) × (3 * t + 2 < length tris.now) }
     ensures { result ≡ visit_at alpha.now points.now tris.now at t }
 {
@@ -172,81 +175,54 @@ fn visit_triangle(alpha: &[f64], points: &[f64], tris: &[u32], at: Pair, t: usiz
     visit_points(alpha, points, at, i, j, k)
 }
 
-fn search(alpha: &[f64], points: &[f64], tris: &[u32], at: Pair, triangles: usize) -> Probe
+// The first angle that a triangle gives.
+fn search(
+    alpha: &[f64],
+    points: &[f64],
+    tris: &[u32],
+    at: Pair,
+    triangles: usize,
+) -> Result<f64, ProbeError>
     requires { (3 * length alpha.now ≤ length points.now) × (3 * triangles ≤ length tris.now) }
     ensures { result ≡ found_from (visit_at alpha.now points.now tris.now at) 0 triangles }
 {
-    let mut t = 0;
-    while t < triangles {
-        let visit = visit_triangle(alpha, points, tris, at, t);
-        match visit {
-            Visit::Found(angle) => return Probe::Angle(angle),
-            Visit::Vanished => return Probe::NoAngle,
-            Visit::Passed => {}
-        }
-        t += 1;
-    }
-    Probe::NoAngle
-}
-
-fn all_finite(alpha: &[f64]) -> bool
-    ensures { result ≡ every finite alpha.now }
-{
-    let mut i = 0;
-    while i < alpha.len() {
-        if float::is_finite(alpha[i]) {
-            i += 1;
-        } else {
-            return false;
+    for t in 0..triangles {
+        if let Some(angle) = visit_triangle(alpha, points, tris, at, t)? {
+            return Ok(angle);
         }
     }
-    true
+    Err(ProbeError::NoAngle)
 }
 
 // Whether an angle is finite and not too large.
 fn is_taken(angle: f64) -> bool
     ensures { result ≡ taken angle }
 {
-    if angle <= complex::LARGEST_ANGLE {
-        return angle >= -complex::LARGEST_ANGLE;
-    }
-    false
-}
-
-// Whether all are, by one look at each.
-fn all_taken(alpha: &[f64]) -> bool
-    ensures { result ≡ every taken alpha.now }
-{
-    let mut i = 0;
-    while i < alpha.len() {
-        if is_taken(alpha[i]) {
-            i += 1;
-        } else {
-            return false;
-        }
-    }
-    true
+    angle <= complex::LARGEST_ANGLE && angle >= -complex::LARGEST_ANGLE
 }
 
 // The question point (x, y) is taken as given: a NaN passes every weight test, and yields 0 where a triangle gets as far.
-pub fn interp_angle(alpha: &[f64], points: &[f64], tris: &[u32], x: f64, y: f64) -> Probe
+pub fn interp_angle(
+    alpha: &[f64],
+    points: &[f64],
+    tris: &[u32],
+    x: f64,
+    y: f64,
+) -> Result<f64, ProbeError>
     ensures value { result ≡ probe_of alpha.now points.now tris.now (record { x = x; y = y }) }
     ensures range { AngleRange result }
 {
-    if points.len() % 3 != 0 {
-        return Probe::NotTriples;
-    }
-    if tris.len() % 3 != 0 {
-        return Probe::NotTriples;
+    if points.len() % 3 != 0 || tris.len() % 3 != 0 {
+        return Err(ProbeError::NotTriples);
     }
     if alpha.len() != points.len() / 3 {
-        return Probe::NoAngle;
+        return Err(ProbeError::NoAngle);
     }
-    if all_taken(alpha) {
+    if alpha.iter().all(|angle| is_taken(*angle)) {
         return search(alpha, points, tris, Pair { x, y }, tris.len() / 3);
     }
-    if all_finite(alpha) {
-        return Probe::TooLarge;
+    if alpha.iter().all(|angle| float::is_finite(*angle)) {
+        return Err(ProbeError::TooLarge);
     }
-    Probe::NoAngle
+    Err(ProbeError::NoAngle)
 }

@@ -1,14 +1,12 @@
 -- Rows of numbers: the arguments of one call, then what the reference answered. Definitions only.
-use Rattle.std.specs.Prelude.{ℕ, ◌+◌, Bool, false, cond, List, [], ◌∷◌, eqb, Float}
+use Rattle.std.specs.Prelude.{ℕ, ◌+◌, Bool, false, cond, List, [], ◌∷◌, eqb, Float, Result, Ok, Err}
 use Rattle.complex.specs.declared.Complex.{Complex}
 use Rattle.complex.specs.Angle.{cross_angle, wrap_to_pi}
 use Rattle.plane.specs.declared.Pair.{Pair}
 use Rattle.integrals.specs.Integrals.{mass_integral, dirichlet_integral, dirichlet_diagonal}
 use Rattle.geometry.specs.declared.TriangleGeometry.{TriangleGeometry}
-use Rattle.geometry.specs.declared.Geometry.{Geometry}
-use Rattle.geometry.specs.declared.Geometry.TheVariants.{Triangle, Degenerate}
-use Rattle.geometry.specs.declared.Transport.{Transport}
-use Rattle.geometry.specs.declared.Transport.TheVariants.{Coefficient, MeanSize}
+use Rattle.geometry.specs.declared.Degenerate.{Degenerate}
+use Rattle.geometry.specs.declared.MeanSize.{MeanSize}
 use Rattle.geometry.specs.Triangle.{geometry_of, gradient_of}
 use Rattle.geometry.specs.Edge.{transport_of, alignment_weight}
 use Rattle.replay.specs.Words.{word_at}
@@ -53,18 +51,18 @@ abbrev pub same_triangle : List ℕ → TriangleGeometry → List Float → Bool
 same_triangle row g sigma = cond (same_as g.area (double_at row 11)) (same_pair (gradient_of (g.p ∷ g.q ∷ g.r ∷ []) sigma g.area) (double_at row 12) (double_at row 13)) false
 
 -- 0, the second corner, the area and the gradient, or 19
-abbrev pub same_geometry : List ℕ → List Float → Geometry → Bool
-same_geometry row sigma (Triangle g) = cond (eqb (word_at row 9) 0) (cond (eqb g.j (word_at row 10)) (same_triangle row g sigma) false) false
-same_geometry row sigma (Degenerate t) = eqb (word_at row 9) 19
+abbrev pub same_geometry : List ℕ → List Float → Result TriangleGeometry Degenerate → Bool
+same_geometry row sigma (Ok g) = cond (eqb (word_at row 9) 0) (cond (eqb g.j (word_at row 10)) (same_triangle row g sigma) false) false
+same_geometry row sigma (Err e) = eqb (word_at row 9) 19
 
 -- three positions, three sizes; what is found
 abbrev pub triangle_row : List ℕ → Bool
 triangle_row row = same_geometry row (double_at row 6 ∷ double_at row 7 ∷ double_at row 8 ∷ []) (geometry_of (0 ∷ 1 ∷ 2 ∷ []) (pair_at row 0 ∷ pair_at row 2 ∷ pair_at row 4 ∷ []) 0)
 
 -- 0 and re, im, or 22
-abbrev pub same_transport : List ℕ → Transport → Bool
-same_transport row (Coefficient z) = cond (eqb (word_at row 10) 0) (same_complex z (double_at row 11) (double_at row 12)) false
-same_transport row (MeanSize a b) = eqb (word_at row 10) 22
+abbrev pub same_transport : List ℕ → Result Complex MeanSize → Bool
+same_transport row (Ok z) = cond (eqb (word_at row 10) 0) (same_complex z (double_at row 11) (double_at row 12)) false
+same_transport row (Err e) = eqb (word_at row 10) 22
 
 -- two positions, two sizes, two gradients; what is found
 abbrev pub transport_row : List ℕ → Bool

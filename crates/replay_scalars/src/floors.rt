@@ -2,26 +2,18 @@
 ghost use Rattle.std.specs.Prelude.{◌≡◌};
 ghost use Rattle.replay_scalars.specs.Floors.{same_probe, probe_on, probe_row, same_singular, singular_on, singular_row};
 
-use probe::Probe;
+use probe::ProbeError;
 use replay::rows::{corners, count, double, doubles, same};
-use singularities::Singularities;
+use singularities::{Counts, NotTriples};
 
 // Whether the answer is the one recorded: 1 not of whole triples, 2 no angle, 3 too large, or 4 and the angle.
-fn same_probe(row: &[u8], answer: Probe) -> bool
+fn same_probe(row: &[u8], answer: Result<f64, ProbeError>) -> bool
     ensures { result ≡ same_probe row.now answer }
 {
     let kind = replay::word(row, 5);
     match answer {
-        Probe::NotTriples => kind == 1,
-        Probe::NoAngle => kind == 2,
-        Probe::TooLarge => kind == 3,
-        Probe::Angle(angle) => {
-            if kind == 4 {
-                same(angle, double(row, 6))
-            } else {
-                false
-            }
-        }
+        Ok(angle) => kind == 4 && same(angle, double(row, 6)),
+        Err(error) => kind == u64::from(u32::from(error)),
     }
 }
 
@@ -54,20 +46,18 @@ pub fn probe(row: &[u8]) -> bool
 }
 
 // Whether the answer is the one recorded: 0 and the two counts, or 1.
-fn same_singular(row: &[u8], answer: Singularities) -> bool
+fn same_singular(row: &[u8], answer: Result<Counts, NotTriples>) -> bool
     ensures { result ≡ same_singular row.now answer }
 {
     let number = replay::word(row, 2);
-    let Singularities::Counted(counts) = answer else {
-        return number == 1;
-    };
-    if number != 0 {
-        return false;
+    match answer {
+        Ok(counts) => {
+            number == 0
+                && counts.valence_3 as u64 == replay::word(row, 3)
+                && counts.valence_5 as u64 == replay::word(row, 4)
+        }
+        Err(NotTriples) => number == 1,
     }
-    if counts.valence_3 as u64 != replay::word(row, 3) {
-        return false;
-    }
-    counts.valence_5 as u64 == replay::word(row, 4)
 }
 
 // The counts of angles and corners.

@@ -4,26 +4,20 @@ ghost use Rattle.replay_scalars.specs.Numbers.{same_complex, same_pair, same_tri
 ghost use Rattle.replay_scalars.specs.Numbers.{mass_row, dirichlet_row, diagonal_row, cross_row, wrap_row, weight_row, triangle_row, transport_row};
 
 use complex::Complex;
-use geometry::{End, Geometry, Transport, TriangleGeometry};
+use geometry::{Degenerate, End, MeanSize, TriangleGeometry};
 use plane::Pair;
 use replay::rows::{double, same};
 
 fn same_complex(answer: Complex, re: f64, im: f64) -> bool
     ensures { result ≡ same_complex answer re im }
 {
-    if same(answer.re, re) {
-        return same(answer.im, im);
-    }
-    false
+    same(answer.re, re) && same(answer.im, im)
 }
 
 fn same_pair(answer: Pair, x: f64, y: f64) -> bool
     ensures { result ≡ same_pair answer x y }
 {
-    if same(answer.x, x) {
-        return same(answer.y, y);
-    }
-    false
+    same(answer.x, x) && same(answer.y, y)
 }
 
 fn pair(row: &[u8], k: usize) -> Pair
@@ -100,28 +94,19 @@ fn same_triangle(row: &[u8], g: TriangleGeometry, sigma: [f64; 3]) -> bool
     let q = g.q;
     let r = g.r;
     let gradient = geometry::triangle_gradient([p, q, r], sigma, g.area);
-    if same(g.area, double(row, 11)) {
-        return same_pair(gradient, double(row, 12), double(row, 13));
-    }
-    false
+    same(g.area, double(row, 11)) && same_pair(gradient, double(row, 12), double(row, 13))
 }
 
 // 0, the second corner, the area and the gradient, or 19
-fn same_geometry(row: &[u8], answer: Geometry, sigma: [f64; 3]) -> bool
+fn same_geometry(row: &[u8], answer: Result<TriangleGeometry, Degenerate>, sigma: [f64; 3]) -> bool
     ensures { result ≡ same_geometry row.now sigma answer }
 {
     let number = replay::word(row, 9);
     let second = replay::word(row, 10);
-    let Geometry::Triangle(g) = answer else {
-        return number == 19;
-    };
-    if number != 0 {
-        return false;
+    match answer {
+        Ok(g) => number == 0 && g.j as u64 == second && same_triangle(row, g, sigma),
+        Err(_) => number == 19,
     }
-    if g.j as u64 != second {
-        return false;
-    }
-    same_triangle(row, g, sigma)
 }
 
 // three positions, three sizes; what is found
@@ -135,17 +120,14 @@ pub fn triangle(row: &[u8]) -> bool
 }
 
 // 0 and re, im, or 22
-fn same_transport(row: &[u8], answer: Transport) -> bool
+fn same_transport(row: &[u8], answer: Result<Complex, MeanSize>) -> bool
     ensures { result ≡ same_transport row.now answer }
 {
     let number = replay::word(row, 10);
-    let Transport::Coefficient(z) = answer else {
-        return number == 22;
-    };
-    if number != 0 {
-        return false;
+    match answer {
+        Ok(z) => number == 0 && same_complex(z, double(row, 11), double(row, 12)),
+        Err(_) => number == 22,
     }
-    same_complex(z, double(row, 11), double(row, 12))
 }
 
 // two positions, two sizes, two gradients; what is found

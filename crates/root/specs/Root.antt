@@ -1,5 +1,5 @@
 -- The square root of a double, rounded to the nearest one, by whole numbers and their squares. `specs/Nearest.antt` says what nearest means, and `proofs/Theorem.antt` proves it of every positive finite double. Definitions only.
-use Rattle.std.specs.Prelude.{ℕ, zero, suc, ◌+◌, ◌-◌, ◌*◌, ◌/◌, ◌%◌, ◌^◌, ◌<◌, ◌≤◌, cond, ◌==◌, nat_le, nat_lt, to_bits, Float}
+use Rattle.std.specs.Prelude.{ℕ, zero, suc, ◌+◌, ◌-◌, ◌*◌, ◌/◌, ◌%◌, ◌^◌, ◌<◌, ◌≤◌, cond, ◌==◌, nat_le, nat_lt, to_bits, Float, Option, Some, None}
 use Rattle.std.specs.Float.{nan, binary64}
 use Rattle.std.specs.Float.Ieee.{eq, lt, ne, size}
 use Rattle.float.specs.Double.{lit}
@@ -23,9 +23,10 @@ pub record IsNearest (m q : ℕ) : Type 0 where
   pub under : (2 * q - 1) * (2 * q - 1) ≤ m * 2 ^ 54
   pub over : m * 2 ^ 54 < (2 * q + 1) * (2 * q + 1)
 
--- a q other than 0 is that number; of 0 nothing is said
-abbrev pub Settled : ℕ → ℕ → Type 0
-Settled m q = (q < 2 ^ 54) × (0 < q → IsNearest m q)
+-- a q that is found is that number; where none is, nothing is said
+abbrev pub Settled : ℕ → Option ℕ → Type 0
+Settled m (Some q) = (q < 2 ^ 54) × IsNearest m q
+Settled m None = Unit {0}
 
 -- A finite double above 0 is c * 2 ^ (x - 2150), for a c of 53 digits. Of a pattern b from 2 ^ 52 up, c is its last 52 digits with a 1 before them, and x is the exponent's field + 1075.
 -- A subnormal b is b * 2 ^ -1074, and c is b with zeros after it: `size b` is the number of b's digits.

@@ -15,8 +15,7 @@ pub fn root_digits(d0: u64) -> u64
     let mut q: u64 = 0;
     let mut r: u64 = 0;
     let mut d: u64 = d0;
-    let mut i: u64 = 0;
-    while i < 54 {
+    for _i in 0..54u64 {
         let t = r * 4 + d / 0x4000_0000_0000_0000;
         let s = q * 4 + 1;
         if s <= t {
@@ -27,7 +26,6 @@ pub fn root_digits(d0: u64) -> u64
             q = q * 2;
         }
         d = d % 0x4000_0000_0000_0000 * 4;
-        i += 1;
     }
     q
 }
@@ -58,9 +56,9 @@ fn guess(f: f64) -> u64 {
     std::num::wrapping_sub_u64(float::bits(t), 0x4180_0000_0000_0000)
 }
 
-// The one of r, r + 1 and r - 1 that is nearest to the root of m * 2^52, or 0 where none is found to be. With r = a * 2^27 + b,
+// The one of r, r + 1 and r - 1 that is nearest to the root of m * 2^52, where one is found to be. With r = a * 2^27 + b,
 // m * 2^52 is r * r + d * 2^52 - (ab * 2^28 + b * b), so that r and its neighbours are judged by one square.
-fn settled(m: u64, r: u64) -> u64
+fn settled(m: u64, r: u64) -> Option<u64>
     requires { (0 < r) × (r < 2 ^ 53) }
     ensures { Settled m result }
 {
@@ -68,28 +66,28 @@ fn settled(m: u64, r: u64) -> u64
     let b = r % 0x800_0000;
     let aa = a * a * 4;
     if m < aa {
-        return 0;
+        return None;
     }
     let d = m - aa;
     if d >= 0x10_0000_0000 {
-        return 0;
+        return None;
     }
     let e = d * 0x100_0000;
     let ab = a * b;
     let bb = b * b;
     if e <= ab + (bb + r) / 0x1000_0000 {
         if ab + (bb + 0x40_0000_0000_0000 - r) / 0x1000_0000 < e + 0x400_0000 {
-            return r;
+            return Some(r);
         }
         if ab + (bb + 0x100_0000_0000_0002 - 3 * r) / 0x1000_0000 < e + 0x1000_0000 {
-            return r - 1;
+            return Some(r - 1);
         }
-        return 0;
+        return None;
     }
     if e <= ab + (bb + 3 * r + 2) / 0x1000_0000 {
-        return r + 1;
+        return Some(r + 1);
     }
-    0
+    None
 }
 
 // The whole number nearest to the root of d * 2^42, for a d that ends in ten zeros; f is d / 1024, and the guess is by it.
@@ -98,12 +96,9 @@ fn root_nearest(d: u64, f: f64) -> u64
     ensures { (result ≡ (root_in 54 (d * 2 ^ 44) + 1) / 2) × (result < 2 ^ 54) }
 {
     let r = guess(f);
-    if r > 0 {
-        if r < 0x20_0000_0000_0000 {
-            let q = settled(d / 1024, r);
-            if q != 0 {
-                return q;
-            }
+    if r > 0 && r < 0x20_0000_0000_0000 {
+        if let Some(q) = settled(d / 1024, r) {
+            return q;
         }
     }
     (root_digits(d) + 1) / 2

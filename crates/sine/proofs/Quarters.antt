@@ -1,10 +1,10 @@
 -- Where the code is shorter than fdlibm: n & 3 of -n, cos's switch as sin's one quarter turn on, and both switches as one. Assumes nothing.
-use mathlib.Core.Path.{◌≡◌, refl, ap}
+use mathlib.Core.Path.{◌≡◌, refl}
 use Prim.Native.Nat.{ℕ, zero, suc, ◌+◌, ◌-◌, ◌%◌, ◌<◌}
 use native.Mathlib.Omega.{arith}
 use lib.IntN.{ℤ, pos, negsuc, neg_ℤ}
 use lib.Ieee.{Float}
-use Rattle.sine.specs.Taken.{turned, pair_switch}
+use Rattle.sine.specs.Taken.{pair_switch}
 use Rattle.sine.specs.Kernel.{kernel_sin, kernel_cos}
 use Rattle.sine.specs.Sine.{Remainder, quarters, sin_switch, cos_switch}
 
@@ -25,13 +25,8 @@ switch-on (suc (suc zero)) y0 y1 h = refl
 switch-on (suc (suc (suc zero))) y0 y1 h = refl
 switch-on (suc (suc (suc (suc q)))) y0 y1 h = absurd (omega arith)
 
-pub cos-switch : (p : Remainder) → cos_switch (quarters p.n) p.y0 p.y1 ≡ turned 1 p
+pub cos-switch : (p : Remainder) → cos_switch (quarters p.n) p.y0 p.y1 ≡ sin_switch ((quarters p.n % 4 + 1) % 4) p.y0 p.y1
 cos-switch p = switch-on (quarters p.n) p.y0 p.y1 (quarters-lt p.n)
-
-pub sin-switch : (p : Remainder) → sin_switch (quarters p.n) p.y0 p.y1 ≡ turned 0 p
-sin-switch p =
-    let e : quarters p.n ≡ (quarters p.n % 4 + 0) % 4 = omega (arith, quarters-lt p.n) in
-    ap (λ (q : ℕ). sin_switch q p.y0 p.y1) e
 
 pair-on : (q : ℕ) (y0 y1 : Float) → q < 4 → pair_switch q (kernel_sin y0 y1 1) (kernel_cos y0 y1) ≡ record { sin = sin_switch q y0 y1; cos = cos_switch q y0 y1 }
 unfolding pair_switch sin_switch cos_switch

@@ -2,13 +2,13 @@
 // equal to its definition in specs/, operation by operation (docs/FDLIBM.md).
 #![tactic(auto)]
 
-ghost use Rattle.std.specs.Prelude.{◌≡◌, ◌≤◌, ◌<◌, pos};
+ghost use Rattle.std.specs.Prelude.{◌≡◌, ◌≤◌, ◌<◌, eqb, pos};
 ghost use Rattle.std.specs.Float.{binary64};
 ghost use Rattle.std.specs.Float.Ieee.{of_int, to_bits};
 ghost use Rattle.float.specs.Double.{lit, mag, high, sign};
 ghost use Rattle.sine.specs.Kernel.{kernel_sin, kernel_cos, quarter};
 ghost use Rattle.sine.specs.Sine.{is_clear, less, rem_near, rem_deep, rem_medium, rem_pio2, sin_switch, sin_of, cos_of};
-ghost use Rattle.sine.specs.Taken.{taken, turned_by, pair_switch, sin_cos_of};
+ghost use Rattle.sine.specs.Taken.{taken, switched, pair_switch, sin_cos_of};
 
 const S1: f64 = -1.66666666666666324348e-01;
 
@@ -49,6 +49,7 @@ const PIO2_3: f64 = 2.02226624871116645580e-21;
 const PIO2_3T: f64 = 8.47842766036889956997e-32;
 
 // __kernel_sin(x, 0, 0).
+// Kept: a function for each value of iy, since k_sin.c has two formulas, which share no more than the polynomial.
 fn kernel_sin_alone(x: f64) -> f64
     ensures { result ≡ kernel_sin x (lit 0) 0 }
 {
@@ -135,12 +136,12 @@ fn split(n: u64, r: f64, w: f64) -> Reduced
     }
 }
 
-// |x| < 3pi/4, where s is the sign's bit of x. -1 & 3 is 3.
-fn rem_near(x: f64, s: u64, ix: u64) -> Reduced
-    requires { s ≡ sign x }
+// |x| < 3pi/4. -1 & 3 is 3.
+fn rem_near(x: f64, positive: bool, ix: u64) -> Reduced
+    requires { positive ≡ eqb (sign x) 0 }
     ensures { result ≡ taken (rem_near x ix) }
 {
-    if s == 0 {
+    if positive {
         if ix != 0x3ff9_21fb {
             return split(1, x - PIO2_1, PIO2_1T);
         }
@@ -204,38 +205,33 @@ fn rem_pio2(x: f64, t: f64, b: u64) -> Reduced
     ensures { result ≡ taken (rem_pio2 x) }
 {
     let ix = b % 0x8000_0000_0000_0000 / 0x1_0000_0000;
-    let s = b / 0x8000_0000_0000_0000;
+    let positive = b / 0x8000_0000_0000_0000 == 0;
     if ix < 0x4002_d97c {
-        return rem_near(x, s, ix);
+        return rem_near(x, positive, ix);
     }
     let p = rem_medium(t, ix);
-    if s == 0 {
+    if positive {
         return p;
     }
-    let n = p.n;
-    let hi = p.hi;
-    let lo = p.lo;
     Reduced {
-        n: (4 - n % 4) % 4,
-        hi: -hi,
-        lo: -lo,
+        n: (4 - p.n % 4) % 4,
+        hi: -p.hi,
+        lo: -p.lo,
     }
 }
 
 // sin's switch.
+// Kept: n & 3 is a number and no enum, since it is negated and added to.
+#[tactic(auto, unfolding(crate::specs::Sine::sin_switch))]
 fn sin_switch(q: u64, hi: f64, lo: f64) -> f64
     ensures { result ≡ sin_switch q hi lo }
 {
-    if q == 0 {
-        return kernel_sin(hi, lo);
+    match q {
+        0 => kernel_sin(hi, lo),
+        1 => kernel_cos(hi, lo),
+        2 => -kernel_sin(hi, lo),
+        _ => -kernel_cos(hi, lo),
     }
-    if q == 1 {
-        return kernel_cos(hi, lo);
-    }
-    if q == 2 {
-        return -kernel_sin(hi, lo);
-    }
-    -kernel_cos(hi, lo)
 }
 
 // A sine and a cosine.
@@ -246,35 +242,39 @@ pub struct SinCos {
 }
 
 // Both switches, over the sine and the cosine of what the reduction leaves.
+#[tactic(auto, unfolding(crate::specs::Taken::pair_switch))]
 fn pair_switch(q: u64, s: f64, c: f64) -> SinCos
     ensures { result ≡ pair_switch q s c }
 {
-    if q == 0 {
-        return SinCos { sin: s, cos: c };
+    match q {
+        0 => SinCos { sin: s, cos: c },
+        1 => SinCos { sin: c, cos: -s },
+        2 => SinCos { sin: -s, cos: -c },
+        _ => SinCos { sin: -c, cos: s },
     }
-    if q == 1 {
-        return SinCos { sin: c, cos: -s };
-    }
-    if q == 2 {
-        return SinCos { sin: -s, cos: -c };
-    }
-    SinCos { sin: -c, cos: s }
 }
 
-// sin's switch, k quarter turns on, in both parts; and where k is 2 sin's and cos's. One function, so that the reduction is compiled into it.
-fn turn_by(k: u64, x: f64, t: f64, b: u64) -> SinCos
+// What is asked of an angle.
+#[derive(Clone, Copy)]
+enum Asked {
+    Sin,
+    Cos,
+    Both,
+}
+
+// The sine or the cosine in both parts, or each in its own. cos's switch is sin's, one quarter turn on. One function, so that the reduction is compiled into it.
+fn switched(asked: Asked, x: f64, t: f64, b: u64) -> SinCos
     requires fact_1 { (t ≡ mag x) × (b ≡ to_bits binary64 x) }
-    requires fact_2 { (0x3fe9_21fb < high x) × (k < 3) }
-    ensures { result ≡ turned_by k (rem_pio2 x) }
+    requires fact_2 { 0x3fe9_21fb < high x }
+    ensures { result ≡ switched asked (rem_pio2 x) }
 {
     let p = rem_pio2(x, t, b);
-    let n = p.n;
-    let hi = p.hi;
-    let lo = p.lo;
-    if k == 2 {
-        return pair_switch(n, kernel_sin(hi, lo), kernel_cos(hi, lo));
-    }
-    let r = sin_switch((n % 4 + k) % 4, hi, lo);
+    let quarter = match asked {
+        Asked::Sin => p.n,
+        Asked::Cos => (p.n % 4 + 1) % 4,
+        Asked::Both => return pair_switch(p.n, kernel_sin(p.hi, p.lo), kernel_cos(p.hi, p.lo)),
+    };
+    let r = sin_switch(quarter, p.hi, p.lo);
     SinCos { sin: r, cos: r }
 }
 
@@ -288,12 +288,12 @@ pub fn sin(x: f64) -> f64
     }
     let t = float::abs(x);
     if t <= 524288.0 {
-        return turn_by(0, x, t, b).sin;
+        return switched(Asked::Sin, x, t, b).sin;
     }
     0.0 / 0.0
 }
 
-// The cosine, likewise. Its switch is sin's, one quarter turn on.
+// The cosine, likewise.
 pub fn cos(x: f64) -> f64
     ensures { result ≡ cos_of x }
 {
@@ -303,7 +303,7 @@ pub fn cos(x: f64) -> f64
     }
     let t = float::abs(x);
     if t <= 524288.0 {
-        return turn_by(1, x, t, b).cos;
+        return switched(Asked::Cos, x, t, b).cos;
     }
     0.0 / 0.0
 }
@@ -321,7 +321,7 @@ pub fn sin_cos(x: f64) -> SinCos
     }
     let t = float::abs(x);
     if t <= 524288.0 {
-        return turn_by(2, x, t, b);
+        return switched(Asked::Both, x, t, b);
     }
     SinCos {
         sin: 0.0 / 0.0,

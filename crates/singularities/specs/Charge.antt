@@ -1,7 +1,7 @@
 -- The charge of a triangle in the Rust's count_singularities, step by step. Definitions only.
 use Rattle.std.specs.Prelude.{cond, ◌&&◌, ℤ, pos, Float}
 use Rattle.std.specs.Float.Ieee.{to_signed}
-use Rattle.float.specs.Double.{lit, is_finite, round_away, TAU, ◌⊕◌, ◌⊖◌, ◌⊗◌, ◌⊘◌}
+use Rattle.float.specs.Double.{is_finite, round_away, TAU, ◌⊕◌, ◌⊖◌, ◌⊗◌, ◌⊘◌}
 use Rattle.complex.specs.Angle.{FIELD-SYMMETRY, wrap_to_pi}
 
 -- the turn of the fourfold direction along a side, wrapped to (-PI, PI]

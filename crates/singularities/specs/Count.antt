@@ -1,9 +1,8 @@
 -- count_singularities over slices: angles by point, corners by threes. Definitions only.
-use Rattle.std.specs.Prelude.{ℕ, zero, suc, ◌+◌, ◌*◌, ◌/◌, ◌%◌, cond, ◌&&◌, List, ltb, eqb, get_or, length, ℤ, pos, negsuc, Float}
+use Rattle.std.specs.Prelude.{ℕ, zero, suc, ◌+◌, ◌*◌, ◌/◌, ◌%◌, cond, ◌&&◌, List, ltb, eqb, get_or, length, ℤ, pos, negsuc, Float, Result, Ok, Err}
 use Rattle.std.specs.Float.{nan}
 use Rattle.singularities.specs.declared.Counts.{Counts}
-use Rattle.singularities.specs.declared.Singularities.{Singularities}
-use Rattle.singularities.specs.declared.Singularities.TheVariants.{Counted, NotTriples}
+use Rattle.singularities.specs.declared.NotTriples.{NotTriples}
 use Rattle.singularities.specs.Charge.{charge}
 
 -- of three points, 0 where one of them has no angle
@@ -27,19 +26,19 @@ count_of alpha tris zero = record { valence_3 = 0; valence_5 = 0 }
 count_of alpha tris (suc t) = counted (count_of alpha tris t) (charge_at alpha tris t)
 
 -- the call: refusal 1 where the triangle slice is not of whole triples
-unfoldable pub singularities : List Float → List ℕ → Singularities
-singularities alpha tris = cond (eqb (length tris % 3) 0) (Counted (count_of alpha tris (length tris / 3))) NotTriples
+unfoldable pub singularities : List Float → List ℕ → Result Counts NotTriples
+singularities alpha tris = cond (eqb (length tris % 3) 0) (Ok (count_of alpha tris (length tris / 3))) (Err (record {}))
 
 -- the answer's number: 1 is document 01's refusal, 0 is counts. It has no place
-abbrev pub number : Singularities → ℕ
-number (Counted c) = 0
-number NotTriples = 1
+abbrev pub number : Result Counts NotTriples → ℕ
+number (Ok c) = 0
+number (Err e) = 1
 
 -- its values, or what was held where it has none
-abbrev pub threes : Singularities → ℕ → ℕ
-threes (Counted c) held = c.valence_3
-threes NotTriples held = held
+abbrev pub threes : Result Counts NotTriples → ℕ → ℕ
+threes (Ok c) held = c.valence_3
+threes (Err e) held = held
 
-abbrev pub fives : Singularities → ℕ → ℕ
-fives (Counted c) held = c.valence_5
-fives NotTriples held = held
+abbrev pub fives : Result Counts NotTriples → ℕ → ℕ
+fives (Ok c) held = c.valence_5
+fives (Err e) held = held

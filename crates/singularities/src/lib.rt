@@ -21,14 +21,8 @@ pub fn triangle_charge(a: f64, b: f64, c: f64) -> i64
     ensures value { result ≡ charge a b c }
     ensures small { nat_abs result ≤ 2 }
 {
-    if float::is_finite(a) {
-        if float::is_finite(b) {
-            if float::is_finite(c) {
-                return float::whole_signed(float::round(winding_of(a, b, c) / float::TAU));
-            }
-            return 0;
-        }
-        return 0;
+    if float::is_finite(a) && float::is_finite(b) && float::is_finite(c) {
+        return float::whole_signed(float::round(winding_of(a, b, c) / float::TAU));
     }
     0
 }
@@ -37,16 +31,10 @@ pub fn triangle_charge(a: f64, b: f64, c: f64) -> i64
 fn charge_of(alpha: &[f64], i: usize, j: usize, k: usize) -> i64
     ensures { result ≡ charge_of alpha.now i j k }
 {
-    if i >= alpha.len() {
-        return 0;
+    if i < alpha.len() && j < alpha.len() && k < alpha.len() {
+        return triangle_charge(alpha[i], alpha[j], alpha[k]);
     }
-    if j >= alpha.len() {
-        return 0;
-    }
-    if k >= alpha.len() {
-        return 0;
-    }
-    triangle_charge(alpha[i], alpha[j], alpha[k])
+    0
 }
 
 // The charge of triangle t.
@@ -68,12 +56,9 @@ pub struct Counts {
     pub valence_5: usize,
 }
 
-// The counts, or refusal 1: the triangle slice is not of whole triples.
-#[derive(Clone, Copy)]
-pub enum Singularities {
-    Counted(Counts),
-    NotTriples,
-}
+// Refusal 1: the triangle slice is not of whole triples.
+#[derive(Clone, Copy, Debug, PartialEq, Eq)]
+pub struct NotTriples;
 
 // The counts with one more triangle's charge added.
 fn add_charge(counts: Counts, charge: i64) -> Counts
@@ -83,13 +68,13 @@ fn add_charge(counts: Counts, charge: i64) -> Counts
     if charge > 0 {
         return Counts {
             valence_3: counts.valence_3 + 1,
-            valence_5: counts.valence_5,
+            ..counts
         };
     }
     if charge < 0 {
         return Counts {
-            valence_3: counts.valence_3,
             valence_5: counts.valence_5 + 1,
+            ..counts
         };
     }
     counts
@@ -103,20 +88,18 @@ fn count_triangles(alpha: &[f64], tris: &[u32], triangles: usize) -> Counts
         valence_3: 0,
         valence_5: 0,
     };
-    let mut t = 0;
-    while t < triangles {
+    for t in 0..triangles {
         counts = add_charge(counts, charge_at(alpha, tris, t));
-        t += 1;
     }
     counts
 }
 
 // Triangles with a corner out of range, or an angle that is not finite, are passed over.
-pub fn count_singularities(alpha: &[f64], tris: &[u32]) -> Singularities
+pub fn count_singularities(alpha: &[f64], tris: &[u32]) -> Result<Counts, NotTriples>
     ensures { result ≡ singularities alpha.now tris.now }
 {
     if tris.len() % 3 != 0 {
-        return Singularities::NotTriples;
+        return Err(NotTriples);
     }
-    Singularities::Counted(count_triangles(alpha, tris, tris.len() / 3))
+    Ok(count_triangles(alpha, tris, tris.len() / 3))
 }

@@ -9,9 +9,9 @@ pub returns-then-is_nan : goal.returns-then-is_nan
 unfolding atan_of
 returns-then-is_nan c = search arms
 
-pub returns-then-sign_bit-eq0 : goal.returns-then-sign_bit-eq0
+pub returns-then-is_sign_positive : goal.returns-then-is_sign_positive
 unfolding atan_of
-returns-then-sign_bit-eq0 c = search arms
+returns-then-is_sign_positive c = search arms
 
 pub returns-then-ix-ge1141899264 : goal.returns-then-ix-ge1141899264
 unfolding atan_of
@@ -25,9 +25,9 @@ pub returns-then-ix-lt1071382528 : goal.returns-then-ix-lt1071382528
 unfolding atan_of
 returns-then-ix-lt1071382528 c = rw c.atan_tail.ensures (search arms)
 
-pub returns-then-sign_bit-eq0-2 : goal.returns-then-sign_bit-eq0-2
+pub returns-then-is_sign_positive-2 : goal.returns-then-is_sign_positive-2
 unfolding atan_of
-returns-then-sign_bit-eq0-2 c = search (of_two atan_size, arms)
+returns-then-is_sign_positive-2 c = search (of_two atan_size, arms)
 
 pub returns : goal.returns
 unfolding atan_of

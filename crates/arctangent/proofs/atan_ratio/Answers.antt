@@ -1,5 +1,4 @@
 -- `arctangent::atan_ratio` meets its contract: the arms of `atan_ratio`, by the sums that stand for k against 60 and -60. Assumes nothing.
-use borrow.Author.Tests.{eq-eqb, ne_eqb}
 use Rattle.arctangent.proofs.Shift.{is-above, not-above, is_below, not-below, and-false}
 use Rattle.arctangent.specs.Arc.{atan_ratio}
 use Rattle.arctangent.proofs.atan_ratio.Goals as goal
@@ -8,9 +7,9 @@ pub returns-then-ix-iy : goal.returns-then-ix-iy
 unfolding atan_ratio
 returns-then-ix-iy c = simp (← c.high_word-ix.ensures, ← c.high_word-iy.ensures, is-above c.high_word-iy.result c.high_word-ix.result c.if-ix-iy.true)
 
-pub returns-then-sign_bit-eq0 : goal.returns-then-sign_bit-eq0
+pub returns-then-is_sign_positive : goal.returns-then-is_sign_positive
 unfolding atan_ratio
-returns-then-sign_bit-eq0 c =
+returns-then-is_sign_positive c =
     let y = c.high_word-iy in
     let x = c.high_word-ix in
     simp (
@@ -18,8 +17,8 @@ returns-then-sign_bit-eq0 c =
       ← y.ensures,
       not-above y.result x.result c.if-ix-iy.false,
       is_below y.result x.result c.if-iy-ix.true,
-      ← c.sign_bit.ensures,
-      eq-eqb _ _ c.if-sign_bit-eq0.true,
+      ← c.is_sign_positive.ensures,
+      c.if-is_sign_positive.true,
       ← c.abs.ensures,
       c.atan.ensures,
     )
@@ -34,8 +33,8 @@ returns-then-iy-ix c =
       ← y.ensures,
       not-above y.result x.result c.if-ix-iy.false,
       is_below y.result x.result c.if-iy-ix.true,
-      ← c.sign_bit.ensures,
-      ne_eqb _ _ c.if-sign_bit-eq0.false,
+      ← c.is_sign_positive.ensures,
+      c.if-is_sign_positive.false,
     )
 
 pub returns : goal.returns

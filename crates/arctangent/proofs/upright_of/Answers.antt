@@ -2,8 +2,8 @@
 use Rattle.arctangent.proofs.Arms.{arms}
 use Rattle.arctangent.proofs.upright_of.Goals as goal
 
-pub returns-then-sign_bit-eq0 : goal.returns-then-sign_bit-eq0
-returns-then-sign_bit-eq0 c = search arms
+pub returns-then-is_sign_positive : goal.returns-then-is_sign_positive
+returns-then-is_sign_positive c = search arms
 
 pub returns : goal.returns
 returns c = search arms

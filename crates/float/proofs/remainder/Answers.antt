@@ -1,6 +1,7 @@
 -- `float::remainder` meets its contract: the laws are in proofs/Significands. Assumes nothing.
 use Rattle.std.proofs.Common.{◌≡◌, ℕ, ◌-◌, ◌*◌, ◌%◌, ◌^◌, Bool, true, false, T, pos, sym, refl, ap, ◌∙◌, subst}
 use lib.Ieee.{Float, binary64, of_bits, of_int, eq, neg, mul, fits}
+use borrow.Author.Tests.{eqb-true, eqb-false}
 use Rattle.float.specs.Double.{lit, is_finite, significand, places, power_of}
 use Rattle.float.proofs.Significands.{Pair, significand-pos, rem-of-no_number, rem-by-nan, rem-by-zero, rem-by-infinity, left_size, rem-below, rem-plain, rem-negative}
 use Rattle.float.proofs.remainder.Goals as goal
@@ -47,14 +48,14 @@ product : (x y : Float) (p q i j r : ℕ) (n w : Float) → i ≡ places x → j
 product x y p q i j r n w a b c d e f g = rw (f, g, e, a, b, c, d) refl
 
 -- x has no sign, or it has one
-pub returns-then-sign_bit-eq0 : goal.returns-then-sign_bit-eq0
-returns-then-sign_bit-eq0 c =
+pub returns-then-is_sign_positive : goal.returns-then-is_sign_positive
+returns-then-is_sign_positive c =
     product c.args.x c.args.y _ _ _ _ _ _ _ c.places-above.ensures c.places-below.ensures c.significand.ensures c.significand-2.ensures c.remainder_of_doubled-rest.ensures c.from_whole.ensures c.power_of.ensures
     ∙ rem-plain c.args.x c.args.y (pair c.args.x c.args.y c.is_finite.result c.is_finite-2.result c.well_formed.0.1 c.well_formed.1.0.1 c.is_finite.ensures c.if-not-is_finite.false c.is_finite-2.ensures c.if-not-is_finite-2.false c.if-y-2.false)
-    (rw (c.places-above.ensures, c.places-below.ensures) at c.if-above-below.false) (sym c.sign_bit.ensures ∙ c.if-sign_bit-eq0.true)
+    (rw (c.places-above.ensures, c.places-below.ensures) at c.if-above-below.false) (eqb-true _ _ (sym c.is_sign_positive.ensures ∙ c.if-is_sign_positive.true))
 
 pub returns : goal.returns
 returns c =
     ap neg (product c.args.x c.args.y _ _ _ _ _ _ _ c.places-above.ensures c.places-below.ensures c.significand.ensures c.significand-2.ensures c.remainder_of_doubled-rest.ensures c.from_whole.ensures c.power_of.ensures)
     ∙ rem-negative c.args.x c.args.y (pair c.args.x c.args.y c.is_finite.result c.is_finite-2.result c.well_formed.0.1 c.well_formed.1.0.1 c.is_finite.ensures c.if-not-is_finite.false c.is_finite-2.ensures c.if-not-is_finite-2.false c.if-y-2.false)
-    (rw (c.places-above.ensures, c.places-below.ensures) at c.if-above-below.false) (λ z. c.if-sign_bit-eq0.false (c.sign_bit.ensures ∙ z))
+    (rw (c.places-above.ensures, c.places-below.ensures) at c.if-above-below.false) (eqb-false _ _ (sym c.is_sign_positive.ensures ∙ c.if-is_sign_positive.false))

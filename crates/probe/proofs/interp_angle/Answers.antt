@@ -1,57 +1,52 @@
 -- `probe::interp_angle` meets its contract: each return opens the definition and rewrites it by the tests and the calls on its way; the laws are in proofs/Kept.
-use Rattle.probe.proofs.Kept.{probe-search, each-taken, too_large}
-use Rattle.probe.proofs.Range.{probe-range}
 use mathlib.Core.Path.{◌≡◌, sym, subst, ◌∙◌}
-use mathlib.Core.Bool.{true}
+use mathlib.Core.Bool.{true, false}
 use borrow.Author.Tests.{eq-eqb, ne_eqb}
-use Rattle.probe.specs.Probe.{every, finite, probe_of, AngleRange}
-use Rattle.probe.specs.declared.Probe.{Probe}
-use Rattle.probe.specs.declared.Probe.TheVariants.{NotTriples, NoAngle, TooLarge}
-use Rattle.std.proofs.Common.{List, ℕ}
-use lib.Ieee.{Float}
-use Rattle.plane.specs.declared.Pair.{Pair}
+use Rattle.std.proofs.Common.{rules, tests}
+use Rattle.std.proofs.lemmas.Iterator.{YieldsList-from_slice}
+use Rattle.std.proofs.lemmas.Iterator.Search.{all_from_yields_List}
+use Rattle.probe.specs.Probe.{every, finite, taken, probe_of, AngleRange}
+use Rattle.probe.proofs.Kept.{every-is, probe-search, each-taken, too_large}
+use Rattle.probe.proofs.Range.{probe-range}
 use Rattle.probe.proofs.interp_angle.Goals as goal
+use Rattle.probe.proofs.interp_angle.Goals.{then-points-ne0-via-then-points-ne0, then-points-ne0-via-else-points-ne0+then-tris-ne0}
 
--- what is ensured, from the equation
-
-ranged : (alpha pts : List Float) (tris : List ℕ) (at : Pair) (r : Probe) → r ≡ probe_of alpha pts tris at → (r ≡ probe_of alpha pts tris at) × AngleRange r
-ranged alpha pts tris at r e = (e, subst AngleRange (sym e) (probe-range alpha pts tris at))
-
-pub returns-then-points-ne0 : goal.returns-then-points-ne0
+pub returns-then-points-ne0-clause-value : goal.returns-then-points-ne0-clause-value
 unfolding probe_of
-returns-then-points-ne0 c = let all = ranged c.args.alpha.now c.args.points.now c.args.tris.now (record { x = c.args.x; y = c.args.y }) NotTriples (simp (ne_eqb _ _ c.if-points-ne0.true)) in record { value = all.0; range = all.1 }
+returns-then-points-ne0-clause-value c =
+    elim c.then-points-ne0.branch [
+      | then-points-ne0-via-then-points-ne0 w ↦ simp (ne_eqb _ _ w.if-points-ne0.true)
+      | then-points-ne0-via-else-points-ne0+then-tris-ne0 w ↦ simp (eq-eqb _ _ w.if-points-ne0.false, ne_eqb _ _ w.if-tris-ne0.true)
+    ]
 
-pub returns-then-tris-ne0 : goal.returns-then-tris-ne0
+pub returns-then-alpha-points-clause-value : goal.returns-then-alpha-points-clause-value
 unfolding probe_of
-returns-then-tris-ne0 c = let all = ranged c.args.alpha.now c.args.points.now c.args.tris.now (record { x = c.args.x; y = c.args.y }) NotTriples (simp (eq-eqb _ _ c.if-points-ne0.false, ne_eqb _ _ c.if-tris-ne0.true)) in record { value = all.0; range = all.1 }
+returns-then-alpha-points-clause-value c = simp (eq-eqb _ _ c.if-points-ne0.false, eq-eqb _ _ c.if-tris-ne0.false, ne_eqb _ _ c.if-alpha-points.true)
 
-pub returns-then-alpha-points : goal.returns-then-alpha-points
+pub returns-then-all : goal.returns-then-all
+returns-then-all c =
+    let looked = all_from_yields_List taken _ _ c.all.result c.all.ensures.ran (YieldsList-from_slice c.args.alpha.now cc) (λ x b q k. search (rules, tests)) in
+    let both = each-taken c.args.alpha.now (sym (looked ∙ every-is taken c.args.alpha.now) ∙ c.if-all.true) in
+    let e = c.search.ensures ∙ probe-search _ _ _ _ c.if-points-ne0.false c.if-tris-ne0.false c.if-alpha-points.false both.0 both.1 in
+    record { value = e; range = subst AngleRange (sym e) (probe-range c.args.alpha.now c.args.points.now c.args.tris.now _) }
+
+pub returns-then-all-2-clause-value : goal.returns-then-all-2-clause-value
 unfolding probe_of
-returns-then-alpha-points c = let all = ranged c.args.alpha.now c.args.points.now c.args.tris.now (record { x = c.args.x; y = c.args.y }) NoAngle (simp (eq-eqb _ _ c.if-points-ne0.false, eq-eqb _ _ c.if-tris-ne0.false, ne_eqb _ _ c.if-alpha-points.true)) in record { value = all.0; range = all.1 }
-
-pub returns-then-all_taken : goal.returns-then-all_taken
-returns-then-all_taken c =
-    let both = each-taken c.args.alpha.now (sym c.all_taken.ensures ∙ c.if-all_taken.true) in let all = ranged c.args.alpha.now c.args.points.now c.args.tris.now (record { x = c.args.x; y = c.args.y }) c.search.result
-    (c.search.ensures ∙ probe-search _ _ _ _ c.if-points-ne0.false
-    c.if-tris-ne0.false c.if-alpha-points.false both.0 both.1) in record { value = all.0; range = all.1 }
-
-pub returns-then-all_finite : goal.returns-then-all_finite
-unfolding probe_of
-returns-then-all_finite c =
-    let all : every finite c.args.alpha.now ≡ true = sym c.all_finite.ensures ∙ c.if-all_finite.true in let all = ranged c.args.alpha.now c.args.points.now c.args.tris.now (record { x = c.args.x; y = c.args.y }) TooLarge
-    (simp (
+returns-then-all-2-clause-value c =
+    let looked = all_from_yields_List taken _ _ c.all.result c.all.ensures.ran (YieldsList-from_slice c.args.alpha.now cc) (λ x b q k. search (rules, tests)) in
+    let looked-2 = all_from_yields_List finite _ _ c.all-2.result c.all-2.ensures.ran (YieldsList-from_slice c.args.alpha.now cc) (λ x b q k. search (rules, tests)) in
+    let all : every finite c.args.alpha.now ≡ true = sym (looked-2 ∙ every-is finite c.args.alpha.now) ∙ c.if-all-2.true in
+    simp (
       eq-eqb _ _ c.if-points-ne0.false,
-      eq-eqb _ _
-          c.if-tris-ne0.false,
+      eq-eqb _ _ c.if-tris-ne0.false,
       eq-eqb _ _ c.if-alpha-points.false,
       all,
-      too_large
-          c.args.alpha.now
-          (sym c.all_taken.ensures ∙ c.if-all_taken.false) all,
-    )) in record { value = all.0; range = all.1 }
+      too_large c.args.alpha.now (sym (looked ∙ every-is taken c.args.alpha.now) ∙ c.if-all.false) all,
+    )
 
-pub returns : goal.returns
+pub returns-clause-value : goal.returns-clause-value
 unfolding probe_of
-returns c = let all = ranged c.args.alpha.now c.args.points.now c.args.tris.now (record { x = c.args.x; y = c.args.y }) NoAngle
-    (simp (eq-eqb _ _ c.if-points-ne0.false, eq-eqb _ _ c.if-tris-ne0.false, eq-eqb _ _ c.if-alpha-points.false, ← c.all_finite.ensures, c.if-all_finite.false)) in
-    record { value = all.0; range = all.1 }
+returns-clause-value c =
+    let looked = all_from_yields_List finite _ _ c.all-2.result c.all-2.ensures.ran (YieldsList-from_slice c.args.alpha.now cc) (λ x b q k. search (rules, tests)) in
+    let some : every finite c.args.alpha.now ≡ false = sym (looked ∙ every-is finite c.args.alpha.now) ∙ c.if-all-2.false in
+    simp (eq-eqb _ _ c.if-points-ne0.false, eq-eqb _ _ c.if-tris-ne0.false, eq-eqb _ _ c.if-alpha-points.false, some)

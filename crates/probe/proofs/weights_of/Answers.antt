@@ -1,43 +1,28 @@
--- `probe::weights_of` meets its contract: each return opens the definition and rewrites it by the tests and the calls on its way.
+-- `probe::weights_of` meets its contract: each weight that is given passes its test, and the first that is not ends it; the laws are in proofs/Weighed.
 use Rattle.probe.specs.Weights.{weighed_at}
+use Rattle.probe.proofs.Weighed.{weight-given, weight-none}
 use Rattle.probe.proofs.weights_of.Goals as goal
 
-pub returns-then-is_within-3 : goal.returns-then-is_within-3
+pub returns-in_err-i : goal.returns-in_err-i
 unfolding weighed_at
-returns-then-is_within-3 c =
-    simp (
-      ← c.weight_of-i.ensures,
-      ← c.weight_of-j.ensures,
-      ← c.weight_of-k.ensures,
-      ←
-          c.is_within.ensures,
-      ← c.is_within-then-is_within.ensures,
-      ← c.is_within-then-is_within-2.ensures,
-      c.if-is_within.true,
-      c.if-is_within-2.true,
-      c.if-is_within-3.true,
-    )
+returns-in_err-i c = rw c.from_residual.ensures (simp (weight-none _ _ _ _ c.in_err-i.ensures))
 
-pub returns-then-is_within-2 : goal.returns-then-is_within-2
+pub returns-in_err-j : goal.returns-in_err-j
 unfolding weighed_at
-returns-then-is_within-2 c =
-    simp (
-      ← c.weight_of-i.ensures,
-      ← c.weight_of-j.ensures,
-      ← c.weight_of-k.ensures,
-      ←
-          c.is_within.ensures,
-      ← c.is_within-then-is_within.ensures,
-      ← c.is_within-then-is_within-2.ensures,
-      c.if-is_within.true,
-      c.if-is_within-2.true,
-      c.if-is_within-3.false,
-    )
+returns-in_err-j c =
+    rw c.from_residual-in_err-j.ensures
+    (simp ((weight-given _ _ _ _ _ c.in_ok-i.ensures).0, weight-none _ _ _ _ c.in_err-j.ensures))
 
-pub returns-then-is_within : goal.returns-then-is_within
+pub returns-in_err-k : goal.returns-in_err-k
 unfolding weighed_at
-returns-then-is_within c = simp (← c.weight_of-i.ensures, ← c.weight_of-j.ensures, ← c.is_within.ensures, ← c.is_within-then-is_within.ensures, c.if-is_within.true, c.if-is_within-2.false)
+returns-in_err-k c =
+    rw c.from_residual-in_err-k.ensures
+    (simp ((weight-given _ _ _ _ _ c.in_ok-i.ensures).0, (weight-given _ _ _ _ _ c.in_ok-j.ensures).0, weight-none _ _ _ _ c.in_err-k.ensures))
 
 pub returns : goal.returns
 unfolding weighed_at
-returns c = simp (← c.weight_of-i.ensures, ← c.is_within.ensures, c.if-is_within.false)
+returns c =
+    let i = weight-given _ _ _ _ _ c.in_ok-i.ensures in
+    let j = weight-given _ _ _ _ _ c.in_ok-j.ensures in
+    let k = weight-given _ _ _ _ _ c.in_ok-k.ensures in
+    simp (i.0, j.0, k.0, i.1, j.1, k.1)

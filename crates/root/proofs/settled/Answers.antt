@@ -1,6 +1,6 @@
 -- `root::settled` meets its contract: the squares of 2q - 1 and 2q + 1 by the square of r, in halves of 27 digits. Assumes nothing.
 use Rattle.std.proofs.Common.{ℕ, ◌<◌, ◌*◌, ◌/◌, ◌%◌, ◌^◌, ◌≤◌, arith}
-use Rattle.root.proofs.Laws.{upper-square-le, cross-le, lower-square-le, none, here, next, last_one}
+use Rattle.root.proofs.Laws.{upper-square-le, cross-le, lower-square-le, here, next, last_one}
 use Rattle.root.proofs.settled.Goals as goal
 
 -- no product here is above 2 ^ 54
@@ -13,12 +13,6 @@ overflow_mul-aa c = omega (arith, small _ c.requires.1)
 
 pub overflow_mul-aa-2 : goal.overflow_mul-aa-2
 overflow_mul-aa-2 c = omega (arith, small _ c.requires.1)
-
-pub returns-then-m-aa : goal.returns-then-m-aa
-returns-then-m-aa c = none c.args.m
-
-pub returns-then-d-ge68719476736 : goal.returns-then-d-ge68719476736
-returns-then-d-ge68719476736 c = none c.args.m
 
 pub overflow_mul-ab : goal.overflow_mul-ab
 overflow_mul-ab c = omega (arith, small _ c.requires.1)

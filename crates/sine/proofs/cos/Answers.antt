@@ -1,8 +1,7 @@
 -- `sine::cos` meets its contract: the arms of `cos_of`, whose switch is sin's one quarter turn on. Assumes nothing.
 use borrow.Author.Tests.{le-leb, lt-leb}
 use Rattle.float.proofs.Facts.{zero_by_zero}
-use Rattle.sine.specs.Sine.{rem_pio2, cos_of}
-use Rattle.sine.proofs.Quarters.{cos-switch}
+use Rattle.sine.specs.Sine.{cos_of}
 use Rattle.sine.proofs.cos.Goals as goal
 
 pub returns-then-b-le1072243195 : goal.returns-then-b-le1072243195
@@ -11,7 +10,7 @@ returns-then-b-le1072243195 c = simp (← c.bits-b.ensures, le-leb _ _ c.if-b-le
 
 pub returns-then-t : goal.returns-then-t
 unfolding cos_of
-returns-then-t c = simp (← c.bits-b.ensures, lt-leb _ _ c.if-b-le1072243195.false, ← c.abs-t.ensures, c.if-t.true, c.turn_by.ensures, cos-switch (rem_pio2 c.args.x))
+returns-then-t c = simp (← c.bits-b.ensures, lt-leb _ _ c.if-b-le1072243195.false, ← c.abs-t.ensures, c.if-t.true, c.switched.ensures)
 
 pub returns : goal.returns
 unfolding cos_of

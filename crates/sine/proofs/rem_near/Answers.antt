@@ -5,16 +5,16 @@ use Rattle.sine.proofs.rem_near.Goals as goal
 
 pub returns-then-ix-ne1073291771 : goal.returns-then-ix-ne1073291771
 unfolding rem_near
-returns-then-ix-ne1073291771 c = simp (eq-eqb _ _ c.if-s-eq0.true, ne_eqb _ _ c.if-ix-ne1073291771.true, c.split.ensures, ← c.requires)
+returns-then-ix-ne1073291771 c = simp (c.if-positive.true, ne_eqb _ _ c.if-ix-ne1073291771.true, c.split.ensures, ← c.requires)
 
-pub returns-then-s-eq0 : goal.returns-then-s-eq0
+pub returns-then-positive : goal.returns-then-positive
 unfolding rem_near
-returns-then-s-eq0 c = simp (eq-eqb _ _ c.if-s-eq0.true, eq-eqb _ _ c.if-ix-ne1073291771.false, c.split-then-s-eq0.ensures, ← c.requires)
+returns-then-positive c = simp (c.if-positive.true, eq-eqb _ _ c.if-ix-ne1073291771.false, c.split-then-positive.ensures, ← c.requires)
 
 pub returns-then-ix-ne1073291771-2 : goal.returns-then-ix-ne1073291771-2
 unfolding rem_near
-returns-then-ix-ne1073291771-2 c = simp (ne_eqb _ _ c.if-s-eq0.false, ne_eqb _ _ c.if-ix-ne1073291771-2.true, ← c.requires)
+returns-then-ix-ne1073291771-2 c = simp (c.if-positive.false, ne_eqb _ _ c.if-ix-ne1073291771-2.true, ← c.requires)
 
 pub returns : goal.returns
 unfolding rem_near
-returns c = simp (ne_eqb _ _ c.if-s-eq0.false, eq-eqb _ _ c.if-ix-ne1073291771-2.false, ← c.requires)
+returns c = simp (c.if-positive.false, eq-eqb _ _ c.if-ix-ne1073291771-2.false, ← c.requires)

@@ -10,16 +10,16 @@ pub returns-then-ix-lt1073928572 : goal.returns-then-ix-lt1073928572
 unfolding rem_pio2
 returns-then-ix-lt1073928572 c = let h : 0x3fe9_21fb < c.args.b % 0x8000_0000_0000_0000 / 0x1_0000_0000 = omega arith in simp (← c.requires.fact_1.1, lt-leb _ _ h, lt-ltb _ _ c.if-ix-lt1073928572.true, c.rem_near.ensures)
 
-pub returns-then-s-eq0 : goal.returns-then-s-eq0
+pub returns-then-positive : goal.returns-then-positive
 unfolding rem_pio2
-returns-then-s-eq0 c =
+returns-then-positive c =
     let h : 0x3fe9_21fb < c.args.b % 0x8000_0000_0000_0000 / 0x1_0000_0000 = omega arith in simp (
       ← c.requires.fact_1.0,
       ← c.requires.fact_1.1,
       lt-leb _ _ h,
       le-ltb _ _ c.if-ix-lt1073928572.false,
       eq-eqb
-          _ _ c.if-s-eq0.true,
+          _ _ c.if-positive.true,
       c.rem_medium-p.ensures,
     )
 
@@ -32,7 +32,7 @@ returns c =
       lt-leb _ _ h,
       le-ltb _ _ c.if-ix-lt1073928572.false,
       ne_eqb
-          _ _ c.if-s-eq0.false,
+          _ _ c.if-positive.false,
       c.rem_medium-p.ensures,
       quarters-neg,
     )

@@ -12,7 +12,7 @@ returns-then-b-le1072243195 c = simp (← c.bits-b.ensures, le-leb _ _ c.if-b-le
 pub returns-then-t : goal.returns-then-t
 unfolding sin_of cos_of
 returns-then-t c =
-    simp (← c.bits-b.ensures, lt-leb _ _ c.if-b-le1072243195.false, ← c.abs-t.ensures, c.if-t.true, c.turn_by.ensures, pair-switch (rem_pio2 c.args.x))
+    simp (← c.bits-b.ensures, lt-leb _ _ c.if-b-le1072243195.false, ← c.abs-t.ensures, c.if-t.true, c.switched.ensures, pair-switch (rem_pio2 c.args.x))
 
 pub returns : goal.returns
 unfolding sin_of cos_of

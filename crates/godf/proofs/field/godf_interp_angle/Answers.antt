@@ -1,18 +1,23 @@
 -- `godf::field::godf_interp_angle` meets its contract: each return opens the definition and rewrites it by the tests and the calls on its way.
-use mathlib.Core.Path.{refl}
+use mathlib.Core.Path.{◌≡◌, refl, sym, ◌∙◌}
 use native.Mathlib.Omega.{arith}
+use Rattle.probe.specs.declared.ProbeError.{ProbeError}
+use Rattle.probe.specs.declared.ProbeError.TheVariants.{NotTriples, NoAngle, TooLarge}
+use Rattle.probe.specs.Probe.{error_number}
 use Rattle.godf.proofs.field.godf_interp_angle.Goals as goal
 
-pub returns-in-Angle : goal.returns-in-Angle
-returns-in-Angle c =
-    simp (← c.interp_angle-answer.ensures.value, c.in-Angle.is)
-    (record { number = refl; value = refl; range = λ h. rw c.in-Angle.is at c.interp_angle-answer.ensures.range })
+-- no error has the number of an angle
+no-angle : (e : ProbeError) → error_number e ≡ 0 → ⊥
+no-angle NotTriples h = omega arith
+no-angle NoAngle h = omega arith
+no-angle TooLarge h = omega arith
 
-pub returns-in-NotTriples : goal.returns-in-NotTriples
-returns-in-NotTriples c = simp (← c.interp_angle-answer.ensures.value, c.in-NotTriples.is) (record { number = refl; value = refl; range = λ h. absurd (omega arith) })
+pub returns-in-Ok : goal.returns-in-Ok
+returns-in-Ok c =
+    simp (← c.interp_angle.ensures.value, c.in-Ok.is)
+    (record { number = refl; value = refl; range = λ h. rw c.in-Ok.is at c.interp_angle.ensures.range })
 
-pub returns-in-NoAngle : goal.returns-in-NoAngle
-returns-in-NoAngle c = simp (← c.interp_angle-answer.ensures.value, c.in-NoAngle.is) (record { number = refl; value = refl; range = λ h. absurd (omega arith) })
-
-pub returns-in-TooLarge : goal.returns-in-TooLarge
-returns-in-TooLarge c = simp (← c.interp_angle-answer.ensures.value, c.in-TooLarge.is) (record { number = refl; value = refl; range = λ h. absurd (omega arith) })
+pub returns-in-Err : goal.returns-in-Err
+returns-in-Err c =
+    simp (← c.interp_angle.ensures.value, c.in-Err.is)
+    (record { number = c.from.ensures; value = refl; range = λ h. absurd (no-angle c.in-Err.error (sym c.from.ensures ∙ h)) })
