@@ -2,8 +2,6 @@
 ghost use Rattle.linear_rows.specs.Vertex.{pairs_of, lent_matrix, vertex_product};
 ghost use Rattle.godf.specs.Product.{ListsTold, ProductTold};
 
-use linear_rows::lent::Product;
-
 // 0: `lists` has the edges at each of n vertices; 1: an edge does not have two different ends below n, or a slice is too short; then nothing is written.
 #[unsafe(no_mangle)]
 pub extern "C" fn godf_vertex_lists(n: usize, from: &[u32], to: &[u32], lists: &mut [u32]) -> u32
@@ -32,8 +30,8 @@ pub extern "C" fn godf_vertex_product(
         (vertex_product (lent_matrix diagonal.now off.now from.now to.now) (pairs_of x.now) lists.now vertex)
         re.old im.old result re.new im.new }
 {
-    let answer = linear_rows::lent::vertex_product(diagonal, off, from, to, lists, x, vertex);
-    let Product::At(z) = answer else {
+    let product = linear_rows::lent::vertex_product(diagonal, off, from, to, lists, x, vertex);
+    let Some(z) = product else {
         return 1;
     };
     *re = z.re;

@@ -72,9 +72,7 @@ fn fill(w: &mut [u32], at: usize, n: usize, from: &[u32], to: &[u32])
     requires n_value { region 0 w.old at (n + 1) ≡ cursors from.now to.now n (length from.now) }
     ensures { w.new ≡ put w.old at (adjacency from.now to.now n) }
 {
-    let mut e = from.len();
-    while e > 0 {
-        e -= 1;
+    for e in (0..from.len()).rev() {
         let a = wide(from[e]);
         let b = wide(to[e]);
         crate::place_edge(w, at, n, a, b, e);
@@ -82,12 +80,12 @@ fn fill(w: &mut [u32], at: usize, n: usize, from: &[u32], to: &[u32])
 }
 
 // The lists of the edges at n vertices, from `at` on.
-fn build(w: &mut [u32], at: usize, n: usize, from: &[u32], to: &[u32])
+pub(crate) fn build(w: &mut [u32], at: usize, n: usize, from: &[u32], to: &[u32])
     requires list_room { ListRoom (length w.old) at n (length from.now) }
     requires ends { Ends n from.now to.now }
     ensures { w.new ≡ put w.old at (adjacency from.now to.now n) }
 {
-    crate::clear(w, at, n + 1);
+    w[at..at + n + 1].fill(0);
     count(w, at, n, from, to);
     crate::sums(w, at, n + 1);
     fill(w, at, n, from, to);

@@ -12,20 +12,35 @@ use complex::Complex;
 
 // Element i of the region at `base`. The part of the slice that begins there is taken first, and then indexed: so the sum of
 // both is left to the processor's address, where a loop keeps the base and loads i.
+fn element<T: Copy>(slice: &[T], base: usize, i: usize) -> T
+    requires { base + i < length slice.now }
+    ensures { (d : T) → result ≡ get_or slice.now (base + i) d }
+{
+    let part = &slice[base..];
+    part[i]
+}
+
+fn set_element<T: Copy>(slice: &mut [T], base: usize, i: usize, value: T)
+    requires { base + i < length slice.old }
+    ensures { slice.new ≡ set slice.old (base + i) value }
+{
+    let part = &mut slice[base..];
+    part[i] = value;
+}
+
+// Real i of the region at `base`.
 pub fn load_real(work: &[f64], base: usize, i: usize) -> f64
     requires { base + i < length work.now }
     ensures { result ≡ get_or work.now (base + i) nan }
 {
-    let part = &work[base..];
-    part[i]
+    element(work, base, i)
 }
 
 pub fn store_real(work: &mut [f64], base: usize, i: usize, value: f64)
     requires { base + i < length work.old }
     ensures { work.new ≡ set work.old (base + i) value }
 {
-    let part = &mut work[base..];
-    part[i] = value;
+    set_element(work, base, i, value);
 }
 
 // Cell i of the vector of n cells at `base`.
@@ -54,21 +69,19 @@ pub fn wide(x: u32) -> usize
     x as usize
 }
 
-// Number i of the region at `base`, loaded as a real is.
+// Number i of the region at `base`.
 pub fn load_number(numbers: &[u32], base: usize, i: usize) -> usize
     requires { base + i < length numbers.now }
     ensures { result ≡ get_or numbers.now (base + i) 0 }
 {
-    let rest = &numbers[base..];
-    wide(rest[i])
+    wide(element(numbers, base, i))
 }
 
 pub fn store_number(numbers: &mut [u32], base: usize, i: usize, value: usize)
     requires { (base + i < length numbers.old) × (value < 2 ^ 32) }
     ensures { numbers.new ≡ set numbers.old (base + i) value }
 {
-    let rest = &mut numbers[base..];
-    rest[i] = value as u32;
+    set_element(numbers, base, i, value as u32);
 }
 
 // `value` n times from `base`.
@@ -76,17 +89,7 @@ pub fn fill(work: &mut [f64], base: usize, n: usize, value: f64)
     requires { base + n ≤ length work.old }
     ensures { work.new ≡ put work.old base (replicate n value) }
 {
-    for i in 0..n {
-        store_real(work, base, i, value);
-    }
-}
-
-fn copy_at(work: &mut [f64], to: usize, from: usize, i: usize)
-    requires { (to + i < length work.old) × (from + i < length work.old) }
-    ensures { work.new ≡ set work.old (to + i) (get_or work.old (from + i) nan) }
-{
-    let value = load_real(work, from, i);
-    store_real(work, to, i, value);
+    work[base..base + n].fill(value);
 }
 
 // The n elements at `from`, to `to`. A complex vector is copied as its 2 n doubles.
@@ -94,7 +97,5 @@ pub fn copy(work: &mut [f64], to: usize, from: usize, n: usize)
     requires { (to + n ≤ length work.old) × (from + n ≤ length work.old) × Apart to n from n }
     ensures { work.new ≡ put work.old to (region nan work.old from n) }
 {
-    for i in 0..n {
-        copy_at(work, to, from, i);
-    }
+    work.copy_within(from..from + n, to);
 }

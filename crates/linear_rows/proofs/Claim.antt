@@ -2,7 +2,7 @@
 use mathlib.Core.Path.{◌≡◌, refl, sym, ap, ◌∙◌}
 use mathlib.Core.Bool.{Bool, true, false, cond}
 use mathlib.Core.List.{List, [], ◌∷◌}
-use Prim.Native.Nat.{ℕ, suc, ◌+◌, ◌-◌, ◌<◌}
+use Prim.Native.Nat.{ℕ, suc, ◌+◌, ◌<◌}
 use native.Mathlib.Omega.{arith}
 use borrow.Author.Tests.{lt-ltb}
 use lib.Dec.{eqb}
@@ -15,7 +15,7 @@ use Rattle.linear_adjacency.specs.Adjacency.{edges_at, degree, Listed}
 use Rattle.linear_adjacency.specs.Incidence.{list_in}
 use Rattle.linear_adjacency.proofs.Lists.{start-more, start-below, edges-below}
 use Rattle.linear_adjacency.proofs.Incidence.{vertex-lists, list-is, begins}
-use Rattle.linear_rows.specs.declared.lent.Product.TheVariants.{At}
+use Rattle.std.specs.Prelude.{Some}
 use Rattle.linear_rows.specs.Rows.{other_end, plus_edges, diagonal_at, row_times, by_vertex}
 use Rattle.linear_rows.specs.Vertex.{all_inside, has_list, product_over, vertex_product}
 use Rattle.linear_rows.specs.Claim.{Fitting, SameProduct}
@@ -59,12 +59,12 @@ module _ (m : Matrix) (x : List Complex) (f : Fitting m x) (v : ℕ) where
     unfolding by_vertex row_times
     row_at = ap (λ t. get_or t v cnan) (by-vertex m x f.ends.different) ∙ get_or-tab _ (length x) v cnan lv
 
-    pub vertex-at : vertex_product m x l v ≡ At (get_or (applied m x) v cnan)
+    pub vertex-at : vertex_product m x l v ≡ Some (get_or (applied m x) v cnan)
     unfolding vertex_product product_over
     vertex-at =
         let same : list_in l (length m.diagonal) v ≡ edges_at A B v (length A) = rw f.rows (list-is (length x) A B l f.ends h v lv) in
         let all : all_inside m x v (edges_at A B v (length A)) ≡ true = edges-inside (edges_at A B v (length A)) (λ k g. edges-below A B v (length A) k (unfold degree in g)) in
-        rw (list-there, lt-ltb v (length x) lv, same, all) (ap At (sym row_at))
+        rw (list-there, lt-ltb v (length x) lv, same, all) (ap Some (sym row_at))
 
 pub same-product : SameProduct
 same-product = record {

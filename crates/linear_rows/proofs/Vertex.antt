@@ -16,8 +16,7 @@ use Rattle.linear_cells.proofs.Loops.{length-tab, get_or-tab}
 use Rattle.linear_hermitian.specs.Hermitian.{Matrix}
 use Rattle.linear_adjacency.specs.Incidence.{list_in}
 use Rattle.linear_adjacency.proofs.Tests.{and-false, and-true}
-use Rattle.linear_rows.specs.declared.lent.Product.{Product}
-use Rattle.linear_rows.specs.declared.lent.Product.TheVariants.{At, Outside}
+use Rattle.std.specs.Prelude.{Option, Some, None}
 use Rattle.linear_rows.specs.Rows.{entry_at, other_end, plus_edge, plus_edges, diagonal_at}
 use Rattle.linear_rows.specs.Vertex.{pairs_of, lent_matrix, is_inside, all_inside, has_list, entry_of, term_of, product_over, vertex_product}
 use Rattle.linear_rows.proofs.Scatter.{plus-snoc}
@@ -144,7 +143,7 @@ module _ (m : Matrix) (x : List Complex) (v : ℕ) where
       pub over-still : t ≡ true → all_inside m x v (region 0 lists at (k + 1)) ≡ true
       over-still q = rw (region-more lists at k, inside_snoc, h, ← ee) (sym et ∙ q)
 
-      pub over-outside : t ≡ false → (count : ℕ) → k < count → Outside ≡ product_over m x v (region 0 lists at count)
+      pub over-outside : t ≡ false → (count : ℕ) → k < count → None ≡ product_over m x v (region 0 lists at count)
       unfolding product_over
       over-outside q count l =
           let here : all_inside m x v (region 0 lists at (k + 1)) ≡ false = rw (region-more lists at k, inside_snoc, h, ← ee) (sym et ∙ q) in
@@ -165,9 +164,9 @@ module _ (m : Matrix) (x : List Complex) (v : ℕ) where
       over-again es ey e₂ = e₂ ∙ rw (es, ey, region-more lists at k, plus-snoc, plus-term, ← ee)
 
     pub over_done : {k count : ℕ} {s : Complex} → k ≤ count → count ≤ k → all_inside m x v (region 0 lists at k) ≡ true
-        → s ≡ plus_edges m x v (region 0 lists at k) (diagonal_at m x v) → At s ≡ product_over m x v (region 0 lists at count)
+        → s ≡ plus_edges m x v (region 0 lists at k) (diagonal_at m x v) → Some s ≡ product_over m x v (region 0 lists at count)
     unfolding product_over
-    over_done {k} {count} l g h e = let z : count ≡ k = omega arith in rw (z, h) (ap At e)
+    over_done {k} {count} l g h e = let z : count ≡ k = omega arith in rw (z, h) (ap Some e)
 
 -- the diagonal's term, as the code makes it
 pub lent-diagonal : (diagonal off : List Float) (from to : List ℕ) (x : List Complex) (v : ℕ) {z s : Complex} → z ≡ get_or x v cnan → s ≡ cscale z (get_or diagonal v nan)
@@ -216,16 +215,16 @@ module _ (diagonal off : List Float) (from to : List ℕ) (x : List Float) (l : 
   abbrev M : Matrix
   M = lent_matrix diagonal off from to
 
-  pub vertex-no-list : t ≡ false → Outside ≡ vertex_product M (pairs_of x) l v
+  pub vertex-no-list : t ≡ false → None ≡ vertex_product M (pairs_of x) l v
   unfolding vertex_product
   vertex-no-list q = rw (sym et ∙ q)
 
   module _ (q : t ≡ true) where
-    pub vertex-past : length x / 2 ≤ v → Outside ≡ vertex_product M (pairs_of x) l v
+    pub vertex-past : length x / 2 ≤ v → None ≡ vertex_product M (pairs_of x) l v
     unfolding vertex_product
     vertex-past h = rw (sym et ∙ q, length_pairs x, le-ltb v (length x / 2) h)
 
-    pub vertex-is : v < length x / 2 → {n begin end : ℕ} → n ≡ length diagonal → begin ≡ get_or l v 0 → end ≡ get_or l (v + 1) 0 → {r : Product}
+    pub vertex-is : v < length x / 2 → {n begin end : ℕ} → n ≡ length diagonal → begin ≡ get_or l v 0 → end ≡ get_or l (v + 1) 0 → {r : Option Complex}
         → r ≡ product_over M (pairs_of x) v (region 0 l (n + 1 + begin) (end - begin)) → r ≡ vertex_product M (pairs_of x) l v
     unfolding vertex_product list_in
     vertex-is h en eb ee er = er ∙ rw (en, eb, ee, sym et ∙ q, length_pairs x, lt-ltb v (length x / 2) h)

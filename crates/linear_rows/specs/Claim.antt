@@ -1,11 +1,10 @@
 -- What is claimed of the product by vertex. Definitions only.
-use Rattle.std.specs.Prelude.{ℕ, ◌<◌, ◌≡◌, true, List, length, get_or}
+use Rattle.std.specs.Prelude.{ℕ, ◌<◌, ◌≡◌, true, List, length, get_or, Some}
 use Rattle.complex.specs.declared.Complex.{Complex}
 use Rattle.complex.specs.Complex.{cnan}
 use Rattle.linear_hermitian.specs.Hermitian.{Matrix, applied}
 use Rattle.linear_adjacency.specs.Adjacency.{Ends}
 use Rattle.linear_adjacency.specs.Incidence.{VertexLists}
-use Rattle.linear_rows.specs.declared.lent.Product.TheVariants.{At}
 use Rattle.linear_rows.specs.Rows.{by_vertex}
 use Rattle.linear_rows.specs.Vertex.{vertex_product}
 
@@ -20,4 +19,4 @@ pub record SameProduct : Type 0 where
   pub engine : (m : Matrix) (x : List Complex) → Ends (length x) m.edge_a m.edge_b → by_vertex m x ≡ applied m x
   -- and so does what the call for one vertex gives, over lists that the call for them made of l
   pub vertex : (m : Matrix) (x : List Complex) → Fitting m x → (l l' : List ℕ) → VertexLists (length x) m.edge_a m.edge_b l l' true
-      → (v : ℕ) → v < length x → vertex_product m x l' v ≡ At (get_or (applied m x) v cnan)
+      → (v : ℕ) → v < length x → vertex_product m x l' v ≡ Some (get_or (applied m x) v cnan)

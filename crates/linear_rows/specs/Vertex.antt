@@ -1,13 +1,11 @@
 -- The product at one vertex, on any slices: `lent::vertex_product`. A complex number is a pair re, im in a slice. Definitions only.
-use Rattle.std.specs.Prelude.{ℕ, ◌+◌, ◌*◌, ◌/◌, Bool, true, cond, ◌&&◌, List, [], ◌∷◌, ltb, leb, eqb, length, get_or, Float}
+use Rattle.std.specs.Prelude.{ℕ, ◌+◌, ◌*◌, ◌/◌, Bool, true, cond, ◌&&◌, List, [], ◌∷◌, ltb, leb, eqb, length, get_or, Option, Some, None, Float}
 use Rattle.std.specs.Float.{nan}
 use Rattle.complex.specs.declared.Complex.{Complex}
 use Rattle.complex.specs.Complex.{cnan, cmul, cconj}
 use Rattle.linear_cells.specs.Region.{tab}
 use Rattle.linear_hermitian.specs.Hermitian.{Matrix}
 use Rattle.linear_adjacency.specs.Incidence.{list_in}
-use Rattle.linear_rows.specs.declared.lent.Product.{Product}
-use Rattle.linear_rows.specs.declared.lent.Product.TheVariants.{At, Outside}
 use Rattle.linear_rows.specs.Rows.{other_end, plus_edges, diagonal_at}
 
 -- ---- what is lent
@@ -44,9 +42,9 @@ unfoldable pub term_of : List Complex → List ℕ → List ℕ → List Complex
 term_of off from to x v e = cmul (entry_of off from v e) (get_or x (other_end from to v e) cnan)
 
 -- `lent::product_over`: the diagonal's term and those of the edges es, from the left
-unfoldable pub product_over : Matrix → List Complex → ℕ → List ℕ → Product
-product_over m x v es = cond (all_inside m x v es) (At (plus_edges m x v es (diagonal_at m x v))) Outside
+unfoldable pub product_over : Matrix → List Complex → ℕ → List ℕ → Option Complex
+product_over m x v es = cond (all_inside m x v es) (Some (plus_edges m x v es (diagonal_at m x v))) None
 
 -- `lent::vertex_product`
-unfoldable pub vertex_product : Matrix → List Complex → List ℕ → ℕ → Product
-vertex_product m x l v = cond (has_list l (length m.diagonal) v && ltb v (length x)) (product_over m x v (list_in l (length m.diagonal) v)) Outside
+unfoldable pub vertex_product : Matrix → List Complex → List ℕ → ℕ → Option Complex
+vertex_product m x l v = cond (has_list l (length m.diagonal) v && ltb v (length x)) (product_over m x v (list_in l (length m.diagonal) v)) None

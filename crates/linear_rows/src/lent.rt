@@ -9,13 +9,6 @@ ghost use Rattle.linear_rows.specs.Vertex.{pairs_of, lent_matrix, is_inside, ent
 use complex::Complex;
 use linear_cells::wide;
 
-#[derive(Clone, Copy)]
-pub enum Product {
-    At(Complex),
-    // An index lies outside its slice.
-    Outside,
-}
-
 // Complex number i of a slice of pairs.
 fn pair_at(z: &[f64], i: usize) -> Complex
     requires { i < length z.now / 2 }
@@ -52,6 +45,7 @@ fn entry_at(off: &[f64], from: &[u32], v: usize, e: usize) -> Complex
 }
 
 // Whether e is an edge, and its other end, seen from v, is within the vector.
+// Kept: tests one by one, here and in has_list. A chain of `&&` joins its parts as values, and its proof is a tree of cases in place of a line for each test.
 fn is_inside(off: &[f64], from: &[u32], to: &[u32], x: &[f64], v: usize, e: usize) -> bool
     ensures { result ≡ is_inside (pairs_of off.now) from.now to.now (pairs_of x.now) v e }
 {
@@ -77,7 +71,7 @@ fn term(off: &[f64], from: &[u32], to: &[u32], x: &[f64], v: usize, e: usize) ->
     z.mul(pair_at(x, j))
 }
 
-// Row v times x, over the `count` edges whose numbers stand in `lists` from `at` on.
+// Row v times x, over the `count` edges whose numbers stand in `lists` from `at` on. None where an index lies outside its slice.
 fn product_over(
     diagonal: &[f64],
     off: &[f64],
@@ -88,7 +82,7 @@ fn product_over(
     v: usize,
     at: usize,
     count: usize,
-) -> Product
+) -> Option<Complex>
     requires { (at + count ≤ length lists.now) × (v < length diagonal.now) × (v < length x.now / 2) }
     ensures { result ≡ product_over (lent_matrix diagonal.now off.now from.now to.now) (pairs_of x.now) v
         (region 0 lists.now at count) }
@@ -97,11 +91,11 @@ fn product_over(
     for k in 0..count {
         let e = wide(lists[at + k]);
         if !is_inside(off, from, to, x, v, e) {
-            return Product::Outside;
+            return None;
         }
         sum = sum.add(term(off, from, to, x, v, e));
     }
-    Product::At(sum)
+    Some(sum)
 }
 
 // Whether v is one of n vertices, and its list lies within the slice.
@@ -122,7 +116,7 @@ fn has_list(lists: &[u32], n: usize, v: usize) -> bool
     end < lists.len() - n
 }
 
-// The product at vertex v, over the lists that linear_adjacency::lent::vertex_lists makes.
+// The product at vertex v, over the lists that linear_adjacency::lent::vertex_lists makes. None where an index lies outside its slice.
 pub fn vertex_product(
     diagonal: &[f64],
     off: &[f64],
@@ -131,16 +125,16 @@ pub fn vertex_product(
     lists: &[u32],
     x: &[f64],
     v: usize,
-) -> Product
+) -> Option<Complex>
     ensures { result ≡ vertex_product (lent_matrix diagonal.now off.now from.now to.now) (pairs_of x.now)
         lists.now v }
 {
     let n = diagonal.len();
     if !has_list(lists, n, v) {
-        return Product::Outside;
+        return None;
     }
     if v >= x.len() / 2 {
-        return Product::Outside;
+        return None;
     }
     let begin = wide(lists[v]);
     let end = wide(lists[v + 1]);

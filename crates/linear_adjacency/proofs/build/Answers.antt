@@ -1,23 +1,29 @@
--- `linear_adjacency::build` meets its contract: each return rewrites the definition by the calls on its way; the laws are in proofs/Ends.
-use native.Mathlib.Omega.{arith}
-use Rattle.linear_adjacency.proofs.Ends.{stage-count, stage-sums, stage-fill, stage-all}
+-- `linear_adjacency::build` meets its contract: the ends stand beside the part that the lists are made in; the laws are in proofs/Ends.
+use Rattle.linear_adjacency.proofs.Ends.{from-outside, to-outside, part-room, part-ends, part-all}
 use Rattle.linear_adjacency.proofs.build.Goals as goal
 
-pub clear-requires : goal.clear-requires
-clear-requires c = omega (arith, c.requires.build_room.lists.room)
+pub outside-a-requires : goal.outside-a-requires
+outside-a-requires c =
+    from-outside _ _ _ _ _ _ c.requires.build_room c.requires.ends
+    c.split_at_mut-before.ensures.front c.split_at_mut-before.ensures.back c.split_at_mut-lists.ensures.front c.split_at_mut-lists.ensures.back
 
-pub count-requires : goal.count-requires
-count-requires c =
-    let q = stage-count _ _ _ _ _ _ c.requires.build_room c.requires.ends c.clear.ensures in record { build_room = q.0; ends = q.1; n_value = q.2 }
+pub outside-b-requires : goal.outside-b-requires
+outside-b-requires c =
+    to-outside _ _ _ _ _ _ c.requires.build_room c.requires.ends
+    c.split_at_mut-before.ensures.front c.split_at_mut-before.ensures.back c.split_at_mut-lists.ensures.front c.split_at_mut-lists.ensures.back
 
-pub sums-requires : goal.sums-requires
-sums-requires c =
-    (omega (arith, c.requires.build_room.lists.room), stage-sums _ _ _ _ _ _ c.requires.build_room c.requires.ends c.clear.ensures c.count.ensures)
-
-pub fill-requires : goal.fill-requires
-fill-requires c =
-    let q = stage-fill _ _ _ _ _ _ c.requires.build_room c.requires.ends c.clear.ensures c.count.ensures c.sums.ensures in record { build_room = q.0; ends = q.1; n_value = q.2 }
+pub build-requires : goal.build-requires
+build-requires c = record {
+  list_room = part-room _ _ _ _ _ _ c.requires.build_room c.requires.ends
+      c.split_at_mut-before.ensures.front c.split_at_mut-before.ensures.back c.split_at_mut-lists.ensures.front c.split_at_mut-lists.ensures.back
+      c.outside-a.ensures c.outside-b.ensures;
+  ends = part-ends _ _ _ _ _ _ c.requires.build_room c.requires.ends
+      c.split_at_mut-before.ensures.front c.split_at_mut-before.ensures.back c.split_at_mut-lists.ensures.front c.split_at_mut-lists.ensures.back
+      c.outside-a.ensures c.outside-b.ensures;
+}
 
 pub returns : goal.returns
 returns c =
-    stage-all _ _ _ _ _ _ c.requires.build_room c.requires.ends c.clear.ensures c.count.ensures c.sums.ensures c.fill.ensures
+    part-all _ _ _ _ _ _ c.requires.build_room c.requires.ends
+    c.split_at_mut-before.ensures.front c.split_at_mut-before.ensures.back c.split_at_mut-lists.ensures.front c.split_at_mut-lists.ensures.back
+    c.outside-a.ensures c.outside-b.ensures c.build.ensures

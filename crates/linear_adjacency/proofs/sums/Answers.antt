@@ -1,7 +1,6 @@
 -- `linear_adjacency::sums` meets its contract: the loop keeps what `Inv-loop` says, and what is left to do falls at each iteration; the laws are in proofs/Summing.
 use Rattle.linear_cells.proofs.Regions.{length-put}
 use mathlib.Core.Path.{◌∙◌, ap}
-use Prim.Native.Nat.{◌-◌}
 use native.Mathlib.Omega.{arith}
 use lib.ListN.{length}
 use Rattle.linear_adjacency.proofs.Summing.{total-none, sums_none, sums-fits, sums-sum, sums-again, sums-done}

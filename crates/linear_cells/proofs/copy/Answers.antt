@@ -1,14 +1,12 @@
--- `linear_cells::copy` meets its contract: the loop keeps what `Inv-loop` says, and what is left to do falls at each iteration; the laws are in proofs/Writes.
-use Rattle.linear_cells.proofs.Writes.{copy-none, copy-again, copy_done}
-use Prim.Native.Nat.{◌-◌}
-use borrow.Author.Rules.{rules}
+-- `linear_cells::copy` meets its contract: the law of a copied part is in proofs/Parts.
+use mathlib.Core.Path.{◌≡◌, ◌∙◌}
+use Prim.Native.Nat.{◌+◌, ◌-◌}
+use native.Mathlib.Omega.{arith}
+use lib.Ieee.{nan}
+use Rattle.linear_cells.proofs.Parts.{part-copy}
 use Rattle.linear_cells.proofs.copy.Goals as goal
 
-pub loop-i-init : goal.loop-i-init
-loop-i-init c = search (copy-none, rules)
-
-pub loop-i-preserved : goal.loop-i-preserved
-loop-i-preserved c = search (copy-again, rules)
-
 pub returns : goal.returns
-returns c = search copy_done
+returns c =
+    let size : c.args.from + c.args.n - c.args.from ≡ c.args.n = omega arith in
+    c.copy_within.ensures.after ∙ rw size (part-copy nan c.args.work.now c.args.to c.args.from c.args.n c.requires.0 c.requires.1)

@@ -1,14 +1,15 @@
--- `linear_cells::fill` meets its contract: the loop keeps what `Inv-loop` says, and what is left to do falls at each iteration; the laws are in proofs/Writes.
-use Rattle.linear_cells.proofs.Writes.{fill_none, fill-again, fill_done}
-use Prim.Native.Nat.{◌-◌}
-use borrow.Author.Rules.{rules}
+-- `linear_cells::fill` meets its contract: the law of a written part is in proofs/Parts.
+use mathlib.Core.Path.{◌≡◌, ◌∙◌, ap}
+use Prim.Native.Nat.{◌+◌, ◌-◌}
+use native.Mathlib.Omega.{arith}
+use lib.ListN.{length, take, drop, replicate, length-replicate, length-take, length-drop}
+use Rattle.linear_cells.proofs.Parts.{part-put}
 use Rattle.linear_cells.proofs.fill.Goals as goal
 
-pub loop-i-init : goal.loop-i-init
-loop-i-init c = search (fill_none, rules)
-
-pub loop-i-preserved : goal.loop-i-preserved
-loop-i-preserved c = search (fill-again, rules)
-
 pub returns : goal.returns
-returns c = search fill_done
+returns c =
+    let b = c.args.base in
+    let n = c.args.n in
+    let size : length (take (b + n - b) (drop b c.args.work.now)) ≡ n = simp (length-take, length-drop) (omega arith) in
+    let all : c.fill.new.self ≡ replicate n c.args.value = c.fill.ensures.after (λ y e. e) ∙ ap (λ k. replicate k c.args.value) size in
+    rw all (part-put c.args.work.now (replicate n c.args.value) b (b + n) (omega (arith, length-replicate n c.args.value)) c.requires)

@@ -1,7 +1,6 @@
 -- `linear_rows::apply` meets its contract: the loop keeps what `Inv-loop` says, and what is left to do falls at each iteration; the laws are in proofs/Loops.
 use native.Mathlib.Omega.{arith}
 use Rattle.linear_rows.proofs.Loops.{rows_none, rows-again, rows-done}
-use Prim.Native.Nat.{◌-◌}
 use borrow.Author.Rules.{rules}
 use Rattle.linear_rows.proofs.apply.Goals as goal
 

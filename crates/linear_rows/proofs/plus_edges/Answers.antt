@@ -1,6 +1,5 @@
 -- `linear_rows::plus_edges` meets its contract: the loop keeps what `Inv-loop` says, and what is left to do falls at each iteration; the laws are in proofs/Loops.
 use Rattle.linear_rows.proofs.Loops.{plus_none, plus-again, plus-done}
-use Prim.Native.Nat.{◌-◌}
 use native.Mathlib.Omega.{arith}
 use borrow.Author.Rules.{rules}
 use Rattle.linear_rows.proofs.plus_edges.Goals as goal

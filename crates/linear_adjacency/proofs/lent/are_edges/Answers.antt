@@ -1,6 +1,4 @@
 -- `linear_adjacency::lent::are_edges` meets its contract: the loop keeps what `Inv-loop` says, and what is left to do falls at each iteration; the laws are in proofs/Tests.
-use mathlib.Core.Bool.{true}
-use Prim.Native.Nat.{◌-◌}
 use Rattle.linear_adjacency.proofs.Tests.{edges_none, edges-again, edges-unpaired, edges-not, edges-done}
 use borrow.Author.Rules.{rules}
 use Rattle.linear_adjacency.proofs.lent.are_edges.Goals as goal

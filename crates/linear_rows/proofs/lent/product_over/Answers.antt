@@ -1,7 +1,5 @@
 -- `linear_rows::lent::product_over` meets its contract: the loop keeps what `Inv-loop` says, and what is left to do falls at each iteration; the laws are in proofs/Vertex.
 use mathlib.Core.Path.{sym, ◌∙◌}
-use mathlib.Core.Bool.{true}
-use Prim.Native.Nat.{◌-◌}
 use native.Mathlib.Omega.{arith}
 use Rattle.linear_rows.proofs.Vertex.{over-inside, over_first, over-still, over-outside, over-again, over_done, lent-diagonal}
 use Rattle.linear_rows.proofs.lent.product_over.Goals as goal

@@ -1,5 +1,0 @@
--- `linear_cells::copy_at` meets its contract: each return opens the definition and rewrites it by the tests and the calls on its way.
-use Rattle.linear_cells.proofs.copy_at.Goals as goal
-
-pub returns : goal.returns
-returns c = cc
