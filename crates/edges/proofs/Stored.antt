@@ -8,7 +8,9 @@ use mathlib.Core.Path.{◌≡◌, refl, sym, ap, ◌∙◌, subst}
 use mathlib.Core.Logic.{◌≢◌, ◌⊎◌, inl, inr}
 use mathlib.Core.Bool.{cond}
 use mathlib.Core.List.{List, [], ◌∷◌, ◌++◌}
-use mathlib.Core.Option.{some}
+use mathlib.Core.Option.{none, some}
+use Rattle.std.specs.Prelude.{Option as Maybe}
+use Rattle.std.specs.Prelude.{None, Some}
 use lib.Dec.{ltb}
 use lib.ListN.{length, get_or, set, length-set, replicate}
 use lib.Seq.{get_or-set_same, get_or-set_other, sets, length-sets}
@@ -16,8 +18,8 @@ use borrow.Author.Tests.{lt-ltb, le-ltb}
 use Rattle.mesh.specs.Mesh.{Side, side, key, tri, index_in, met}
 use Rattle.slices.proofs.Runs.{sets-before}
 use Rattle.mesh.proofs.Cuts.{index-end, met-old, met-new, met-numbered}
-use Rattle.edges.specs.Table.{slot_of, pairs, Spot, bucket, link, Trees, hold_of, lo_of, hi_of, under_of, sides_in, Held, WalkedIn, Outside, Met, MetTri}
-use Rattle.edges.proofs.Tree.{Put, trees-more, no-trees, new-pairs, length_pairs, some_of, none_of, pairs-most, three-met}
+use Rattle.edges.specs.Table.{slot_of, pairs, place, Spot, bucket, link, Trees, hold_of, lo_of, hi_of, under_of, sides_in, Held, WalkedIn, Outside, Met, MetTri}
+use Rattle.edges.proofs.Tree.{Put, trees-more, no-trees, new-pairs, length_pairs, pairs-most, three-met}
 
 -- the bucket of a side is one of the N
 pub slot-below : (N a b : ℕ) → 0 < N → slot_of N a b < N
@@ -144,10 +146,10 @@ module _ (o N : ℕ) (w : List ℕ) (m a b p : ℕ) (spot : Spot o N (under_of o
 
 -- ---- a side is met
 
-module _ {o N : ℕ} {w : List ℕ} {m at p : ℕ} (a b : ℕ) (t : Held o N w m) (k : WalkedIn o N w m a b at p) where
-  pub met-found : at ≢ 0 → Met o N w m w m (at - 1) (side a b)
+module _ {o N : ℕ} {w : List ℕ} {m p : ℕ} {at : Maybe ℕ} (a b : ℕ) (t : Held o N w m) (k : WalkedIn o N w m a b at p) where
+  pub met-found : {n : ℕ} → at ≡ Some n → Met o N w m w m n (side a b)
   met-found h =
-      let q : index_in (side a b) (sides_in o N w m) ≡ some (at - 1) = some_of at (index_in (side a b) (sides_in o N w m)) k.number h in
+      let q = sym k.number ∙ ap place h in
       record {
         held = t;
         now-met = sym (met-old (sides_in o N w m) (side a b) _ q);
@@ -156,11 +158,11 @@ module _ {o N : ℕ} {w : List ℕ} {m at p : ℕ} (a b : ℕ) (t : Held o N w m
         outside = record { same = refl; before = λ j l. refl; behind = λ j l. refl };
       }
 
-  pub met-added : at ≡ 0 → o + N + 4 * m + 4 ≤ length w → Met o N w m (stored o N w m a b p) (m + 1) m (side a b)
+  pub met-added : at ≡ None → o + N + 4 * m + 4 ≤ length w → Met o N w m (stored o N w m a b p) (m + 1) m (side a b)
   met-added z room =
       let w' = stored o N w m a b p in
       let d = put o N w m a b p k.spot room in
-      let out = none_of (index_in (side a b) (sides_in o N w m)) k.number z in
+      let out : index_in (side a b) (sides_in o N w m) ≡ none = sym k.number ∙ ap place z in
       let new : sides_in o N w' (m + 1) ≡ sides_in o N w m ++ (side a b ∷ []) = ap (pairs (lo_of o N w') (hi_of o N w')) (add-one m) ∙ new-pairs d in
       let now : sides_in o N w' (m + 1) ≡ met (sides_in o N w m) (side a b) = new ∙ sym (met-new (sides_in o N w m) (side a b) out) in
       record {

@@ -9,14 +9,16 @@ use mathlib.Core.Path.{◌≡◌, refl, sym, ap, ap₂, ◌∙◌}
 use mathlib.Core.Logic.{◌≢◌}
 use mathlib.Core.Bool.{Bool, true, false, cond, ◌&&◌}
 use mathlib.Core.List.{List, [], ◌∷◌, ◌++◌}
-use mathlib.Core.Option.{Option, none, some}
+use mathlib.Core.Option.{none, some}
+use Rattle.std.specs.Prelude.{Option as Maybe}
+use Rattle.std.specs.Prelude.{None, Some}
 use lib.Dec.{eqb}
 use lib.ListN.{length, get_or, length-append, get_or-append}
 use lib.Seq.{get_or-append_seam}
 use borrow.Author.Tests.{eq-eqb, eqb-true}
 use Rattle.mesh.specs.Mesh.{Side, side, key, tri, sides, index_in, met, met_all, Numbered}
 use Rattle.mesh.proofs.Cuts.{index-out, index-keep, met-old, met-new, Found, found, missing, find}
-use Rattle.edges.specs.Table.{slot_of, path_of, pairs, Spot, bucket, link, next, LeadsIn, Leads, Trees, Keeps, Free, Walked, NumbersOf, one_more}
+use Rattle.edges.specs.Table.{slot_of, path_of, pairs, Spot, bucket, link, next, LeadsIn, Leads, Trees, Keeps, Free, Walked, NumbersOf, place, one_more}
 
 -- ---- the test whether two sides are one
 
@@ -233,61 +235,61 @@ index-nowhere lo hi a b (suc k) h =
 
 -- ---- a walk under way: at position p, which holds `at`, with r left of its path
 
-pub record Going (o N : ℕ) (lo hi hold under : ℕ → ℕ) (m a b p r at : ℕ) : Type 0 where
+pub record Going (o N : ℕ) (lo hi hold under : ℕ → ℕ) (m a b p r : ℕ) (at : Maybe ℕ) : Type 0 where
   pub trees : Trees o N lo hi hold under m
   pub numbered : Numbered (pairs lo hi m)
   pub walk : Walk o N lo hi hold under m a b p r
-  pub here : at ≡ hold p
-  pub few : at ≤ m
+  pub here : one_more (place at) ≡ hold p
+
+-- what is left to walk, at a position that may hold a side
+abbrev pub left_at : ℕ → Maybe ℕ → ℕ
+left_at m at = left_over m (one_more (place at))
 
 module _ {o N : ℕ} {lo hi hold under : ℕ → ℕ} {m a b : ℕ} where
-  pub going_start : {h p r at : ℕ} → Trees o N lo hi hold under m → Numbered (pairs lo hi m) → (h ≡ slot_of N a b) × (h < N) → p ≡ o + h → r ≡ path_of a b → at ≡ hold p
+  pub going_start : {h p r : ℕ} {at : Maybe ℕ} → Trees o N lo hi hold under m → Numbered (pairs lo hi m) → (h ≡ slot_of N a b) × (h < N) → p ≡ o + h → r ≡ path_of a b → one_more (place at) ≡ hold p
       → Going o N lo hi hold under m a b p r at
-  going_start t n e i j k =
-      let walk = walk_start t e i j in
-      record { trees = t; numbered = n; walk = walk; here = k; few = rw k (walk-known t walk) }
+  going_start t n e i j k = record { trees = t; numbered = n; walk = walk_start t e i j; here = k }
 
-  module _ {p r at : ℕ} (g : Going o N lo hi hold under m a b p r at) where
-    -- another side stands here: the walk goes on, to a later side
-    pub going_on : at ≢ 0 → (eqb (lo (at - 1)) a && eqb (hi (at - 1)) b) ≡ false → {at' : ℕ} → at' ≡ hold (under (at - 1) + r % 2)
-        → Going o N lo hi hold under m a b (under (at - 1) + r % 2) (r / 2) at' × (left_over m at' < left_over m at)
-    going_on h miss {at'} e =
-        let i : hold p ≡ at = sym g.here in
-        let on = walk-on g.trees g.walk (λ z. h (g.here ∙ z)) (rw i (same_not (lo (at - 1)) (hi (at - 1)) a b miss)) in
-        let walk : Walk o N lo hi hold under m a b (under (at - 1) + r % 2) (r / 2) = rw i at on in (
-          record { trees = g.trees; numbered = g.numbered; walk = walk; here = e; few = rw e (walk-known g.trees walk) },
-          walk-less g.trees (at - 1) r (omega arith) (omega (arith, g.few)) e,
-        )
+  module _ {p r : ℕ} {at : Maybe ℕ} (g : Going o N lo hi hold under m a b p r at) where
+    module _ {k : ℕ} (h : at ≡ Some k) where
+      holds : hold p ≡ suc k
+      holds = sym g.here ∙ ap (λ (x : Maybe ℕ). one_more (place x)) h
 
-    pub going-found : at ≢ 0 → (eqb (lo (at - 1)) a && eqb (hi (at - 1)) b) ≡ true → Walked o N lo hi hold under m a b at p
-    going-found h hit =
-        let both = same-both (lo (at - 1)) (hi (at - 1)) a b hit in
-        let i : at ≡ suc (at - 1) = omega arith in
+      pub going-in : k < m
+      going-in = omega (arith, holds, walk-known g.trees g.walk)
+
+      -- another side stands here: the walk goes on, to a later side
+      pub going_on : (eqb (lo k) a && eqb (hi k) b) ≡ false → {at' : Maybe ℕ} → one_more (place at') ≡ hold (under k + r % 2)
+          → Going o N lo hi hold under m a b (under k + r % 2) (r / 2) at' × (left_at m at' < left_at m at)
+      going_on miss {at'} e =
+          let i : hold p - 1 ≡ k = omega (arith, holds) in
+          let on = walk-on g.trees g.walk (λ z. let f : suc k ≡ 0 = sym holds ∙ z in omega arith) (rw i (same_not (lo k) (hi k) a b miss)) in
+          let walk : Walk o N lo hi hold under m a b (under k + r % 2) (r / 2) = rw i at on in (
+            record { trees = g.trees; numbered = g.numbered; walk = walk; here = e },
+            walk-less g.trees k r (g.here ∙ holds) going-in e,
+          )
+
+      pub going-found : (eqb (lo k) a && eqb (hi k) b) ≡ true → Walked o N lo hi hold under m a b (Some k) p
+      going-found hit =
+          let both = same-both (lo k) (hi k) a b hit in
+          record {
+            number = sym (index-here lo hi m a b k g.numbered going-in both.0 both.1);
+            few = going-in;
+            spot = g.walk.spot;
+            free = λ z. cc;
+          }
+
+    pub going-none : at ≡ None → Walked o N lo hi hold under m a b at p
+    going-none z =
+        let i : hold p ≡ 0 = sym g.here ∙ ap (λ (x : Maybe ℕ). one_more (place x)) z in
         record {
-          number = i ∙ sym (ap one_more (index-here lo hi m a b (at - 1) g.numbered (omega (arith, g.few)) both.0 both.1));
-          few = g.few;
+          number = ap place z ∙ sym (index-nowhere lo hi a b m (walk_none g.trees g.walk i));
+          few = rw z tt;
           spot = g.walk.spot;
-          free = λ z. absurd (h z);
+          free = λ y. walk-free g.trees g.walk i;
         }
 
-    pub going-none : at ≡ 0 → Walked o N lo hi hold under m a b at p
-    going-none z = record {
-      number = z ∙ sym (ap one_more (index-nowhere lo hi a b m (walk_none g.trees g.walk (sym g.here ∙ z))));
-      few = g.few;
-      spot = g.walk.spot;
-      free = λ i. walk-free g.trees g.walk (sym g.here ∙ z);
-    }
-
 -- ---- lists of sides that grow as sides are met
-
--- a number that stands for a place is that place
-pub some_of : (at : ℕ) (x : Option ℕ) → at ≡ one_more x → at ≢ 0 → x ≡ some (at - 1)
-some_of at none e h = absurd (h e)
-some_of at (some k) e h = let i : k ≡ at - 1 = omega arith in ap some i
-
-pub none_of : {at : ℕ} (x : Option ℕ) → at ≡ one_more x → at ≡ 0 → x ≡ none
-none_of none e h = refl
-none_of (some k) e h = absurd (omega arith)
 
 -- a number stays as more sides are met
 pub met-keeps : (l : List Side) (s t : Side) (k : ℕ) → index_in s l ≡ some k → index_in s (met l t) ≡ some k

@@ -1,19 +1,21 @@
 -- A table of sides in two slices: what the stores of a new side do to it, what a side that is met, or three, comes to, and where a table stays. The laws on
 -- trees are those of proofs/Tree. Assumes nothing.
-use Prim.Native.Nat.{ℕ, zero, suc, ◌+◌, ◌-◌, ◌*◌, ◌≤◌, ◌<◌}
+use Prim.Native.Nat.{ℕ, zero, suc, ◌+◌, ◌*◌, ◌≤◌, ◌<◌}
 use native.Mathlib.Omega.{arith}
 use native.Mathlib.Numerals.{add-one}
 use mathlib.Core.Path.{◌≡◌, refl, sym, ap, ◌∙◌, subst}
 use mathlib.Core.Logic.{◌≢◌}
 use mathlib.Core.List.{List, [], ◌∷◌, ◌++◌}
-use mathlib.Core.Option.{some}
+use mathlib.Core.Option.{none, some}
+use Rattle.std.specs.Prelude.{Option as Maybe}
+use Rattle.std.specs.Prelude.{None, Some}
 use lib.ListN.{length, get_or, set, length-set, replicate}
 use lib.Seq.{get_or-set_same, get_or-set_other, sets, length-sets}
 use Rattle.mesh.specs.Mesh.{Side, side, key, tri, index_in, met}
 use Rattle.mesh.proofs.Cuts.{index-end, met-old, met-new, met-numbered}
-use Rattle.edges.specs.Table.{pairs, Spot, bucket, link, Trees, hold_of}
+use Rattle.edges.specs.Table.{pairs, place, Spot, bucket, link, Trees, hold_of}
 use Rattle.edges.specs.TwoSlices.{lo_at, hi_at, under_at, sides_at, HeldInTwo, WalkedInTwo, OutsideInTwo, MetInTwo, MetTriInTwo}
-use Rattle.edges.proofs.Tree.{Put, trees-more, trees-same, no-trees, new-pairs, length_pairs, some_of, none_of, pairs-most, three-met}
+use Rattle.edges.proofs.Tree.{Put, trees-more, trees-same, no-trees, new-pairs, length_pairs, pairs-most, three-met}
 use Rattle.edges.proofs.Stored.{slot-below, zeros-at}
 
 -- a position stands before the links of the next side
@@ -80,10 +82,10 @@ module _ (o N : ℕ) (w : List ℕ) (m p : ℕ) (spot : Spot o N (under_at o N) 
 
 -- ---- a side is met
 
-module _ {o N : ℕ} {e w : List ℕ} {m at p : ℕ} (a b : ℕ) (t : HeldInTwo o N e w m) (k : WalkedInTwo o N e w m a b at p) where
-  pub met-found : at ≢ 0 → MetInTwo o N e w m e w m (at - 1) (side a b)
+module _ {o N : ℕ} {e w : List ℕ} {m p : ℕ} {at : Maybe ℕ} (a b : ℕ) (t : HeldInTwo o N e w m) (k : WalkedInTwo o N e w m a b at p) where
+  pub met-found : {n : ℕ} → at ≡ Some n → MetInTwo o N e w m e w m n (side a b)
   met-found h =
-      let q : index_in (side a b) (sides_at e m) ≡ some (at - 1) = some_of at (index_in (side a b) (sides_at e m)) k.number h in
+      let q = sym k.number ∙ ap place h in
       record {
         held = t;
         now-met = sym (met-old (sides_at e m) (side a b) _ q);
@@ -92,7 +94,7 @@ module _ {o N : ℕ} {e w : List ℕ} {m at p : ℕ} (a b : ℕ) (t : HeldInTwo 
         outside = record { same_ends = refl; same = refl; ends-behind = λ j l. refl; before = λ j l. refl; behind = λ j l. refl };
       }
 
-  pub met-added : at ≡ 0 → 2 * m + 2 ≤ length e → o + N + 2 * m + 2 ≤ length w → MetInTwo o N e w m (ends-stored e m a b) (links-stored o N w m p) (m + 1) m (side a b)
+  pub met-added : at ≡ None → 2 * m + 2 ≤ length e → o + N + 2 * m + 2 ≤ length w → MetInTwo o N e w m (ends-stored e m a b) (links-stored o N w m p) (m + 1) m (side a b)
   met-added z room room' =
       let e' = ends-stored e m a b in
       let w' = links-stored o N w m p in
@@ -105,7 +107,7 @@ module _ {o N : ℕ} {e w : List ℕ} {m at p : ℕ} (a b : ℕ) (t : HeldInTwo 
         held_new = links-at o N w m p k.spot room' ∙ add-one m;
         links-new = links-new o N w m p k.spot room';
       } in
-      let out = none_of (index_in (side a b) (sides_at e m)) k.number z in
+      let out : index_in (side a b) (sides_at e m) ≡ none = sym k.number ∙ ap place z in
       let new : sides_at e' (m + 1) ≡ sides_at e m ++ (side a b ∷ []) = ap (pairs (lo_at e') (hi_at e')) (add-one m) ∙ new-pairs d in
       let now : sides_at e' (m + 1) ≡ met (sides_at e m) (side a b) = new ∙ sym (met-new (sides_at e m) (side a b) out) in
       record {

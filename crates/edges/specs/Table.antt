@@ -3,7 +3,8 @@
 -- to a side starts at its bucket, and goes on at the first or the second link of the side that it meets by the lowest digit of the side's path, which is then
 -- halved; a new side goes to the empty position where its walk ends. Which bucket and which path a side has matters to nothing but the time that a walk
 -- takes. A link leads to a later side than its own (`later`), so that a walk meets no side twice. Definitions only.
-use Rattle.std.specs.Prelude.{ℕ, zero, suc, ◌+◌, ◌-◌, ◌*◌, ◌/◌, ◌%◌, ◌^◌, ◌≤◌, ◌<◌, ◌≡◌, ◌≢◌, cond, List, [], ◌∷◌, ◌++◌, map, ltb, length, get_or}
+use Rattle.std.specs.Prelude.{ℕ, zero, suc, ◌+◌, ◌-◌, ◌*◌, ◌/◌, ◌%◌, ◌^◌, ◌≤◌, ◌<◌, ◌≡◌, ◌≢◌, cond, List, [], ◌∷◌, ◌++◌, map, ltb, length, get_or, None, Some, IfSome}
+use Rattle.std.specs.Prelude.{Option as Maybe}
 use Rattle.std.proofs.Math.Option.{Option, none, some}
 use Rattle.std.proofs.lemmas.List.Edits.{sets}
 use Rattle.mesh.specs.Mesh.{Side, side, key, Tri, tri, sides, met, met_all, index_in, Numbered}
@@ -59,7 +60,12 @@ pub record Free (o N : ℕ) (hold under : ℕ → ℕ) (m a b p : ℕ) : Type 0 
   pub empty : hold p ≡ 0
   pub through : (hold' : ℕ → ℕ) (k : ℕ) → Keeps o N under hold hold' m → Leads hold' under k p rest → Leads hold' under k (o + slot_of N a b) (path_of a b)
 
--- a place that may be none, as a number: one more than the place, or 0; and back
+-- a place that may be none, as the code has it
+abbrev pub place : Maybe ℕ → Option ℕ
+place None = none
+place (Some k) = some k
+
+-- and as a number: one more than the place, or 0; and back
 abbrev pub one_more : Option ℕ → ℕ
 one_more none = 0
 one_more (some k) = suc k
@@ -68,12 +74,12 @@ abbrev pub one_less : ℕ → Option ℕ
 one_less zero = none
 one_less (suc k) = some k
 
--- the walk to the side a b, by what is at its end: one more than its number; or 0 and an empty position p, where it is to be put
-pub record Walked (o N : ℕ) (lo hi hold under : ℕ → ℕ) (m a b at p : ℕ) : Type 0 where
-  pub number : at ≡ one_more (index_in (side a b) (pairs lo hi m))
-  pub few : at ≤ m
+-- the walk to the side a b, by what is at its end: the side, by its number; or an empty position p, where it is to be put
+pub record Walked (o N : ℕ) (lo hi hold under : ℕ → ℕ) (m a b : ℕ) (at : Maybe ℕ) (p : ℕ) : Type 0 where
+  pub number : place at ≡ index_in (side a b) (pairs lo hi m)
+  pub few : IfSome at (λ k. k < m)
   pub spot : Spot o N under m p
-  pub free : at ≡ 0 → Free o N hold under m a b p
+  pub free : at ≡ None → Free o N hold under m a b p
 
 -- ---- the layout of a table in one slice
 
@@ -122,7 +128,7 @@ pub record Held (o N : ℕ) (w : List ℕ) (m : ℕ) : Type 0 where
   pub trees : Trees o N (lo_of o N w) (hi_of o N w) (hold_of w) (under_of o N) m
   pub numbered : Numbered (sides_in o N w m)
 
-abbrev pub WalkedIn : ℕ → ℕ → List ℕ → ℕ → ℕ → ℕ → ℕ → ℕ → Type 0
+abbrev pub WalkedIn : ℕ → ℕ → List ℕ → ℕ → ℕ → ℕ → Maybe ℕ → ℕ → Type 0
 WalkedIn o N w = Walked o N (lo_of o N w) (hi_of o N w) (hold_of w) (under_of o N)
 
 -- the slice outside the table of m sides is as it was

@@ -1,6 +1,7 @@
 -- A table of sides in two slices, so that the ends can stand where they are wanted: the lower and the upper end of side k at 2 k and 2 k + 1 of `e`, and in `w`
 -- from `o` on N buckets and then two links of each side. All else is as in one slice (Table). Definitions only.
 use Rattle.std.specs.Prelude.{ℕ, ◌+◌, ◌*◌, ◌≤◌, ◌<◌, ◌≡◌, List, length, get_or}
+use Rattle.std.specs.Prelude.{Option as Maybe}
 use Rattle.std.proofs.Math.Option.{some}
 use Rattle.mesh.specs.Mesh.{Side, Tri, sides, met, met_all, index_in, Numbered}
 use Rattle.edges.specs.Table.{pairs, Trees, Walked, hold_of, NumbersOf}
@@ -26,7 +27,7 @@ pub record HeldInTwo (o N : ℕ) (e w : List ℕ) (m : ℕ) : Type 0 where
   pub trees : Trees o N (lo_at e) (hi_at e) (hold_of w) (under_at o N) m
   pub numbered : Numbered (sides_at e m)
 
-abbrev pub WalkedInTwo : ℕ → ℕ → List ℕ → List ℕ → ℕ → ℕ → ℕ → ℕ → ℕ → Type 0
+abbrev pub WalkedInTwo : ℕ → ℕ → List ℕ → List ℕ → ℕ → ℕ → ℕ → Maybe ℕ → ℕ → Type 0
 WalkedInTwo o N e w = Walked o N (lo_at e) (hi_at e) (hold_of w) (under_at o N)
 
 -- both slices outside the table of m sides are as they were

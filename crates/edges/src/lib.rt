@@ -6,10 +6,10 @@
 pub mod numbers;
 pub mod two_slices;
 
-ghost use Rattle.std.specs.Prelude.{◌≡◌, ◌&&◌, ◌+◌, ◌*◌, ◌<◌, ◌≤◌, ◌^◌, length, replicate, eqb};
+ghost use Rattle.std.specs.Prelude.{◌≡◌, ◌&&◌, ◌+◌, ◌*◌, ◌<◌, ◌≤◌, ◌^◌, length, replicate, eqb, IfSome};
 ghost use Rattle.std.proofs.lemmas.List.Edits.{sets};
 ghost use Rattle.mesh.specs.Mesh.{side, key, tri, index_in};
-ghost use Rattle.edges.specs.Table.{slot_of, path_of, sides_in, row_of, end_of, Held, WalkedIn, Met, MetTri, one_more};
+ghost use Rattle.edges.specs.Table.{slot_of, path_of, sides_in, row_of, end_of, Held, WalkedIn, Met, MetTri, place, one_more};
 
 // Where a table stands, of how many buckets, and how many sides it has.
 #[derive(Clone, Copy)]
@@ -80,11 +80,18 @@ pub fn clear(w: &mut [u32], base: usize, n: usize)
     slices::fill(w, base, n, 0);
 }
 
-// Where the walk to a side ends: one more than the side's number, or 0 and the empty position.
+// Where the walk to a side ends: at the side, by its number, or at an empty position.
 #[derive(Clone, Copy)]
 struct Spot {
-    at: usize,
+    at: Option<usize>,
     position: usize,
+}
+
+// The side that a position holds: one more than its number stands there, or 0 for none.
+fn held(x: u32) -> Option<usize>
+    ensures { one_more (place result) ≡ x }
+{
+    mesh::index(x).checked_sub(1)
 }
 
 // The walk to the side a b.
@@ -94,23 +101,23 @@ fn walk(w: &[u32], t: Table, a: u32, b: u32) -> Spot
 {
     let mut position = t.base + slot(t.buckets, a, b);
     let mut rest = path(a, b);
-    let mut at = mesh::index(w[position]);
-    while at != 0 {
-        let k = t.base + t.buckets + 4 * (at - 1);
+    let mut at = held(w[position]);
+    while let Some(number) = at {
+        let k = t.base + t.buckets + 4 * number;
         if same_side(w[k], w[k + 1], a, b) {
             return Spot { at, position };
         }
         position = k + 2 + rest % 2;
         rest = rest / 2;
-        at = mesh::index(w[position]);
+        at = held(w[position]);
     }
     Spot { at, position }
 }
 
-// One more than the number of the side of u and v, or 0.
-pub fn find_side(w: &[u32], t: Table, u: u32, v: u32) -> usize
+// The number of the side of u and v, if it is there.
+pub fn find_side(w: &[u32], t: Table, u: u32, v: u32) -> Option<usize>
     requires { Held t.base t.buckets w.now t.sides }
-    ensures { (result ≡ one_more (index_in (key u v) (sides_in t.base t.buckets w.now t.sides))) × (result ≤ t.sides) }
+    ensures { (place result ≡ index_in (key u v) (sides_in t.base t.buckets w.now t.sides)) × IfSome result (λ k. k < t.sides) }
 {
     if u < v {
         let s = walk(w, t, u, v);
@@ -128,11 +135,8 @@ fn find_or_insert(w: &mut [u32], t: Table, a: u32, b: u32) -> Meeting
 {
     let s = walk(w, t, a, b);
     let m = t.sides;
-    if s.at != 0 {
-        return Meeting {
-            sides: m,
-            number: s.at - 1,
-        };
+    if let Some(number) = s.at {
+        return Meeting { sides: m, number };
     }
     let position = s.position;
     let k = t.base + t.buckets + 4 * m;
@@ -167,15 +171,13 @@ pub fn meet_triangle(w: &mut [u32], t: Table, a: u32, b: u32, c: u32) -> Meeting
 {
     let p = meet_side(w, t, a, b);
     let after = Table {
-        base: t.base,
-        buckets: t.buckets,
         sides: p.sides,
+        ..t
     };
     let q = meet_side(w, after, b, c);
     let last = Table {
-        base: t.base,
-        buckets: t.buckets,
         sides: q.sides,
+        ..t
     };
     let r = meet_side(w, last, c, a);
     Meetings {

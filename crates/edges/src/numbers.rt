@@ -10,9 +10,7 @@ pub fn put_three(w: &mut [u32], at: usize, p: u32, q: u32, r: u32)
     requires { at + 3 ≤ length w.old }
     ensures { w.new ≡ sets w.old at (p ∷ q ∷ r ∷ []) }
 {
-    w[at] = p;
-    w[at + 1] = q;
-    w[at + 2] = r;
+    slices::copy(&[p, q, r], w, at);
 }
 
 // How many triangles there are, where their corners stand and where the numbers of their sides go, three each; and the table behind both.
@@ -56,10 +54,8 @@ fn number_all(w: &mut [u32], p: NumberingPlan) -> usize
     ensures { NumberedTo p.corners p.numbers p.table p.buckets p.triangles w.old w.new result }
 {
     let mut m = 0;
-    let mut i = 0;
-    while i < p.triangles {
+    for i in 0..p.triangles {
         m = number_triangle(w, p, i, m);
-        i += 1;
     }
     m
 }
@@ -78,10 +74,8 @@ fn copy_fourths(w: &mut [u32], at: usize, m: usize, to: usize)
     requires { (at + 4 * m ≤ to + 3) × (to + m ≤ length w.old) }
     ensures { w.new ≡ sets w.old to (fourths at w.old m) }
 {
-    let mut k = 0;
-    while k < m {
+    for k in 0..m {
         w[to + k] = w[at + 4 * k];
-        k += 1;
     }
 }
 
@@ -111,10 +105,8 @@ fn count_all(w: &mut [u32], e: usize, k: usize, a: usize, m: usize)
     requires counted { Counted e 0 a m w.old w.old }
     ensures { Counted e k a m w.old w.new }
 {
-    let mut j = 0;
-    while j < k {
+    for j in 0..k {
         count_number(w, e, j, a, m);
-        j += 1;
     }
 }
 

@@ -1,8 +1,8 @@
 // A table of sides in two slices: `ends` has the lower and the upper end of each side and nothing else, `links` the buckets, from the table's base on, and two
 // links of each side. So the ends can stand where a caller wants them (specs/TwoSlices.antt).
-ghost use Rattle.std.specs.Prelude.{◌≡◌, ◌+◌, ◌*◌, ◌<◌, ◌≤◌, ◌^◌, length};
+ghost use Rattle.std.specs.Prelude.{◌≡◌, ◌+◌, ◌*◌, ◌<◌, ◌≤◌, ◌^◌, length, IfSome};
 ghost use Rattle.mesh.specs.Mesh.{side, key, tri, index_in};
-ghost use Rattle.edges.specs.Table.{one_more};
+ghost use Rattle.edges.specs.Table.{place};
 ghost use Rattle.edges.specs.TwoSlices.{sides_at, under_at, HeldInTwo, WalkedInTwo, MetInTwo, MetTriInTwo};
 
 use crate::{Meeting, Meetings, Spot, Table};
@@ -14,23 +14,23 @@ fn walk(ends: &[u32], links: &[u32], t: Table, a: u32, b: u32) -> Spot
 {
     let mut position = t.base + crate::slot(t.buckets, a, b);
     let mut rest = crate::path(a, b);
-    let mut at = mesh::index(links[position]);
-    while at != 0 {
-        let k = 2 * (at - 1);
+    let mut at = crate::held(links[position]);
+    while let Some(number) = at {
+        let k = 2 * number;
         if crate::same_side(ends[k], ends[k + 1], a, b) {
             return Spot { at, position };
         }
         position = t.base + t.buckets + k + rest % 2;
         rest = rest / 2;
-        at = mesh::index(links[position]);
+        at = crate::held(links[position]);
     }
     Spot { at, position }
 }
 
-// One more than the number of the side of u and v, or 0.
-pub fn find_side(ends: &[u32], links: &[u32], t: Table, u: u32, v: u32) -> usize
+// The number of the side of u and v, if it is there.
+pub fn find_side(ends: &[u32], links: &[u32], t: Table, u: u32, v: u32) -> Option<usize>
     requires { HeldInTwo t.base t.buckets ends.now links.now t.sides }
-    ensures { (result ≡ one_more (index_in (key u v) (sides_at ends.now t.sides))) × (result ≤ t.sides) }
+    ensures { (place result ≡ index_in (key u v) (sides_at ends.now t.sides)) × IfSome result (λ k. k < t.sides) }
 {
     if u < v {
         let s = walk(ends, links, t, u, v);
@@ -49,11 +49,8 @@ fn find_or_insert(ends: &mut [u32], links: &mut [u32], t: Table, a: u32, b: u32)
 {
     let s = walk(ends, links, t, a, b);
     let m = t.sides;
-    if s.at != 0 {
-        return Meeting {
-            sides: m,
-            number: s.at - 1,
-        };
+    if let Some(number) = s.at {
+        return Meeting { sides: m, number };
     }
     let position = s.position;
     let k = t.base + t.buckets + 2 * m;
@@ -97,15 +94,13 @@ pub fn meet_triangle(
 {
     let p = meet_side(ends, links, t, a, b);
     let after = Table {
-        base: t.base,
-        buckets: t.buckets,
         sides: p.sides,
+        ..t
     };
     let q = meet_side(ends, links, after, b, c);
     let last = Table {
-        base: t.base,
-        buckets: t.buckets,
         sides: q.sides,
+        ..t
     };
     let r = meet_side(ends, links, last, c, a);
     Meetings {

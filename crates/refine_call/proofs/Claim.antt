@@ -24,13 +24,12 @@ use Rattle.refinement.proofs.Triangles.{in-range}
 use Rattle.refinement.proofs.Flags.{low, flag_is}
 use Rattle.refinement.proofs.Claim.{refinement}
 use Rattle.refine_call.specs.declared.Counts.{Counts}
-use Rattle.refine_call.specs.declared.Answer.TheVariants.{Refinement}
 use Rattle.refine_call.specs.Call.{check_rest, check_call, counts_of, answer_of}
 use Rattle.refine_call.specs.Claim.{AcceptedCall}
 use Rattle.refine_call.proofs.Facts.{passed, passed-last, passed-both, sizes-are}
 
-answered : (c : Verdict) (r : Refined) (counts : Counts) → answer_of c r ≡ Refinement counts → (c ≡ Ok tt) × (counts_of r ≡ counts)
-answered (Ok _) r counts e = (refl, cc)
+answered : (c : Verdict) (r : Refined) (counts : Counts) → answer_of c r ≡ Ok counts → (c ≡ Ok tt) × (counts_of r ≡ counts)
+answered (Ok tt) r counts e = (refl, cc)
 answered (Err x) r counts e = let z : ◌≡◌ {A = ℕ} 0 1 = cc in absurd (omega arith)
 
 -- row 8
@@ -62,7 +61,7 @@ module _ (points : List Float) (corners : List ℕ) (sizes angles : List Float) 
   made-points = points-length points (cuts (flagged_tri threshold angles) (tris_of corners))
 
   pub accepted-call : (new_points new_sizes new_triangles cut_ends : ℕ) (counts : Counts)
-      → answer_of (check_call points corners sizes (length angles) threshold new_points new_sizes new_triangles cut_ends) (refinement_of threshold angles points sizes (tris_of corners)) ≡ Refinement counts
+      → answer_of (check_call points corners sizes (length angles) threshold new_points new_sizes new_triangles cut_ends) (refinement_of threshold angles points sizes (tris_of corners)) ≡ Ok counts
       → AcceptedCall threshold angles points sizes (tris_of corners) (refinement_of threshold angles points sizes (tris_of corners)) counts
   unfolding check_call refinement_of
   accepted-call new_points new_sizes new_triangles cut_ends counts e =

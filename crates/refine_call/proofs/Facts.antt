@@ -31,15 +31,13 @@ use Rattle.refinement.specs.Stored.{Stored}
 use Rattle.refine_call.specs.Marks.{marked_by, MarksRoom, Marked}
 use Rattle.refine_call.proofs.Splitting.{front_same}
 use Rattle.refine_call.specs.declared.Counts.{Counts}
-use Rattle.refine_call.specs.declared.Answer.{Answer}
-use Rattle.refine_call.specs.declared.Answer.TheVariants.{Refinement}
-use Rattle.refine_call.specs.Call.{answer_of, Called, short, check_rest, check_call}
+use Rattle.refine_call.specs.Call.{Answer, answer_of, Called, short, check_rest, check_call}
 use Rattle.refine_call.specs.Steps.{Marks, Pieces, Filled, ResultRoom, FloorRoom, PutsFloor}
 use Rattle.refine_call.proofs.Lists.{refined-none, corners-of-tris, ends-front}
 
 -- ---- tests
 
-no : {A : Type 0} (x : Refusal) → Err x ≡ Ok tt → A
+no : {A : Type 0} (x : Refusal) → ◌≡◌ {A = Verdict} (Err x) (Ok tt) → A
 no x e = let z : ◌≡◌ {A = ℕ} 0 1 = cc in absurd (omega arith)
 
 pub passed : (b : Bool) (x : Refusal) (rest : Verdict) → cond b (Err x) rest ≡ Ok tt → (b ≡ false) × (rest ≡ Ok tt)
@@ -122,8 +120,8 @@ third a b e = omega arith
 pub rest-sound : (c rest r : Verdict) → c ≡ Ok tt → r ≡ rest → r ≡ and_then c rest
 rest-sound c rest r e h = rw e h
 
-pub rest-refused : (c rest : Verdict) (x : Refusal) → c ≡ Err x → c ≡ and_then c rest
-rest-refused c rest x e = rw e
+pub rest-refused : (c rest r : Verdict) (x : Refusal) → c ≡ Err x → r ≡ Err x → r ≡ and_then c rest
+rest-refused c rest r x e h = rw e h
 
 pub called-refused : {r : Refined} {new_points new_sizes : List Float} {new_triangles cut_ends : List ℕ} {a : Answer} (c c' : Verdict) (x : Refusal) → c ≡ c' → c ≡ Err x
     → a ≡ answer_of (Err x) r → Called c' r new_points new_sizes new_triangles cut_ends a new_points new_sizes new_triangles cut_ends
@@ -131,10 +129,10 @@ called-refused c c' x e h g = let z : c' ≡ Err x = sym e ∙ h in rw z (record
 
 pub called-done : {r : Refined} {new_points new_sizes new_points' new_sizes' : List Float} {new_triangles cut_ends new_triangles' cut_ends' : List ℕ}
     {a : Counts} (c c' : Verdict) → c ≡ c' → c ≡ Ok tt → Filled r new_points new_sizes new_triangles cut_ends a new_points' new_sizes' new_triangles' cut_ends'
-    → Called c' r new_points new_sizes new_triangles cut_ends (Refinement a) new_points' new_sizes' new_triangles' cut_ends'
+    → Called c' r new_points new_sizes new_triangles cut_ends (Ok a) new_points' new_sizes' new_triangles' cut_ends'
 called-done c c' e h g =
     let z : c' ≡ Ok tt = sym e ∙ h in
-    rw z (record { answer = ap Refinement g.counts; points = g.points; sizes = g.sizes; triangles = g.triangles; ends = g.ends })
+    rw z (record { answer = ap Ok g.counts; points = g.points; sizes = g.sizes; triangles = g.triangles; ends = g.ends })
 
 -- ---- the pieces
 

@@ -10,6 +10,7 @@ use mathlib.Core.List.{List, [], ◌∷◌, ◌++◌, append-nil}
 use mathlib.Core.Option.{Option, none, some}
 use borrow.Author.Tests.{eq-eqb, ne_eqb}
 use lib.Dec.{eqb}
+use Rattle.std.specs.Int.{from_bool}
 use lib.ListN.{length, length-append, get_or, set, length-set, replicate, length-replicate}
 use lib.Seq.{sets, length-sets, get_or-set_same, get_or-set_other}
 use Rattle.mesh.specs.Mesh.{Tri, tri, Side, key, index_in, met, met_all, sides, sides_after, cuts, marked, one, above, mid, split}
@@ -27,14 +28,19 @@ use Rattle.refine_call.specs.Marks.{cut_mark, marked_by, split_at, split_to, Cut
 
 -- ---- flags
 
+-- a flag as a number
+bit : (b : Bool) → from_bool b ≡ one b
+bit true = refl
+bit false = refl
+
 pub flags-none : (f : Tri → Bool) (l w : List ℕ) → FlagsTo f l 0 w w 0
 unfolding tris marked
 flags-none f l w = record { flags = λ j h. absurd (omega arith); counted = refl; seldom = omega arith; same = refl; behind = λ j h. refl }
 
-pub flags-again : {f : Tri → Bool} {l : List ℕ} {i : ℕ} {w w₁ : List ℕ} {c x y : ℕ} → FlagsTo f l i w w₁ c → 3 * i < length w₁ → x ≡ one (f (tri_at l i)) → y ≡ x → FlagsTo f l (i + 1) w (set w₁ (3 * i) x) (c + y)
+pub flags-again : {f : Tri → Bool} {l : List ℕ} {i : ℕ} {w w₁ : List ℕ} {b : Bool} {c x y : ℕ} → FlagsTo f l i w w₁ c → 3 * i < length w₁ → b ≡ f (tri_at l i) → x ≡ from_bool b → y ≡ from_bool b → FlagsTo f l (i + 1) w (set w₁ (3 * i) x) (c + y)
 unfolding tris
-flags-again {f} {l} {i} {w} {w₁} {c} {x} {y} h room z q =
-    let flag : y ≡ one (f (tri_at l i)) = q ∙ z in
+flags-again {f} {l} {i} {w} {w₁} {b} {c} {x} {y} h room e p q =
+    let flag : y ≡ one (f (tri_at l i)) = q ∙ bit b ∙ ap one e in
     rw (add-one i) (record {
       flags = λ j g. at j g (ℕ_discrete j i);
       counted = omega (arith, h.counted, flag, count-more f (tris l i) (tri_at l i));
@@ -43,6 +49,9 @@ flags-again {f} {l} {i} {w} {w₁} {c} {x} {y} h room z q =
       behind = λ j g. get_or-set_other w₁ (3 * i) j x 0 (omega arith) ∙ h.behind j (omega arith);
     })
   where
+    z : x ≡ one (f (tri_at l i))
+    z = p ∙ bit b ∙ ap one e
+
     at : (j : ℕ) → j < suc i → Dec (j ≡ i) → get_or (set w₁ (3 * i) x) (3 * j) 0 ≡ one (f (tri_at l j))
     at j g (yes e) = rw e (get_or-set_same w₁ (3 * i) x 0 room ∙ z)
     at j g (no e) = get_or-set_other w₁ (3 * i) (3 * j) x 0 (omega arith) ∙ h.flags j (omega arith)
@@ -288,9 +297,6 @@ cut-room {t = t} {w} {w₁} {c} h n corners e room q {w₂} z =
 
 mark-is : (o : Option ℕ) (x : ℕ) → (0 < x) × (o ≡ some (x - 1)) → x ≡ one_more o
 mark-is o x c = let e : x ≡ suc (x - 1) = omega (arith, c.0) in e ∙ ap one_more (sym c.1)
-
-pub cut-none : (x : ℕ) → x ≡ 0 → 0 ≡ cut_mark x
-cut-none x e = rw e refl
 
 pub cut-some : (x : ℕ) → x ≢ 0 → 1 ≡ cut_mark x
 cut-some zero h = absurd (h refl)

@@ -5,15 +5,14 @@ use native.Mathlib.Omega.{arith}
 use native.Mathlib.Numerals.{add-one}
 use mathlib.Core.Path.{◌≡◌, refl, sym, ap, ◌∙◌}
 use mathlib.Core.List.{List, [], ◌∷◌, ◌++◌, append-nil, append_assoc}
-use mathlib.Core.Option.{none}
+use mathlib.Core.Option.{Option, none, some}
 use lib.ListN.{length, length-append, length-drop, get_or, set, drop}
 use lib.Seq.{sets, length-sets, set_comm, ext_get_or, get_or-drop}
 use Rattle.mesh.specs.Mesh.{Tri, Side, mid, refined}
 use Rattle.slices.proofs.Runs.{sets-before}
-use Rattle.edges.specs.Table.{one_less}
+use Rattle.edges.specs.Table.{one_more, one_less}
 use Rattle.refinement.specs.Floor.{tris, corners_of}
 use Rattle.refinement.proofs.Runs.{front}
-use Rattle.refinement.proofs.Parts.{one-less-one-more}
 use Rattle.refinement.proofs.Triangles.{corners-length, corners-append}
 use Rattle.refinement.specs.Stored.{Stored}
 use Rattle.refine_call.specs.Marks.{marked_by, split_at, split_to, MarksAt, MarksTo}
@@ -96,6 +95,10 @@ split_done {w₀} {l} {t} {i} {w} {k} h z =
     h.stands ∙ rw (none, all) refl
 
 -- ---- the pieces are those of the definition
+
+one-less-one-more : (o : Option ℕ) → one_less (one_more o) ≡ o
+one-less-one-more none = refl
+one-less-one-more (some k) = refl
 
 pub split-refined : (n : ℕ) (s : List Side) (l w : List ℕ) (t : ℕ) → ((j : ℕ) → j < t → MarksAt n s w l j) → split_to w l t ≡ refined (mid n s) (tris l t)
 unfolding split_to tris

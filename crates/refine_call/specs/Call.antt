@@ -1,12 +1,11 @@
 -- The refinement call, with the angles given: what it answers, and what it leaves in its four result slices. Document 01, "Refinement is also a call
 -- of its own". Definitions only.
-use Rattle.std.specs.Prelude.{ℕ, ◌+◌, ◌*◌, ◌/◌, ◌≡◌, Bool, not, cond, ◌||◌, List, eqb, ltb, length, Float, Ok, Err}
+use Rattle.std.specs.Prelude.{ℕ, ◌+◌, ◌*◌, ◌/◌, ◌≡◌, Bool, not, cond, ◌||◌, List, eqb, ltb, length, Float, Result, Ok, Err}
+use Rattle.refusals.specs.declared.Refusal.{Refusal}
 use Rattle.refusals.specs.Refusal.{row, Verdict}
 use Rattle.floor.specs.Checks.{well_formed, not_finite_or_below_zero, and_then, check_floor}
 use Rattle.refinement.specs.Floor.{Refined, refinement_of, tris_of, corners_of, ends_of, over}
 use Rattle.refine_call.specs.declared.Counts.{Counts}
-use Rattle.refine_call.specs.declared.Answer.{Answer}
-use Rattle.refine_call.specs.declared.Answer.TheVariants.{Refinement, Refusal}
 
 -- row 18, of n points, t triangles and the lengths of the four result slices: n' = n + 3 t points and sizes, t' = 4 t triangles, 4 t cut sides of two ends
 unfoldable pub short : ℕ → ℕ → ℕ → ℕ → ℕ → ℕ → Bool
@@ -28,14 +27,18 @@ check_call points triangles sizes angles threshold new_points new_sizes new_tria
 abbrev pub counts_of : Refined → Counts
 counts_of r = record { points = length r.points / 3; triangles = length r.triangles; flagged = r.flagged; cut = length r.cut }
 
--- a refusal found below is passed up with its number and place
+-- what the call answers: the counts, or a refusal
+abbrev pub Answer : Type 0
+Answer = Result Counts Refusal
+
+-- a refusal found below is passed up
 abbrev pub answer_of : Verdict → Refined → Answer
-answer_of (Ok _) r = Refinement (counts_of r)
-answer_of (Err x) r = Refusal x.number x.place
+answer_of (Ok tt) r = Ok (counts_of r)
+answer_of (Err x) r = Err x
 
 -- refused, a slice is as it was; accepted, its front is filled and the rest stays
 abbrev pub left : {A : Type 0} → Verdict → List A → List A → List A
-left (Ok _) new old = over new old
+left (Ok tt) new old = over new old
 left (Err x) new old = old
 
 -- what is found, c, and the floor that is made, r, decide the answer a and the four result slices

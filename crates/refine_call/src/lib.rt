@@ -16,6 +16,7 @@ ghost use Rattle.refine_call.specs.Steps.{Marks, Pieces, Filled, ResultRoom, Flo
 
 use edges::Table;
 use refinement::Cut;
+use refusals::{Refusal, refused};
 
 // How many points and triangles the refined floor has, how many triangles were flagged, and how many sides cut.
 #[derive(Clone, Copy)]
@@ -24,13 +25,6 @@ pub struct Counts {
     pub triangles: usize,
     pub flagged: usize,
     pub cut: usize,
-}
-
-#[derive(Clone, Copy)]
-pub enum Answer {
-    Refinement(Counts),
-    // A row of document 01's table, and its place: 0 where the table says "none".
-    Refusal { number: u64, place: u64 },
 }
 
 // How long the four result slices are.
@@ -56,20 +50,26 @@ fn is_short(n: usize, t: usize, l: ResultLengths) -> bool
 }
 
 // Rows 5, by the count of angles, 12 and 18.
-fn check_rest(n: usize, t: usize, angles: usize, threshold: f64, l: ResultLengths) -> floor::Check
+fn check_rest(
+    n: usize,
+    t: usize,
+    angles: usize,
+    threshold: f64,
+    l: ResultLengths,
+) -> Result<(), Refusal>
     requires { (n ≤ MOST-POINTS) × (t ≤ MOST-TRIANGLES) }
     ensures { result ≡ check_rest n t angles threshold l.points l.sizes l.triangles l.ends }
 {
     if angles != n {
-        return floor::refused(5, 0);
+        return Err(refused(5, 0));
     }
     if floor::not_finite_or_below_zero(threshold) {
-        return floor::refused(12, 0);
+        return Err(refused(12, 0));
     }
     if is_short(n, t, l) {
-        return floor::refused(18, 0);
+        return Err(refused(18, 0));
     }
-    floor::Check::Sound
+    Ok(())
 }
 
 // Rows 1 and 3 to 8, then 5, 12 and 18.
@@ -80,17 +80,14 @@ fn check_call(
     angles: usize,
     threshold: f64,
     l: ResultLengths,
-) -> floor::Check
+) -> Result<(), Refusal>
     ensures { result ≡ check_call points.now triangles.now sizes.now angles threshold
         l.points l.sizes l.triangles l.ends }
 {
     if !floor::well_formed(points.len(), triangles.len()) {
-        return floor::refused(1, 0);
+        return Err(refused(1, 0));
     }
-    let checked = floor::check_floor(points, triangles, sizes);
-    let floor::Check::Sound = checked else {
-        return checked;
-    };
+    floor::check_floor(points, triangles, sizes)?;
     check_rest(points.len() / 3, triangles.len() / 3, angles, threshold, l)
 }
 
@@ -175,6 +172,7 @@ fn refine_sound(
 }
 
 // Refinement with the angles given. The four slices at the end are its results: points, sizes, corners of triangles, ends of cut sides.
+// A refusal is a row of document 01's table with its place.
 pub fn refine(
     points: &[f64],
     triangles: &[u32],
@@ -185,7 +183,7 @@ pub fn refine(
     new_sizes: &mut [f64],
     new_triangles: &mut [u32],
     cut_ends: &mut [u32],
-) -> Answer
+) -> Result<Counts, Refusal>
     ensures { CalledOn points.now triangles.now sizes.now angles.now threshold
         new_points.old new_sizes.old new_triangles.old cut_ends.old result
         new_points.new new_sizes.new new_triangles.new cut_ends.new }
@@ -196,23 +194,16 @@ pub fn refine(
         triangles: new_triangles.len(),
         ends: cut_ends.len(),
     };
-    let checked = check_call(points, triangles, sizes, angles.len(), threshold, lengths);
-    let floor::Check::Refused(found) = checked else {
-        let counts = refine_sound(
-            points,
-            triangles,
-            sizes,
-            angles,
-            threshold,
-            new_points,
-            new_sizes,
-            new_triangles,
-            cut_ends,
-        );
-        return Answer::Refinement(counts);
-    };
-    Answer::Refusal {
-        number: found.number,
-        place: found.place,
-    }
+    check_call(points, triangles, sizes, angles.len(), threshold, lengths)?;
+    Ok(refine_sound(
+        points,
+        triangles,
+        sizes,
+        angles,
+        threshold,
+        new_points,
+        new_sizes,
+        new_triangles,
+        cut_ends,
+    ))
 }

@@ -3,8 +3,8 @@
 // then the marks of the others, then the pieces, from the last triangle to the first, so that no mark is lost before it is read.
 ghost use Rattle.std.specs.Prelude.{◌≡◌, ◌≢◌, ℕ, ◌+◌, ◌*◌, ◌<◌, ◌≤◌, ◌^◌, length, get_or};
 ghost use Rattle.std.proofs.lemmas.List.Edits.{sets};
-ghost use Rattle.mesh.specs.Mesh.{one, mid, split, refined};
-ghost use Rattle.edges.specs.Table.{one_more, one_less};
+ghost use Rattle.mesh.specs.Mesh.{mid, split, refined};
+ghost use Rattle.edges.specs.Table.{place, one_more, one_less};
 ghost use Rattle.edges.specs.TwoSlices.{sides_at, HeldInTwo};
 ghost use Rattle.refinement.specs.Flag.{flagged_tri};
 ghost use Rattle.refinement.specs.Floor.{tri_at, tris, corners_of};
@@ -17,19 +17,16 @@ use refinement::Cut;
 
 // ---- flags
 
-// Whether triangle i is flagged, as 0 or 1.
-fn flag_of(triangles: &[u32], i: usize, angles: &[f64], threshold: f64) -> u32
+// Whether triangle i is flagged.
+fn flag_of(triangles: &[u32], i: usize, angles: &[f64], threshold: f64) -> bool
     requires { 3 * i + 3 ≤ length triangles.now }
-    ensures { (result ≡ one (flagged_tri threshold angles.now (tri_at triangles.now i))) × (result ≤ 1) }
+    ensures { result ≡ flagged_tri threshold angles.now (tri_at triangles.now i) }
 {
     let c = mesh::corners(triangles, 3 * i);
-    if refinement::is_flagged(angles, threshold, c.a, c.b, c.c) {
-        return 1;
-    }
-    0
+    refinement::is_flagged(angles, threshold, c.a, c.b, c.c)
 }
 
-// The flags of the first `count` triangles, each at the first mark. How many are flagged.
+// The flags of the first `count` triangles, 0 or 1, each at the first mark. How many are flagged.
 pub fn put_flags(
     triangles: &[u32],
     count: usize,
@@ -41,12 +38,10 @@ pub fn put_flags(
     ensures { FlagsTo (flagged_tri threshold angles.now) triangles.now count marks.old marks.new result }
 {
     let mut flagged = 0;
-    let mut i = 0;
-    while i < count {
+    for i in 0..count {
         let flag = flag_of(triangles, i, angles, threshold);
-        marks[3 * i] = flag;
-        flagged += mesh::index(flag);
-        i += 1;
+        marks[3 * i] = u32::from(flag);
+        flagged += usize::from(flag);
     }
     flagged
 }
@@ -97,15 +92,13 @@ fn cut_all(
     ensures { CutsTo points buckets count triangles.now count ends.old marks.old ends.new marks.new result }
 {
     let mut sides = 0;
-    let mut i = 0;
-    while i < count {
+    for i in 0..count {
         let table = Table {
             base: 3 * count,
             buckets,
             sides,
         };
         sides = cut_marked(triangles, i, points, ends, marks, table);
-        i += 1;
     }
     sides
 }
@@ -139,26 +132,23 @@ pub fn cut_sides(
 // ---- the marks of the other triangles
 
 // One more than the midpoint of the side of u and v, or 0 if it is not cut.
+// Kept: marks stand in the slice of corners, as numbers; `midpoint` reads one back.
 fn mark_of(ends: &[u32], marks: &[u32], table: Table, points: usize, u: u32, v: u32) -> u32
     requires held_in_two { HeldInTwo table.base table.buckets ends.now marks.now table.sides }
     requires sides_bound { points + table.sides < 2 ^ 32 }
     ensures { result ≡ one_more (mid points (sides_at ends.now table.sides) u v) }
 {
-    let number = edges::two_slices::find_side(ends, marks, table, u, v);
-    if number == 0 {
-        return 0;
+    match edges::two_slices::find_side(ends, marks, table, u, v) {
+        Some(number) => (points + number + 1) as u32,
+        None => 0,
     }
-    (points + number) as u32
 }
 
 // 1 where a side is cut.
 fn cut_of(mark: u32) -> usize
     ensures { result ≡ cut_mark mark }
 {
-    if mark == 0 {
-        return 0;
-    }
-    1
+    usize::from(mark != 0)
 }
 
 // How many pieces a triangle with these marks has.
@@ -209,15 +199,20 @@ fn mark_all(
     ensures { MarksTo points (sides_at ends.now table.sides) triangles.now count marks.old marks.new result }
 {
     let mut pieces = 0;
-    let mut i = 0;
-    while i < count {
+    for i in 0..count {
         pieces += mark_triangle(triangles, i, points, ends, marks, table);
-        i += 1;
     }
     pieces
 }
 
 // ---- the pieces
+
+// The midpoint of a mark.
+fn midpoint(mark: u32) -> Option<u32>
+    ensures { place result ≡ one_less mark }
+{
+    mark.checked_sub(1)
+}
 
 // The pieces of triangle i in front of the first `before` pieces' end: behind those of the triangles before it. How many are before it.
 fn split_marked(triangles: &[u32], i: usize, marks: &mut [u32], before: usize) -> usize
@@ -229,7 +224,7 @@ fn split_marked(triangles: &[u32], i: usize, marks: &mut [u32], before: usize) -
     let at = 3 * i;
     let c = mesh::corners(triangles, at);
     let m = mesh::corners(marks, at);
-    let p = refinement::split_triangle(c.a, c.b, c.c, m.a, m.b, m.c);
+    let p = refinement::split_triangle(c.a, c.b, c.c, midpoint(m.a), midpoint(m.b), midpoint(m.c));
     let first = before - p.count;
     let rows = p.rows;
     refinement::put_rows(marks, 3 * first, rows, 3 * p.count);
@@ -243,9 +238,7 @@ fn split_all(triangles: &[u32], count: usize, marks: &mut [u32], pieces: usize)
     ensures { marks.new ≡ sets marks.old 0 (corners_of (split_to marks.old triangles.now count)) }
 {
     let mut before = pieces;
-    let mut i = count;
-    while i > 0 {
-        i -= 1;
+    for i in (0..count).rev() {
         before = split_marked(triangles, i, marks, before);
     }
 }

@@ -26,9 +26,7 @@ fn put_midpoint(points: &[f64], ends: &[u32], k: usize, out: &mut [f64], at: usi
     let v = ends[2 * k + 1];
     let x = mesh::half_sum(x_of(points, u), x_of(points, v));
     let y = mesh::half_sum(y_of(points, u), y_of(points, v));
-    out[at] = x;
-    out[at + 1] = y;
-    out[at + 2] = 0.0;
+    slices::copy(&[x, y, 0.0], out, at);
 }
 
 // The midpoints of the first `count` sides, from `at` on.
@@ -36,10 +34,8 @@ fn put_midpoints(points: &[f64], ends: &[u32], count: usize, out: &mut [f64], at
     requires { (2 * count ≤ length ends.now) × (at + 3 * count ≤ length out.old) }
     ensures { out.new ≡ sets out.old at (midpoints points.now (sides_at ends.now count)) }
 {
-    let mut k = 0;
-    while k < count {
+    for k in 0..count {
         put_midpoint(points, ends, k, out, at + 3 * k);
-        k += 1;
     }
 }
 
@@ -67,10 +63,8 @@ fn put_mid_sizes(sizes: &[f64], ends: &[u32], count: usize, out: &mut [f64], at:
     requires { (2 * count ≤ length ends.now) × (at + count ≤ length out.old) }
     ensures { out.new ≡ sets out.old at (mid_sizes sizes.now (sides_at ends.now count)) }
 {
-    let mut k = 0;
-    while k < count {
+    for k in 0..count {
         out[at + k] = mid_size(sizes, ends, k);
-        k += 1;
     }
 }
 

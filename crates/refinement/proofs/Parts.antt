@@ -1,18 +1,17 @@
 -- Triangles and sides in lists of numbers, one more at a time: the cut sides, the pieces and the midpoints of a list with one more triangle or side.
 -- Assumes nothing.
-use Prim.Native.Nat.{ℕ, zero, suc, ◌+◌, ◌-◌, ◌*◌, ◌≤◌}
+use Prim.Native.Nat.{ℕ, ◌+◌, ◌-◌, ◌*◌, ◌≤◌}
 use native.Mathlib.Omega.{arith}
 use native.Mathlib.Numerals.{add-one}
-use mathlib.Core.Path.{◌≡◌, refl, sym, ap, ◌∙◌, subst}
-use mathlib.Core.Logic.{◌≢◌}
+use mathlib.Core.Path.{◌≡◌, refl, sym, ap, ◌∙◌}
 use mathlib.Core.Bool.{Bool, true, false, cond}
 use mathlib.Core.List.{List, [], ◌∷◌, ◌++◌, append-nil}
 use mathlib.Core.Option.{Option, none, some}
 use lib.ListN.{length, take, replicate, length-append}
 use lib.Seq.{take-append_seam}
-use Rattle.mesh.specs.Mesh.{Tri, tri, Side, sides, met_all, above, sides_after, cuts, marked, one, split, pieces, refined}
+use Rattle.mesh.specs.Mesh.{Tri, tri, Side, sides, met_all, sides_after, cuts, marked, one, split, pieces, refined}
 use Rattle.edges.specs.declared.Table.{Table}
-use Rattle.edges.specs.Table.{MetTri, pairs, one_more, one_less}
+use Rattle.edges.specs.Table.{MetTri, pairs}
 use Rattle.refinement.specs.declared.Cut.{Cut}
 use Rattle.refinement.specs.Floor.{tris, tri_at, corners_of}
 use Rattle.refinement.specs.Steps.{having, HeldIn, CutStep, CutTo, rows_of, Rows}
@@ -105,33 +104,11 @@ cut_again {f = f} {l} {i} h s =
       };
     })
 
--- ---- numbers that may be none
+-- ---- midpoints that may be none
 
-pub one-less-none : (p : ℕ) → p ≡ 0 → one_less p ≡ none
-one-less-none p e = rw e
-
-pub one-less-some : (p : ℕ) → p ≢ 0 → one_less p ≡ some (p - 1)
-one-less-some zero h = absurd (h refl)
-one-less-some (suc p) h = let e : suc p - 1 ≡ p = omega arith in rw e
-
-pub one-less-one-more : (o : Option ℕ) → one_less (one_more o) ≡ o
-one-less-one-more none = refl
-one-less-one-more (some k) = refl
-
-pub above-plus : (n : ℕ) (o : Option ℕ) (r : ℕ) → r ≡ one_more o → r ≢ 0 → n + r ≡ one_more (above n o)
-above-plus n none r e h = absurd (h e)
-above-plus n (some k) r e h = omega arith
-
-pub above_zero : (n : ℕ) (o : Option ℕ) (r : ℕ) → r ≡ one_more o → r ≡ 0 → 0 ≡ one_more (above n o)
-above_zero n none r e h = refl
-above_zero n (some k) r e h = absurd (omega arith)
-
-pub rows-of : (m : ℕ → ℕ → Option ℕ) {p q r count : ℕ} {rows : List ℕ} (a b c : ℕ) → p ≡ one_more (m a b) → q ≡ one_more (m b c) → r ≡ one_more (m c a)
-    → Rows (split a b c (one_less p) (one_less q) (one_less r)) count rows → Rows (pieces m (tri a b c)) count rows
-rows-of m {p} {q} {r} {count} {rows} a b c e₁ e₂ e₃ h =
-    subst (λ (o : Option ℕ). Rows (split a b c (m a b) (m b c) o) count rows) (ap one_less e₃ ∙ one-less-one-more (m c a))
-    (subst (λ (o : Option ℕ). Rows (split a b c (m a b) o (one_less r)) count rows) (ap one_less e₂ ∙ one-less-one-more (m b c))
-    (subst (λ (o : Option ℕ). Rows (split a b c o (one_less q) (one_less r)) count rows) (ap one_less e₁ ∙ one-less-one-more (m a b)) h))
+pub rows-of : (m : ℕ → ℕ → Option ℕ) {p q r : Option ℕ} {count : ℕ} {rows : List ℕ} (a b c : ℕ) → p ≡ m a b → q ≡ m b c → r ≡ m c a
+    → Rows (split a b c p q r) count rows → Rows (pieces m (tri a b c)) count rows
+rows-of m a b c e₁ e₂ e₃ h = rw (e₁, e₂, e₃) at h
 
 -- ---- rows of corners
 

@@ -6,7 +6,7 @@
 ghost use Rattle.std.specs.Prelude.{◌≡◌, ◌+◌, ◌*◌, ◌<◌, ◌≤◌, ◌^◌, length, take};
 ghost use Rattle.std.proofs.lemmas.List.Edits.{sets};
 ghost use Rattle.mesh.specs.Mesh.{tri, mid, split, pieces, refined};
-ghost use Rattle.edges.specs.Table.{end_of, one_more, one_less, cuts_in};
+ghost use Rattle.edges.specs.Table.{end_of, place, cuts_in};
 ghost use Rattle.refinement.specs.Flag.{turn_along, variation, angle, flagged_tri};
 ghost use Rattle.refinement.specs.Floor.{tris, tri_at};
 ghost use Rattle.refinement.specs.Steps.{having, HeldIn, CutStep, CutTo, Rows};
@@ -72,9 +72,8 @@ fn cut_triangle(
     let c = mesh::corners(triangles, 3 * i);
     if is_flagged(angles, threshold, c.a, c.b, c.c) {
         let before = Table {
-            base: table.base,
-            buckets: table.buckets,
             sides: cut.sides,
+            ..table
         };
         let met = edges::meet_triangle(numbers, before, c.a, c.b, c.c);
         return Cut {
@@ -102,25 +101,20 @@ pub fn cut_sides(
         sides: 0,
         flagged: 0,
     };
-    let mut i = 0;
-    while i < count {
+    for i in 0..count {
         cut = cut_triangle(triangles, i, angles, threshold, numbers, table, cut);
-        i += 1;
     }
     cut
 }
 
-// One more than the midpoint of the side of u and v, or 0 if it is not cut. There are `points` points, and the cut sides are in the table.
-pub fn middle(numbers: &[u32], table: Table, points: usize, u: u32, v: u32) -> u32
+// The midpoint of the side of u and v, if that is cut. There are `points` points, and the cut sides are in the table.
+pub fn middle(numbers: &[u32], table: Table, points: usize, u: u32, v: u32) -> Option<u32>
     requires held_in { HeldIn table numbers.now }
     requires sides_bound { points + table.sides < 2 ^ 32 }
-    ensures { result ≡ one_more (mid points (cuts_in table numbers.now) u v) }
+    ensures { place result ≡ mid points (cuts_in table numbers.now) u v }
 {
-    let number = edges::find_side(numbers, table, u, v);
-    if number == 0 {
-        return 0;
-    }
-    (points + number) as u32
+    let number = edges::find_side(numbers, table, u, v)?;
+    Some((points + number) as u32)
 }
 
 // The pieces of a triangle: how many, and their corners in list order, with 0 behind them.
@@ -130,68 +124,51 @@ pub struct Pieces {
     pub rows: [u32; 12],
 }
 
-// The pieces of a b c, where p, q and r are one more than the midpoints of a b, b c and c a, or 0.
-pub fn split_triangle(a: u32, b: u32, c: u32, p: u32, q: u32, r: u32) -> Pieces
-    ensures { Rows (split a b c (one_less p) (one_less q) (one_less r)) result.count result.rows }
+// The pieces of a b c, where p, q and r are the midpoints of a b, b c and c a, of those that are cut.
+#[tactic(auto, unfolding(crate::specs::Floor::corners_of, crate::specs::Steps::rows_of))]
+pub fn split_triangle(
+    a: u32,
+    b: u32,
+    c: u32,
+    p: Option<u32>,
+    q: Option<u32>,
+    r: Option<u32>,
+) -> Pieces
+    ensures { Rows (split a b c (place p) (place q) (place r)) result.count result.rows }
 {
-    if p == 0 {
-        if q == 0 {
-            if r == 0 {
-                return Pieces {
-                    count: 1,
-                    rows: [a, b, c, 0, 0, 0, 0, 0, 0, 0, 0, 0],
-                };
-            }
-            return Pieces {
-                count: 2,
-                rows: [a, b, r - 1, r - 1, b, c, 0, 0, 0, 0, 0, 0],
-            };
-        }
-        if r == 0 {
-            return Pieces {
-                count: 2,
-                rows: [a, b, q - 1, a, q - 1, c, 0, 0, 0, 0, 0, 0],
-            };
-        }
-        return Pieces {
+    match (p, q, r) {
+        (None, None, None) => Pieces {
+            count: 1,
+            rows: [a, b, c, 0, 0, 0, 0, 0, 0, 0, 0, 0],
+        },
+        (None, None, Some(r)) => Pieces {
+            count: 2,
+            rows: [a, b, r, r, b, c, 0, 0, 0, 0, 0, 0],
+        },
+        (None, Some(q), None) => Pieces {
+            count: 2,
+            rows: [a, b, q, a, q, c, 0, 0, 0, 0, 0, 0],
+        },
+        (None, Some(q), Some(r)) => Pieces {
             count: 3,
-            rows: [c, q - 1, r - 1, q - 1, b, a, q - 1, a, r - 1, 0, 0, 0],
-        };
-    }
-    if q == 0 {
-        if r == 0 {
-            return Pieces {
-                count: 2,
-                rows: [a, p - 1, c, p - 1, b, c, 0, 0, 0, 0, 0, 0],
-            };
-        }
-        return Pieces {
+            rows: [c, q, r, q, b, a, q, a, r, 0, 0, 0],
+        },
+        (Some(p), None, None) => Pieces {
+            count: 2,
+            rows: [a, p, c, p, b, c, 0, 0, 0, 0, 0, 0],
+        },
+        (Some(p), None, Some(r)) => Pieces {
             count: 3,
-            rows: [a, p - 1, r - 1, p - 1, b, c, p - 1, c, r - 1, 0, 0, 0],
-        };
-    }
-    if r == 0 {
-        return Pieces {
+            rows: [a, p, r, p, b, c, p, c, r, 0, 0, 0],
+        },
+        (Some(p), Some(q), None) => Pieces {
             count: 3,
-            rows: [b, p - 1, q - 1, p - 1, a, c, p - 1, c, q - 1, 0, 0, 0],
-        };
-    }
-    Pieces {
-        count: 4,
-        rows: [
-            a,
-            p - 1,
-            r - 1,
-            p - 1,
-            b,
-            q - 1,
-            r - 1,
-            q - 1,
-            c,
-            p - 1,
-            q - 1,
-            r - 1,
-        ],
+            rows: [b, p, q, p, a, c, p, c, q, 0, 0, 0],
+        },
+        (Some(p), Some(q), Some(r)) => Pieces {
+            count: 4,
+            rows: [a, p, r, p, b, q, r, q, c, p, q, r],
+        },
     }
 }
 
@@ -219,11 +196,7 @@ pub fn put_rows(out: &mut [u32], at: usize, rows: [u32; 12], len: usize)
     requires { (len ≤ 12) × (at + len ≤ length out.old) }
     ensures { out.new ≡ sets out.old at (take len rows) }
 {
-    let mut j = 0;
-    while j < len {
-        out[at + j] = rows[j];
-        j += 1;
-    }
+    slices::copy(&rows[..len], out, at);
 }
 
 // ---- the triangles of a refined floor, behind the table of cut sides in one slice
@@ -262,10 +235,8 @@ pub fn refine_triangles_within(
     ensures { Stored (refined (mid points (cuts_in table numbers.old)) (tris triangles.now count)) numbers.old at 0 numbers.new result }
 {
     let mut k = 0;
-    let mut i = 0;
-    while i < count {
+    for i in 0..count {
         k = refine_triangle_within(triangles, i, points, numbers, table, at, k);
-        i += 1;
     }
     k
 }

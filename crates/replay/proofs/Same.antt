@@ -1,5 +1,6 @@
 -- Two slices compared one place at a time: what is left to compare after i places says the same as the whole. Assumes nothing.
-use Rattle.std.proofs.Common.{◌≡◌, ℕ, suc, ◌+◌, ◌<◌, ◌≤◌, Bool, true, false, cond, List, [], ◌∷◌, length, get_or, drop, sym, refl, ap, ◌∙◌, add-one, drop_of_length-le, drop-cons}
+use Rattle.std.proofs.Common.{◌≡◌, ℕ, suc, ◌+◌, ◌<◌, ◌≤◌, Bool, true, false, cond, ◌&&◌, eqb, List, [], ◌∷◌, length, get_or, drop, sym, refl, ap, ◌∙◌, add-one, drop_of_length-le, drop-cons}
+use Rattle.std.specs.Cmp.Lexicographic.{pointwise}
 use Rattle.replay.specs.Rows.{same_all}
 
 either : (t : Bool) {s : Bool} → false ≡ s → false ≡ cond t s false
@@ -31,3 +32,15 @@ module _ {A : Type 0} (f : A → A → Bool) where
   pub same-done : (a b : List A) (i : ℕ) → length a ≤ i → length b ≤ i → same_all f a b ≡ same_all f (drop i a) (drop i b) → true ≡ same_all f a b
   unfolding same_all
   same-done a b i la lb h = sym (h ∙ rw (drop_of_length-le a la, drop_of_length-le b lb))
+
+-- `==` of two slices of numbers
+pub same_eq : (a b : List ℕ) → pointwise eqb a b ≡ same_all eqb a b
+unfolding same_all
+same_eq [] [] = refl
+same_eq [] (y ∷ b) = refl
+same_eq (x ∷ a) [] = refl
+same_eq (x ∷ a) (y ∷ b) = go (eqb x y) (same_eq a b)
+  where
+    go : (t : Bool) → pointwise eqb a b ≡ same_all eqb a b → (t && pointwise eqb a b) ≡ cond t (same_all eqb a b) false
+    go true e = e
+    go false e = refl

@@ -59,10 +59,8 @@ pub fn word(text: &[u8], k: usize) -> u64
     }
     let at = 17 * k;
     let mut value: u64 = 0;
-    let mut i: usize = 0;
-    while i < 16 {
+    for i in 0..16 {
         value = value * 16 + digit_at(text, at + i);
-        i += 1;
     }
     value
 }
@@ -103,6 +101,7 @@ pub fn read_full<R: Read>(reader: &mut R, buf: &mut [u8]) -> io::Result<usize>
     ensures err { OnErr result (LosesFront (R.remaining reader.old) (R.remaining reader.new) buf.new) }
 {
     let mut done = 0;
+    // Kept: a read gives as many bytes as it likes, so this counts no index.
     while done < buf.len() {
         let n = reader.read(&mut buf[done..])?;
         if n == 0 {

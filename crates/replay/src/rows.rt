@@ -41,10 +41,7 @@ pub fn same(answer: f64, recorded: f64) -> bool
 pub fn at_most(n: usize, most: usize) -> usize
     ensures { (result ≡ at_most most n) × (result ≤ most) }
 {
-    if n < most {
-        return n;
-    }
-    most
+    n.min(most)
 }
 
 // n doubles from word k on, or as many as there is room for, at the front of a slice.
@@ -53,10 +50,8 @@ pub fn doubles(row: &[u8], k: usize, n: usize, out: &mut [f64])
     ensures { out.new ≡ sets out.old 0 (up_to (λ i. double_at row.now (k + i)) (at_most (length out.old) n)) }
 {
     let m = at_most(n, out.len());
-    let mut i = 0;
-    while i < m {
+    for i in 0..m {
         out[i] = double(row, k + i);
-        i += 1;
     }
 }
 
@@ -72,10 +67,8 @@ pub fn corners(row: &[u8], k: usize, n: usize, out: &mut [u32])
     ensures { out.new ≡ sets out.old 0 (up_to (λ i. corner_at row.now (k + i)) (at_most (length out.old) n)) }
 {
     let m = at_most(n, out.len());
-    let mut i = 0;
-    while i < m {
+    for i in 0..m {
         out[i] = corner(row, k + i);
-        i += 1;
     }
 }
 
@@ -93,12 +86,10 @@ pub fn same_doubles(a: &[f64], b: &[f64]) -> bool
     if a.len() != b.len() {
         return false;
     }
-    let mut i = 0;
-    while i < a.len() {
+    for i in 0..a.len() {
         if !same(a[i], b[i]) {
             return false;
         }
-        i += 1;
     }
     true
 }
@@ -107,17 +98,7 @@ pub fn same_doubles(a: &[f64], b: &[f64]) -> bool
 pub fn same_numbers(a: &[u32], b: &[u32]) -> bool
     ensures { result ≡ same_all nat_eq a.now b.now }
 {
-    if a.len() != b.len() {
-        return false;
-    }
-    let mut i = 0;
-    while i < a.len() {
-        if a[i] != b[i] {
-            return false;
-        }
-        i += 1;
-    }
-    true
+    a == b
 }
 
 // Whether one of n words, from word k on, is w.
@@ -125,14 +106,7 @@ pub fn has_word(row: &[u8], k: usize, n: usize, w: u64) -> bool
     requires { k + n ≤ 0x1000_0000 }
     ensures { result ≡ any_of (λ i. nat_eq (word_at row.now (k + i)) w) n }
 {
-    let mut i = 0;
-    while i < n {
-        if crate::word(row, k + i) == w {
-            return true;
-        }
-        i += 1;
-    }
-    false
+    (0..n).any(|i| crate::word(row, k + i) == w)
 }
 
 // Whether one of them is the pattern of a NaN.
@@ -140,14 +114,7 @@ pub fn has_nan(row: &[u8], k: usize, n: usize) -> bool
     requires { k + n ≤ 0x1000_0000 }
     ensures { result ≡ any_of (λ i. nan_pattern (word_at row.now (k + i))) n }
 {
-    let mut i = 0;
-    while i < n {
-        if crate::is_nan_pattern(crate::word(row, k + i)) {
-            return true;
-        }
-        i += 1;
-    }
-    false
+    (0..n).any(|i| crate::is_nan_pattern(crate::word(row, k + i)))
 }
 
 // A list that is being read: how many more rows may be read, how many were judged, and how many of those differ. What is left falls with each row and is 0
@@ -175,11 +142,7 @@ pub fn ended(at: Reading) -> Reading
     requires { 0 < at.left }
     ensures { (result ≡ ended_at at) × (result.left < at.left) }
 {
-    Reading {
-        left: 0,
-        recorded: at.recorded,
-        differ: at.differ,
-    }
+    Reading { left: 0, ..at }
 }
 
 // A row was passed over.
@@ -189,8 +152,7 @@ pub fn passed(at: Reading) -> Reading
 {
     Reading {
         left: at.left - 1,
-        recorded: at.recorded,
-        differ: at.differ,
+        ..at
     }
 }
 
@@ -199,19 +161,15 @@ pub fn judged(at: Reading, holds: bool) -> Reading
     requires { 0 < at.left }
     ensures { (result ≡ judged_by holds at) × (result.left < at.left) }
 {
-    let left = at.left - 1;
-    let recorded = std::num::wrapping_add_u64(at.recorded, 1);
-    let differ = at.differ;
+    let next = Reading {
+        recorded: at.recorded.wrapping_add(1),
+        ..passed(at)
+    };
     if holds {
-        return Reading {
-            left,
-            recorded,
-            differ,
-        };
+        return next;
     }
     Reading {
-        left,
-        recorded,
-        differ: std::num::wrapping_add_u64(differ, 1),
+        differ: at.differ.wrapping_add(1),
+        ..next
     }
 }

@@ -15,8 +15,7 @@ use Rattle.refusals.specs.Refusal.{row, Verdict}
 use Rattle.floor.specs.Checks.{well_formed, not_finite_or_below_zero, and_then, check_floor}
 use Rattle.refinement.specs.Flag.{flagged_tri}
 use Rattle.refinement.specs.Floor.{Refined, refinement_of, tris_of, corners_of, ends_of}
-use Rattle.refine_call.specs.declared.Answer.{Answer}
-use Rattle.refine_call.specs.Call.{short, check_rest, check_call, answer_of, Called}
+use Rattle.refine_call.specs.Call.{Answer, short, check_rest, check_call, answer_of, Called}
 use Rattle.text_answer.specs.Lines.{refused_line, bytes_for, Holds}
 use Rattle.refinement.proofs.Triangles.{tris-length, tris-of}
 use Rattle.refinement.proofs.Parts.{refined-most}

@@ -13,9 +13,9 @@ use Rattle.float.specs.Double.{lit}
 use Rattle.floor.specs.Checks.{not_finite_or_below_zero, check_floor}
 use Rattle.refinement.specs.Floor.{refinement_of, tris_of}
 use Rattle.refine_call.specs.Call.{counts_of}
-use Rattle.text_floor.specs.declared.Read.{Read}
-use Rattle.text_floor.specs.declared.Read.TheVariants.{Floor, Other}
-use Rattle.text_floor.specs.Text.{is_text, point_count, triangle_count, points_in, angles_in, corners_in, sizes_in, threshold_in, read_of, ReadTo}
+use Rattle.std.specs.Prelude.{Option, None, Some}
+use Rattle.text_floor.specs.declared.Floor.{Floor}
+use Rattle.text_floor.specs.Text.{is_text, point_count, triangle_count, points_in, angles_in, corners_in, sizes_in, threshold_in, floor_of, read_of, ReadTo}
 use Rattle.text_floor.proofs.Lines.{known, points-length, angles-length, corners-length}
 use Rattle.text_answer.specs.Printed.{longest, written, accepted, printed, is_sound, filled_by, count_by}
 use Rattle.text_answer.specs.Steps.{bytes_from}
@@ -31,18 +31,20 @@ pub record FloorRead (s : List ℕ) (n t : ℕ) (x : Float) : Type 0 where
   pub triangles : t ≡ triangle_count s
   pub threshold : x ≡ threshold_in s
 
-pub floor-read : {n t : ℕ} {x : Float} {r : Read} (s : List ℕ) → r ≡ read_of s → r ≡ Floor n t x → FloorRead s n t x
-floor-read {n} {t} {x} s e h = go (is_text s) refl (sym h ∙ e)
+pub floor-read : {f : Floor} {r : Option Floor} (s : List ℕ) → r ≡ read_of s → r ≡ Some f → FloorRead s f.points f.triangles f.threshold
+floor-read {f} s e h = go (is_text s) refl (sym h ∙ e)
   where
-    go : (b : Bool) → is_text s ≡ b → Floor n t x ≡ cond b (Floor (point_count s) (triangle_count s) (threshold_in s)) Other → FloorRead s n t x
-    go true i k = record { text = i; points = cc; triangles = cc; threshold = cc }
+    go : (b : Bool) → is_text s ≡ b → Some f ≡ cond b (Some (floor_of s)) None → FloorRead s f.points f.triangles f.threshold
+    go true i k =
+        let q : f ≡ floor_of s = cc in
+        record { text = i; points = ap (λ (g : Floor). g.points) q; triangles = ap (λ (g : Floor). g.triangles) q; threshold = ap (λ (g : Floor). g.threshold) q }
     go false i k = let z : ◌≡◌ {A = ℕ} 0 1 = cc in absurd (omega arith)
 
-pub other-read : {r : Read} (s : List ℕ) → r ≡ read_of s → r ≡ Other → printed s ≡ refused_line
+pub other-read : {r : Option Floor} (s : List ℕ) → r ≡ read_of s → r ≡ None → printed s ≡ refused_line
 unfolding printed accepted
 other-read s e h = go (is_text s) refl (sym h ∙ e)
   where
-    go : (b : Bool) → is_text s ≡ b → Other ≡ cond b (Floor (point_count s) (triangle_count s) (threshold_in s)) Other → printed s ≡ refused_line
+    go : (b : Bool) → is_text s ≡ b → None ≡ cond b (Some (floor_of s)) None → printed s ≡ refused_line
     go true i k = let z : ◌≡◌ {A = ℕ} 0 1 = cc in absurd (omega arith)
     go false i k = rw i refl
 
@@ -75,7 +77,7 @@ module _ (s : List ℕ) (text : is_text s ≡ true) where
       (bytes-by (check_floor (points_in s) (corners_in s) (sizes_in s)) (not_finite_or_below_zero (threshold_in s)) _)
 
 -- the fronts of the slices that were read
-pub text-prints : {p₀ α₀ p α : List Float} {k₀ k : List ℕ} {z : List Float} {n t : ℕ} {x : Float} {r : Read} (s : List ℕ) → ReadTo s p₀ α₀ k₀ r p α k → FloorRead s n t x
+pub text-prints : {p₀ α₀ p α : List Float} {k₀ k : List ℕ} {z : List Float} {n t : ℕ} {x : Float} {r : Option Floor} (s : List ℕ) → ReadTo s p₀ α₀ k₀ r p α k → FloorRead s n t x
     → length p₀ ≡ 768 → length α₀ ≡ 256 → length k₀ ≡ 768 → z ≡ replicate 256 (lit 0x3ff0_0000_0000_0000)
     → bytes_from (take (3 * n) p) (take (3 * t) k) (take n z) (take n α) x ≡ printed s
 text-prints {p₀} {α₀} {p} {α} {k₀} {k} {z} {n} {t} {x} s h f e₁ e₂ e₃ e₄ =

@@ -1,12 +1,11 @@
 -- The lines that the refinement program prints for an answer of the refinement call (document 01: "It prints, in the same columns, points, triangles,
 -- flagged, cut sides; the triangles; the ends of each cut side"). Definitions only.
-use Rattle.std.specs.Prelude.{ℕ, zero, suc, ◌+◌, ◌*◌, ◌≤◌, List, [], ◌∷◌, ◌++◌, ◌≡◌, length, get_or}
+use Rattle.std.specs.Prelude.{ℕ, zero, suc, ◌+◌, ◌*◌, ◌≤◌, List, [], ◌∷◌, ◌++◌, ◌≡◌, length, get_or, Ok, Err}
 use Rattle.std.proofs.lemmas.List.Edits.{sets}
 use Rattle.mesh.specs.Mesh.{Tri, tri, Side, side}
 use Rattle.refinement.specs.Floor.{tris}
 use Rattle.refine_call.specs.declared.Counts.{Counts}
-use Rattle.refine_call.specs.declared.Answer.{Answer}
-use Rattle.refine_call.specs.declared.Answer.TheVariants.{Refinement, Refusal}
+use Rattle.refine_call.specs.Call.{Answer}
 use Rattle.text_columns.specs.Columns.{line_of}
 
 unfoldable pub triangle_lines : List Tri → List ℕ
@@ -33,13 +32,13 @@ sides_up_to l zero = []
 sides_up_to l (suc i) = sides_up_to l i ++ (side (get_or l (2 * i) 0) (get_or l (2 * i + 1) 0) ∷ [])
 
 abbrev pub bytes_for : Answer → List ℕ → List ℕ → List ℕ
-bytes_for (Refinement k) ot oe = lines_of k (tris ot k.triangles) (sides_up_to oe k.cut)
-bytes_for (Refusal n p) ot oe = refused_line
+bytes_for (Ok k) ot oe = lines_of k (tris ot k.triangles) (sides_up_to oe k.cut)
+bytes_for (Err x) ot oe = refused_line
 
 -- the slices, of these lengths, hold what the counts say, and there is room for the lines
 abbrev pub Holds : Answer → ℕ → ℕ → ℕ → Type 0
-Holds (Refinement k) ot oe out = (3 * k.triangles ≤ ot) × ((2 * k.cut ≤ oe) × (25 + 19 * k.triangles + 13 * k.cut ≤ out))
-Holds (Refusal n p) ot oe out = 8 ≤ out
+Holds (Ok k) ot oe out = (3 * k.triangles ≤ ot) × ((2 * k.cut ≤ oe) × (25 + 19 * k.triangles + 13 * k.cut ≤ out))
+Holds (Err x) ot oe out = 8 ≤ out
 
 -- the line of triangle i, and of side i
 abbrev pub line_at : List ℕ → ℕ → List ℕ

@@ -11,8 +11,6 @@ ghost use Rattle.text_answer.specs.Lines.{Prints};
 ghost use Rattle.text_answer.specs.Printed.{printed, longest, filled_by, count_by};
 ghost use Rattle.text_answer.specs.Steps.{bytes_from, Sized};
 
-use text_floor::Read;
-
 // The longest answer: 1,024 triangles and 768 cut sides.
 pub const LONGEST: usize = 29465;
 
@@ -123,16 +121,19 @@ fn answer_over(
     requires sizes_value { (sizes.now ≡ replicate 256 (lit 0x3ff0_0000_0000_0000)) × (longest ≤ length out.old) }
     ensures { (out.new ≡ sets out.old 0 (printed text.now)) × (result ≡ length (printed text.now)) }
 {
-    let read = text_floor::read_floor(text, points, angles, corners);
-    let Read::Floor {
-        points: n,
-        triangles: t,
-        threshold,
-    } = read
-    else {
+    let Some(f) = text_floor::read_floor(text, points, angles, corners) else {
         return lines::put_refused(out);
     };
-    answer_front(points, corners, sizes, angles, n, t, threshold, out)
+    answer_front(
+        points,
+        corners,
+        sizes,
+        angles,
+        f.points,
+        f.triangles,
+        f.threshold,
+        out,
+    )
 }
 
 // What a text prints.

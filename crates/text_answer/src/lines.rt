@@ -6,13 +6,8 @@ ghost use Rattle.refinement.specs.Floor.{tris};
 ghost use Rattle.text_columns.specs.Columns.{line_of};
 ghost use Rattle.text_answer.specs.Lines.{triangle_lines, side_lines, lines_of, refused_line, sides_up_to, line_at, side_at, bytes_for, Holds, Prints};
 
-use refine_call::{Answer, Counts};
-
-fn wide(x: u32) -> u64
-    ensures { result ≡ x }
-{
-    x as u64
-}
+use refine_call::Counts;
+use refusals::Refusal;
 
 // The line of triangle i.
 fn put_triangle(corners: &[u32], i: usize, out: &mut [u8], at: usize)
@@ -20,7 +15,7 @@ fn put_triangle(corners: &[u32], i: usize, out: &mut [u8], at: usize)
     ensures { out.new ≡ sets out.old at (line_at corners.now i) }
 {
     let c = mesh::corners(corners, 3 * i);
-    let row = [wide(c.a), wide(c.b), wide(c.c)];
+    let row = [u64::from(c.a), u64::from(c.b), u64::from(c.c)];
     text_columns::put_line(out, at, &row);
 }
 
@@ -29,10 +24,8 @@ fn put_triangles(corners: &[u32], k: usize, out: &mut [u8], at: usize)
     requires { (3 * k ≤ length corners.now) × (at + 19 * k ≤ length out.old) }
     ensures { out.new ≡ sets out.old at (triangle_lines (tris corners.now k)) }
 {
-    let mut i = 0;
-    while i < k {
+    for i in 0..k {
         put_triangle(corners, i, out, at + 19 * i);
-        i += 1;
     }
 }
 
@@ -41,7 +34,7 @@ fn put_side(ends: &[u32], i: usize, out: &mut [u8], at: usize)
     requires { (2 * i + 2 ≤ length ends.now) × (at + 13 ≤ length out.old) }
     ensures { out.new ≡ sets out.old at (side_at ends.now i) }
 {
-    let row = [wide(ends[2 * i]), wide(ends[2 * i + 1])];
+    let row = [u64::from(ends[2 * i]), u64::from(ends[2 * i + 1])];
     text_columns::put_line(out, at, &row);
 }
 
@@ -50,10 +43,8 @@ fn put_sides(ends: &[u32], m: usize, out: &mut [u8], at: usize)
     requires { (2 * m ≤ length ends.now) × (at + 13 * m ≤ length out.old) }
     ensures { out.new ≡ sets out.old at (side_lines (sides_up_to ends.now m)) }
 {
-    let mut i = 0;
-    while i < m {
+    for i in 0..m {
         put_side(ends, i, out, at + 13 * i);
-        i += 1;
     }
 }
 
@@ -86,29 +77,29 @@ fn put_floor(c: Counts, corners: &[u32], ends: &[u32], out: &mut [u8]) -> usize
 }
 
 // The line `refused`.
+#[tactic(auto, unfolding(crate::specs::Lines::refused_line))]
 pub fn put_refused(out: &mut [u8]) -> usize
     requires { 8 ≤ length out.old }
     ensures { (out.new ≡ sets out.old 0 refused_line) × (result ≡ length refused_line) }
 {
-    out[0] = b'r';
-    out[1] = b'e';
-    out[2] = b'f';
-    out[3] = b'u';
-    out[4] = b's';
-    out[5] = b'e';
-    out[6] = b'd';
-    out[7] = 10;
-    8
+    let line = b"refused\n";
+    slices::copy(line, out, 0);
+    line.len()
 }
 
 // The lines of an answer of the refinement call, with the corners of its triangles and the ends of its cut sides. How many bytes.
-pub fn write_answer(answer: Answer, corners: &[u32], ends: &[u32], out: &mut [u8]) -> usize
+pub fn write_answer(
+    answer: Result<Counts, Refusal>,
+    corners: &[u32],
+    ends: &[u32],
+    out: &mut [u8],
+) -> usize
     requires { Holds answer (length corners.now) (length ends.now) (length out.old) }
     ensures { (out.new ≡ sets out.old 0 (bytes_for answer corners.now ends.now))
         × (result ≡ length (bytes_for answer corners.now ends.now)) }
 {
     match answer {
-        Answer::Refinement(c) => put_floor(c, corners, ends, out),
-        Answer::Refusal { .. } => put_refused(out),
+        Ok(c) => put_floor(c, corners, ends, out),
+        Err(_) => put_refused(out),
     }
 }

@@ -3,7 +3,7 @@
 // proofs/Strict.antt proves that a column reads as a number exactly if it has that number's bytes.
 #![tactic(auto)]
 
-ghost use Rattle.std.specs.Prelude.{◌≡◌, [], ◌∷◌, ◌+◌, ◌*◌, ◌<◌, ◌≤◌, length};
+ghost use Rattle.std.specs.Prelude.{◌≡◌, cond, [], ◌∷◌, ◌+◌, ◌-◌, ◌*◌, ◌<◌, ◌≤◌, length};
 ghost use Rattle.std.proofs.lemmas.List.Edits.{sets};
 ghost use Rattle.text_columns.specs.Columns.{is_lead, is_digit, after_blank, after_minus, step, scan, is_number, is_whole, size_of, double_of, blank_or_digit, column_of, columns_of, line_of};
 
@@ -69,24 +69,15 @@ fn after_minus(b: u8) -> Scan
     Scan::Bad
 }
 
-fn after_whole(n: u64, b: u8) -> Scan
+// n with the digit b behind it; none if b is no digit.
+fn with_digit(n: u64, b: u8) -> Option<u64>
     requires { n < 1000000 }
-    ensures { result ≡ step (Scan.Whole n) b }
+    ensures { result ≡ cond (is_digit b) (Some (10 * n + (b - 48))) None }
 {
     if is_digit(b) {
-        return Scan::Whole(10 * n + (b as u64 - DIGIT_0));
+        return Some(10 * n + (b as u64 - DIGIT_0));
     }
-    Scan::Bad
-}
-
-fn after_negative(n: u64, b: u8) -> Scan
-    requires { n < 1000000 }
-    ensures { result ≡ step (Scan.Negative n) b }
-{
-    if is_digit(b) {
-        return Scan::Negative(10 * n + (b as u64 - DIGIT_0));
-    }
-    Scan::Bad
+    None
 }
 
 fn step_on(s: Scan, b: u8) -> Scan
@@ -96,10 +87,9 @@ fn step_on(s: Scan, b: u8) -> Scan
     match s {
         Scan::Blank => after_blank(b),
         Scan::Minus => after_minus(b),
-        Scan::Whole(n) => after_whole(n, b),
-        Scan::Negative(n) => after_negative(n, b),
-        Scan::Zero => Scan::Bad,
-        Scan::Bad => Scan::Bad,
+        Scan::Whole(n) => with_digit(n, b).map_or(Scan::Bad, Scan::Whole),
+        Scan::Negative(n) => with_digit(n, b).map_or(Scan::Bad, Scan::Negative),
+        Scan::Zero | Scan::Bad => Scan::Bad,
     }
 }
 
@@ -109,10 +99,8 @@ pub fn scan_column(column: &[u8]) -> Scan
     ensures { result ≡ scan column.now (length column.now) }
 {
     let mut s = Scan::Blank;
-    let mut i = 0;
-    while i < column.len() {
-        s = step_on(s, column[i]);
-        i += 1;
+    for &b in column {
+        s = step_on(s, b);
     }
     s
 }
@@ -121,27 +109,13 @@ pub fn scan_column(column: &[u8]) -> Scan
 pub fn is_number(s: Scan) -> bool
     ensures { result ≡ is_number s }
 {
-    match s {
-        Scan::Zero => true,
-        Scan::Whole(_) => true,
-        Scan::Negative(_) => true,
-        Scan::Blank => false,
-        Scan::Minus => false,
-        Scan::Bad => false,
-    }
+    matches!(s, Scan::Zero | Scan::Whole(_) | Scan::Negative(_))
 }
 
 pub fn is_whole(s: Scan) -> bool
     ensures { result ≡ is_whole s }
 {
-    match s {
-        Scan::Zero => true,
-        Scan::Whole(_) => true,
-        Scan::Negative(_) => false,
-        Scan::Blank => false,
-        Scan::Minus => false,
-        Scan::Bad => false,
-    }
+    matches!(s, Scan::Zero | Scan::Whole(_))
 }
 
 // The number's size, and 0 where there is none.
@@ -149,12 +123,8 @@ pub fn size(s: Scan) -> u64
     ensures { result ≡ size_of s }
 {
     match s {
-        Scan::Whole(n) => n,
-        Scan::Negative(n) => n,
-        Scan::Zero => 0,
-        Scan::Blank => 0,
-        Scan::Minus => 0,
-        Scan::Bad => 0,
+        Scan::Whole(n) | Scan::Negative(n) => n,
+        Scan::Blank | Scan::Minus | Scan::Zero | Scan::Bad => 0,
     }
 }
 
@@ -165,10 +135,7 @@ pub fn double(s: Scan) -> f64
     match s {
         Scan::Whole(n) => float::from_whole(n),
         Scan::Negative(n) => -float::from_whole(n),
-        Scan::Zero => 0.0,
-        Scan::Blank => 0.0,
-        Scan::Minus => 0.0,
-        Scan::Bad => 0.0,
+        Scan::Blank | Scan::Minus | Scan::Zero | Scan::Bad => 0.0,
     }
 }
 
@@ -184,18 +151,6 @@ fn blank_or_digit(n: u64) -> u8
     (DIGIT_0 + n % 10) as u8
 }
 
-fn put_six(out: &mut [u8], at: usize, a: u8, b: u8, c: u8, d: u8, e: u8, f: u8)
-    requires { at + 6 ≤ length out.old }
-    ensures { out.new ≡ sets out.old at (a ∷ b ∷ c ∷ d ∷ e ∷ f ∷ []) }
-{
-    out[at] = a;
-    out[at + 1] = b;
-    out[at + 2] = c;
-    out[at + 3] = d;
-    out[at + 4] = e;
-    out[at + 5] = f;
-}
-
 // The column of n, from `at` on.
 pub fn put_column(out: &mut [u8], at: usize, n: u64)
     requires { at + 6 ≤ length out.old }
@@ -205,16 +160,15 @@ pub fn put_column(out: &mut [u8], at: usize, n: u64)
     let b = a / 10;
     let c = b / 10;
     let d = c / 10;
-    put_six(
-        out,
-        at,
+    let bytes = [
         blank_or_digit(d / 10),
         blank_or_digit(d),
         blank_or_digit(c),
         blank_or_digit(b),
         blank_or_digit(a),
         (DIGIT_0 + n % 10) as u8,
-    );
+    ];
+    slices::copy(&bytes, out, at);
 }
 
 // The columns of a row of numbers, from `at` on.
@@ -222,10 +176,8 @@ fn put_columns(out: &mut [u8], at: usize, row: &[u64])
     requires { at + 6 * length row.now ≤ length out.old }
     ensures { out.new ≡ sets out.old at (columns_of row.now) }
 {
-    let mut j = 0;
-    while j < row.len() {
-        put_column(out, at + 6 * j, row[j]);
-        j += 1;
+    for (j, &n) in row.iter().enumerate() {
+        put_column(out, at + 6 * j, n);
     }
 }
 

@@ -7,15 +7,15 @@ use mathlib.Core.Bool.{Bool, true, false, not, ◌&&◌}
 use mathlib.Core.List.{List, [], ◌∷◌, ◌++◌}
 use borrow.Author.Tests.{eqb-true, le-leb, leb-true, ne_eqb}
 use lib.Dec.{eqb, leb}
-use lib.ListN.{length, length-append, length-take, take, drop, set}
-use lib.Seq.{sets, length-sets}
+use lib.ListN.{length, length-append, length-take, take, drop}
+use lib.Seq.{sets}
 use lib.Ieee.{Float}
 use Rattle.float.specs.Double.{lit}
 use Rattle.text_columns.specs.Columns.{is_whole, size_of, double_of}
 use Rattle.text_columns.proofs.Columns.{few, and_both}
 use Rattle.slices.proofs.Runs.{sets-next}
 use Rattle.text_floor.specs.Text.{column_at, first, second, third, is_line, every, point_count, triangle_count, is_head, is_text, radians, points_up_to, angles_up_to, sizes_at, corners_up_to, threshold_in, ReadTo}
-use Rattle.text_floor.specs.declared.Read.TheVariants.{Floor, Other}
+use Rattle.std.specs.Prelude.{None, Some}
 
 -- a column has at most six digits
 pub small-column : (s : List ℕ) (a : ℕ) → size_of (column_at s a) < 1000000
@@ -104,12 +104,6 @@ known s e =
 
 -- ---- the slices
 
-pub three-stores : {A : Type 0} (l : List A) (i : ℕ) (a b c : A) → set (set (set l i a) (i + 1) b) (i + 2) c ≡ sets l i (a ∷ b ∷ c ∷ [])
-three-stores l i a b c =
-    let e₁ : i + 1 ≡ suc i = omega arith in
-    let e₂ : i + 2 ≡ suc (suc i) = omega arith in
-    rw (e₁, e₂) refl
-
 module _ (s : List ℕ) where
   pub points-length : (n : ℕ) → length (points_up_to s n) ≡ 3 * n
   unfolding points_up_to
@@ -144,26 +138,19 @@ pub corners-grow : (s : List ℕ) (n : ℕ) → Grows (corners_up_to s n) (λ i.
 unfolding corners_up_to
 corners-grow s n = record { none = refl; next = λ i. refl; place = corners-length s n }
 
--- a slice with the first i of n steps written
-abbrev pub PutTo : {A : Type 0} → (ℕ → List A) → ℕ → List A → List A → ℕ → Type 0
-PutTo g n out₀ out i = (i ≤ n) × ((length out ≡ length out₀) × (out ≡ sets out₀ 0 (g i)))
+-- a slice with the first i steps written
+module _ {A : Type 0} {g f : ℕ → List A} {at : ℕ → ℕ} (w : Grows g f at) (out₀ : List A) where
+  pub put-none : out₀ ≡ sets out₀ 0 (g 0)
+  put-none = rw w.none refl
 
-module _ {A : Type 0} {g f : ℕ → List A} {at : ℕ → ℕ} (w : Grows g f at) (n : ℕ) (out₀ : List A) where
-  pub put-none : PutTo g n out₀ out₀ 0
-  put-none = (omega arith, (refl, rw w.none refl))
-
-  pub put-again : {out out' : List A} {i : ℕ} → i < n → PutTo g n out₀ out i → out' ≡ sets out (at i) (f i) → PutTo g n out₀ out' (i + 1)
-  put-again {out} {out'} {i} l h e =
-      (omega arith, (ap length e ∙ simp length-sets h.1.0, rw (add-one i, w.next i) (e ∙ rw h.1.1 (sets-next out₀ 0 (at i) (g i) (f i) (omega (arith, w.place i))))))
-
-  pub put-done : {out : List A} {i : ℕ} → n ≤ i → PutTo g n out₀ out i → out ≡ sets out₀ 0 (g n)
-  put-done {out} {i} l h = let e : i ≡ n = omega (arith, h.0) in rw e at h.1.1
+  pub put-again : {out out' : List A} (i : ℕ) → out ≡ sets out₀ 0 (g i) → out' ≡ sets out (at i) (f i) → out' ≡ sets out₀ 0 (g (i + 1))
+  put-again {out} {out'} i h e = rw (add-one i, w.next i) (e ∙ rw h (sets-next out₀ 0 (at i) (g i) (f i) (omega (arith, w.place i))))
 
 -- ---- the answer
 
 pub read_done : {p α p' α' : List Float} {k k' : List ℕ} {n t : ℕ} {x : Float} (s : List ℕ) → is_text s ≡ true → n ≡ point_count s → t ≡ triangle_count s → x ≡ threshold_in s
-    → p' ≡ sets p 0 (points_up_to s n) → α' ≡ sets α 0 (angles_up_to s n) → k' ≡ sets k 0 (corners_up_to s n t) → ReadTo s p α k (Floor n t x) p' α' k'
+    → p' ≡ sets p 0 (points_up_to s n) → α' ≡ sets α 0 (angles_up_to s n) → k' ≡ sets k 0 (corners_up_to s n t) → ReadTo s p α k (Some (record { points = n; triangles = t; threshold = x })) p' α' k'
 read_done s e a b c hp hα hk = record { answer = rw (e, a, b, c) refl; points = rw (e, ← a) hp; angles = rw (e, ← a) hα; corners = rw (e, ← a, ← b) hk }
 
-pub read-other : {p α : List Float} {k : List ℕ} (s : List ℕ) → is_text s ≡ false → ReadTo s p α k Other p α k
+pub read-other : {p α : List Float} {k : List ℕ} (s : List ℕ) → is_text s ≡ false → ReadTo s p α k None p α k
 read-other s e = record { answer = rw e refl; points = rw e refl; angles = rw e refl; corners = rw e refl }

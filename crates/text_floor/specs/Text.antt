@@ -1,13 +1,12 @@
 -- A floor as refine.in has it (document 01, "A program reads refine.in"): which bytes are such a text, and the floor that it has. Definitions only.
 -- A line is three columns of six bytes and a line feed. Line 0 has the counts of points and triangles and the threshold; then a line for each point,
 -- x, y and angle, and a line for each triangle, its corners.
-use Rattle.std.specs.Prelude.{ℕ, zero, suc, ◌+◌, ◌*◌, ◌≡◌, Bool, true, cond, ◌&&◌, List, [], ◌∷◌, ◌++◌, eqb, leb, length, get_or, take, drop, replicate, Float}
+use Rattle.std.specs.Prelude.{ℕ, zero, suc, ◌+◌, ◌*◌, ◌≡◌, Bool, true, cond, ◌&&◌, List, [], ◌∷◌, ◌++◌, Option, None, Some, eqb, leb, length, get_or, take, drop, replicate, Float}
 use Rattle.std.proofs.lemmas.List.Edits.{sets}
 use Rattle.float.specs.Double.{lit, ◌⊘◌}
 use Rattle.text_columns.specs.declared.Scan.{Scan}
 use Rattle.text_columns.specs.Columns.{shown, is_number, is_whole, size_of, double_of}
-use Rattle.text_floor.specs.declared.Read.{Read}
-use Rattle.text_floor.specs.declared.Read.TheVariants.{Floor, Other}
+use Rattle.text_floor.specs.declared.Floor.{Floor}
 
 -- ---- lines
 
@@ -101,11 +100,14 @@ threshold_in s = radians (third s 0)
 
 -- ---- what reading answers and fills
 
-abbrev pub read_of : List ℕ → Read
-read_of s = cond (is_text s) (Floor (point_count s) (triangle_count s) (threshold_in s)) Other
+abbrev pub floor_of : List ℕ → Floor
+floor_of s = record { points = point_count s; triangles = triangle_count s; threshold = threshold_in s }
+
+abbrev pub read_of : List ℕ → Option Floor
+read_of s = cond (is_text s) (Some (floor_of s)) None
 
 -- a text fills the front of three slices; any other bytes leave them as they were
-pub record ReadTo (s : List ℕ) (p α : List Float) (k : List ℕ) (r : Read) (p' α' : List Float) (k' : List ℕ) : Type 0 where
+pub record ReadTo (s : List ℕ) (p α : List Float) (k : List ℕ) (r : Option Floor) (p' α' : List Float) (k' : List ℕ) : Type 0 where
   pub answer : r ≡ read_of s
   pub points : p' ≡ cond (is_text s) (sets p 0 (points_in s)) p
   pub angles : α' ≡ cond (is_text s) (sets α 0 (angles_in s)) α

@@ -3,7 +3,7 @@
 // numbers.
 #![tactic(auto)]
 
-ghost use Rattle.std.specs.Prelude.{◌≡◌, true, cond, [], ◌∷◌, ◌+◌, ◌*◌, ◌<◌, ◌≤◌, length};
+ghost use Rattle.std.specs.Prelude.{◌≡◌, true, cond, Some, [], ◌∷◌, ◌+◌, ◌*◌, ◌<◌, ◌≤◌, length};
 ghost use Rattle.std.proofs.lemmas.List.Edits.{sets};
 ghost use Rattle.float.specs.Double.{lit};
 ghost use Rattle.text_columns.specs.Columns.{is_number, is_whole, size_of, double_of};
@@ -11,15 +11,12 @@ ghost use Rattle.text_floor.specs.Text.{column_at, first, second, third, line_by
 
 use text_columns::Scan;
 
-// What a text has: a floor of so many points and triangles, with a threshold; or it is of another form.
+// The floor that a text has: so many points and triangles, and a threshold.
 #[derive(Clone, Copy)]
-pub enum Read {
-    Floor {
-        points: usize,
-        triangles: usize,
-        threshold: f64,
-    },
-    Other,
+pub struct Floor {
+    pub points: usize,
+    pub triangles: usize,
+    pub threshold: f64,
 }
 
 // ---- columns
@@ -34,6 +31,7 @@ fn column_at(text: &[u8], a: usize) -> Scan
 }
 
 // Whether the column is a number, and where `whole` says so one that is not below 0.
+// Kept: a test as a parameter would put a bound and a `requires` on this and two more functions, for two tests.
 fn fits_at(text: &[u8], a: usize, whole: bool) -> bool
     requires { a + 6 ≤ length text.now }
     ensures { result ≡ cond whole is_whole is_number (column_at text.now a) }
@@ -45,14 +43,7 @@ fn fits_at(text: &[u8], a: usize, whole: bool) -> bool
     text_columns::is_number(x)
 }
 
-fn size_at(text: &[u8], a: usize) -> usize
-    requires { a + 6 ≤ length text.now }
-    ensures { result ≡ size_of (column_at text.now a) }
-{
-    text_columns::size(column_at(text, a)) as usize
-}
-
-fn corner_at(text: &[u8], a: usize) -> u32
+fn size_at(text: &[u8], a: usize) -> u32
     requires { a + 6 ≤ length text.now }
     ensures { result ≡ size_of (column_at text.now a) }
 {
@@ -81,16 +72,10 @@ fn is_line(text: &[u8], i: usize, whole: bool) -> bool
     ensures { result ≡ line_by (cond whole is_whole is_number) text.now i }
 {
     let a = 19 * i;
-    if !fits_at(text, a, whole) {
-        return false;
-    }
-    if !fits_at(text, a + 6, whole) {
-        return false;
-    }
-    if !fits_at(text, a + 12, whole) {
-        return false;
-    }
-    text[a + 18] == 10
+    fits_at(text, a, whole)
+        && fits_at(text, a + 6, whole)
+        && fits_at(text, a + 12, whole)
+        && text[a + 18] == 10
 }
 
 // Whether k lines from line `from` on are such lines.
@@ -98,12 +83,10 @@ fn are_lines(text: &[u8], from: usize, k: usize, whole: bool) -> bool
     requires { 19 * (from + k) ≤ length text.now }
     ensures { result ≡ every (line_by (cond whole is_whole is_number) text.now) from k }
 {
-    let mut i = 0;
-    while i < k {
+    for i in 0..k {
         if !is_line(text, from + i, whole) {
             return false;
         }
-        i += 1;
     }
     true
 }
@@ -149,8 +132,8 @@ fn is_text(text: &[u8]) -> bool
     if !is_head(text) {
         return false;
     }
-    let n = size_at(text, 0);
-    let t = size_at(text, 6);
+    let n = size_at(text, 0) as usize;
+    let t = size_at(text, 6) as usize;
     is_body(text, n, t)
 }
 
@@ -164,19 +147,15 @@ fn put_point(text: &[u8], i: usize, out: &mut [f64])
     let a = 19 * (1 + i);
     let x = double_at(text, a);
     let y = double_at(text, a + 6);
-    out[3 * i] = x;
-    out[3 * i + 1] = y;
-    out[3 * i + 2] = 0.0;
+    slices::copy(&[x, y, 0.0], out, 3 * i);
 }
 
 fn put_points(text: &[u8], n: usize, out: &mut [f64])
     requires { (19 * (1 + n) ≤ length text.now) × (3 * n ≤ length out.old) }
     ensures { out.new ≡ sets out.old 0 (points_up_to text.now n) }
 {
-    let mut i = 0;
-    while i < n {
+    for i in 0..n {
         put_point(text, i, out);
-        i += 1;
     }
 }
 
@@ -192,10 +171,8 @@ fn put_angles(text: &[u8], n: usize, out: &mut [f64])
     requires { (19 * (1 + n) ≤ length text.now) × (n ≤ length out.old) }
     ensures { out.new ≡ sets out.old 0 (angles_up_to text.now n) }
 {
-    let mut i = 0;
-    while i < n {
+    for i in 0..n {
         put_angle(text, i, out);
-        i += 1;
     }
 }
 
@@ -204,50 +181,51 @@ fn put_triangle(text: &[u8], n: usize, i: usize, out: &mut [u32])
     ensures { out.new ≡ sets out.old (3 * i) (sizes_at text.now (1 + n + i)) }
 {
     let a = 19 * (1 + n + i);
-    let u = corner_at(text, a);
-    let v = corner_at(text, a + 6);
-    let w = corner_at(text, a + 12);
-    out[3 * i] = u;
-    out[3 * i + 1] = v;
-    out[3 * i + 2] = w;
+    let u = size_at(text, a);
+    let v = size_at(text, a + 6);
+    let w = size_at(text, a + 12);
+    slices::copy(&[u, v, w], out, 3 * i);
 }
 
 fn put_triangles(text: &[u8], n: usize, t: usize, out: &mut [u32])
     requires { (19 * (1 + n + t) ≤ length text.now) × (3 * t ≤ length out.old) }
     ensures { out.new ≡ sets out.old 0 (corners_up_to text.now n t) }
 {
-    let mut i = 0;
-    while i < t {
+    for i in 0..t {
         put_triangle(text, n, i, out);
-        i += 1;
     }
 }
 
 // The floor of a text.
-fn put_floor(text: &[u8], points: &mut [f64], angles: &mut [f64], corners: &mut [u32]) -> Read
+fn put_floor(text: &[u8], points: &mut [f64], angles: &mut [f64], corners: &mut [u32]) -> Floor
     requires text_value { is_text text.now ≡ true }
     requires in_bounds { (768 ≤ length points.old) × ((256 ≤ length angles.old) × (768 ≤ length corners.old)) }
-    ensures { ReadTo text.now points.old angles.old corners.old result points.new angles.new corners.new }
+    ensures { ReadTo text.now points.old angles.old corners.old (Some result) points.new angles.new corners.new }
 {
-    let n = size_at(text, 0);
-    let t = size_at(text, 6);
+    let n = size_at(text, 0) as usize;
+    let t = size_at(text, 6) as usize;
     put_points(text, n, points);
     put_angles(text, n, angles);
     put_triangles(text, n, t, corners);
-    Read::Floor {
+    Floor {
         points: n,
         triangles: t,
         threshold: radians_at(text, 12),
     }
 }
 
-// The floor of a text, with room for 256 points and 256 triangles.
-pub fn read_floor(text: &[u8], points: &mut [f64], angles: &mut [f64], corners: &mut [u32]) -> Read
+// The floor of a text, with room for 256 points and 256 triangles; none where the bytes are of another form.
+pub fn read_floor(
+    text: &[u8],
+    points: &mut [f64],
+    angles: &mut [f64],
+    corners: &mut [u32],
+) -> Option<Floor>
     requires { (768 ≤ length points.old) × ((256 ≤ length angles.old) × (768 ≤ length corners.old)) }
     ensures { ReadTo text.now points.old angles.old corners.old result points.new angles.new corners.new }
 {
     if is_text(text) {
-        return put_floor(text, points, angles, corners);
+        return Some(put_floor(text, points, angles, corners));
     }
-    Read::Other
+    None
 }

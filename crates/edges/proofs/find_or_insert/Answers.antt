@@ -4,8 +4,8 @@ use lib.ListN.{length-set}
 use Rattle.edges.proofs.Stored.{spot_in, met-found, met-added}
 use Rattle.edges.proofs.find_or_insert.Goals as goal
 
-pub returns-then-s-ne0 : goal.returns-then-s-ne0
-returns-then-s-ne0 c = met-found _ _ c.requires.held c.walk-s.ensures c.if-s-ne0.true
+pub returns-in-Some : goal.returns-in-Some
+returns-in-Some c = met-found _ _ c.requires.held c.walk-s.ensures c.in-Some.is
 
 pub bounds-w-k-2 : goal.bounds-w-k-2
 bounds-w-k-2 c = simp length-set (omega arith)
@@ -24,4 +24,4 @@ bounds-w-position c = simp length-set (omega (arith, spot_in c.walk-s.ensures.sp
 
 pub returns : goal.returns
 returns c =
-    met-added _ _ c.requires.held c.walk-s.ensures c.if-s-ne0.false c.requires.t_in_bounds.0
+    met-added _ _ c.requires.held c.walk-s.ensures c.in_default.is c.requires.t_in_bounds.0

@@ -1,10 +1,6 @@
-use Prim.Native.Nat.{◌-◌, ◌≤◌}
 use Rattle.refinement.specs.Flag.{flagged_tri}
 use Rattle.refinement.specs.Steps.{CutTo}
 use Rattle.refinement.proofs.cut_sides.Given as goal
 
 abbrev pub invariant-loop-i : goal.invariant-loop-i
-invariant-loop-i l = (l.i ≤ l.count) × CutTo l.table (flagged_tri l.threshold l.angles) l.triangles l.i l.initial.numbers l.numbers l.cut
-
-abbrev pub decreases-loop-i : goal.decreases-loop-i
-decreases-loop-i l = l.count - l.i
+invariant-loop-i l = CutTo l.table (flagged_tri l.threshold l.angles) l.triangles l.i l.initial.numbers l.numbers l.cut

@@ -13,14 +13,14 @@ use Rattle.text_answer.proofs.answer_over.Goals as goal
 
 pub returns-in_default : goal.returns-in_default
 returns-in_default c =
-    let e = other-read c.args.text.now c.read_floor-read.ensures.answer c.in_default.is in (
+    let e = other-read c.args.text.now c.read_floor.ensures.answer c.in_default.is in (
       c.put_refused.ensures.0 ∙ ap (λ (b : List ℕ). sets c.args.out.now 0 b) (sym e),
       c.put_refused.ensures.1 ∙ sym (ap length e),
     )
 
 pub answer_front-requires : goal.answer_front-requires
 answer_front-requires c =
-    let f = floor-read c.args.text.now c.read_floor-read.ensures.answer c.in-Floor.is
+    let f = floor-read c.args.text.now c.read_floor.ensures.answer c.in-Some.is
     in let k = known _ f.text in record {
       n_bound = ((omega (arith, f.points, k.few-points), omega (arith, f.triangles, k.few-triangles)), c.requires.sizes_value.1);
       points_len = (
@@ -38,8 +38,8 @@ answer_front-requires c =
 
 pub returns : goal.returns
 returns c =
-    let e = text-prints c.args.text.now c.read_floor-read.ensures
-    (floor-read c.args.text.now c.read_floor-read.ensures.answer c.in-Floor.is) c.requires.points_len.0 c.requires.points_len.1.0
+    let e = text-prints c.args.text.now c.read_floor.ensures
+    (floor-read c.args.text.now c.read_floor.ensures.answer c.in-Some.is) c.requires.points_len.0 c.requires.points_len.1.0
     c.requires.points_len.1.1 c.requires.sizes_value.0 in (
       c.answer_front.ensures.0 ∙ ap (λ (b : List ℕ). sets c.args.out.now 0 b) e,
       c.answer_front.ensures.1 ∙ ap length e,

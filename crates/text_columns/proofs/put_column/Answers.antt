@@ -5,7 +5,7 @@ use Rattle.text_columns.proofs.put_column.Goals as goal
 
 pub returns : goal.returns
 returns c =
-    c.put_six.ensures ∙ rw (
+    c.copy.ensures ∙ rw (
       six-bytes c.args.n,
       c.blank_or_digit-5.ensures,
       c.blank_or_digit-4.ensures,

@@ -1,21 +1,17 @@
--- `text_columns::scan_column` meets its contract: after i iterations the state is what the first i bytes show. Assumes nothing.
+-- `text_columns::scan_column` meets its contract: after i bytes the state is what the first i bytes show. Assumes nothing.
 use native.Mathlib.Omega.{arith}
-use mathlib.Core.Path.{◌≡◌, sym, ap, ◌∙◌, subst}
-use Prim.Native.Nat.{◌-◌, ◌<◌}
-use lib.ListN.{length}
-use Rattle.text_columns.specs.Columns.{scan, size_of}
+use mathlib.Core.Path.{sym, subst}
+use Prim.Native.Nat.{◌<◌}
+use Rattle.text_columns.specs.Columns.{size_of}
 use Rattle.text_columns.specs.declared.Scan.{Scan}
 use Rattle.text_columns.proofs.Columns.{few, scan-none, scan-again}
 use Rattle.text_columns.proofs.scan_column.Goals as goal
 
-pub loop-i-init : goal.loop-i-init
-loop-i-init c = (omega arith, scan-none c.args.column.now)
+pub loop-b-init : goal.loop-b-init
+loop-b-init c = scan-none c.args.column.now
 
 pub step_on-s-requires : goal.step_on-s-requires
-step_on-s-requires c = subst (λ (s : Scan). size_of s < 1000000) (sym c.loop-i.invariant.1) (few c.args.column.now c.loop-i.i (omega arith))
+step_on-s-requires c = subst (λ (s : Scan). size_of s < 1000000) (sym c.loop-b.invariant) (few c.args.column.now c.loop-b.b-index (omega arith))
 
-pub loop-i-preserved : goal.loop-i-preserved
-loop-i-preserved c = (omega arith, scan-again c.args.column.now c.loop-i.i c.loop-i.invariant.1 c.step_on-s.ensures)
-
-pub returns : goal.returns
-returns c = let e : c.loop-i.i ≡ length c.args.column.now = omega arith in c.loop-i.invariant.1 ∙ ap (scan c.args.column.now) e
+pub loop-b-preserved : goal.loop-b-preserved
+loop-b-preserved c = scan-again c.args.column.now c.loop-b.b-index c.loop-b.invariant c.step_on-s.ensures

@@ -1,35 +1,36 @@
 -- `text_columns::step_on` meets its contract: each arm is the clause of `step`. Assumes nothing.
-use mathlib.Core.Path.{refl}
-use Prim.Native.Nat.{◌<◌}
-use mathlib.Core.Path.{subst}
-use Rattle.text_columns.specs.Columns.{step, size_of}
+use Prim.Native.Nat.{ℕ}
+use mathlib.Core.Path.{◌≡◌, subst}
+use mathlib.Core.Bool.{Bool, true, false, cond}
+use Rattle.std.proofs.Common.{rules}
+use Rattle.std.specs.Prelude.{Option, MatchOption}
+use Rattle.std.specs.declared.option.Option.TheVariants.{None, Some}
+use Rattle.text_columns.specs.Columns.{step}
 use Rattle.text_columns.specs.declared.Scan.{Scan}
+use Rattle.text_columns.specs.declared.Scan.TheVariants.{Bad}
 use Rattle.text_columns.proofs.step_on.Goals as goal
 
-pub after_whole-requires : goal.after_whole-requires
-after_whole-requires c = subst (λ (s : Scan). size_of s < 1000000) c.in-Whole.is c.requires
-
-pub after_negative-requires : goal.after_negative-requires
-after_negative-requires c = subst (λ (s : Scan). size_of s < 1000000) c.in-Negative.is c.requires
+-- a number with one more digit, if there is one, and otherwise none
+more : (t : Bool) (m : ℕ) (o : Option ℕ) (make : ℕ → Scan) (r : Scan) → o ≡ cond t (Some m) None → MatchOption o (r ≡ Bad) (λ x. r ≡ make x) → r ≡ cond t (make m) Bad
+more true m o make r e h = subst (λ p. MatchOption p (r ≡ Bad) (λ x. r ≡ make x)) e h
+more false m o make r e h = subst (λ p. MatchOption p (r ≡ Bad) (λ x. r ≡ make x)) e h
 
 pub returns-in-Blank : goal.returns-in-Blank
 unfolding step
-returns-in-Blank c = rw c.in-Blank.is c.after_blank.ensures
+returns-in-Blank c = search rules
 
 pub returns-in-Minus : goal.returns-in-Minus
 unfolding step
-returns-in-Minus c = rw c.in-Minus.is c.after_minus.ensures
+returns-in-Minus c = search rules
 
 pub returns-in-Whole : goal.returns-in-Whole
-returns-in-Whole c = rw c.in-Whole.is c.after_whole.ensures
+unfolding step
+returns-in-Whole c = rw c.in-Whole.is (more _ _ _ _ _ c.with_digit.ensures c.map_or.ensures)
 
 pub returns-in-Negative : goal.returns-in-Negative
-returns-in-Negative c = rw c.in-Negative.is c.after_negative.ensures
+unfolding step
+returns-in-Negative c = rw c.in-Negative.is (more _ _ _ _ _ c.with_digit-in-Negative.ensures c.map_or-in-Negative.ensures)
 
 pub returns-in-Zero : goal.returns-in-Zero
 unfolding step
-returns-in-Zero c = rw c.in-Zero.is refl
-
-pub returns-in-Bad : goal.returns-in-Bad
-unfolding step
-returns-in-Bad c = rw c.in-Bad.is refl
+returns-in-Zero c = search rules

@@ -1,18 +1,9 @@
 -- `text_floor::put_angles` meets its contract: after i iterations the first i are written; the laws are in proofs/Lines. Assumes nothing.
-use Prim.Native.Nat.{◌-◌}
-use Rattle.text_floor.proofs.Lines.{angles-grow, put-none, put-again, put-done}
+use Rattle.text_floor.proofs.Lines.{angles-grow, put-none, put-again}
 use Rattle.text_floor.proofs.put_angles.Goals as goal
 
 pub loop-i-init : goal.loop-i-init
-loop-i-init c = put-none (angles-grow c.args.text.now) c.args.n c.args.out.now
+loop-i-init c = put-none (angles-grow c.args.text.now) c.args.out.now
 
 pub loop-i-preserved : goal.loop-i-preserved
-loop-i-preserved c =
-    put-again (angles-grow c.args.text.now) c.args.n c.args.out.now c.loop-i-test.true c.loop-i.invariant c.put_angle.ensures
-
-pub shape_of-out : goal.shape_of-out
-shape_of-out c = c.loop-i.invariant.1.0
-
-pub returns : goal.returns
-returns c =
-    put-done (angles-grow c.args.text.now) c.args.n c.args.out.now c.loop-i-test.false c.loop-i.invariant
+loop-i-preserved c = put-again (angles-grow c.args.text.now) c.args.out.now c.loop-i.i c.loop-i.invariant c.put_angle.ensures

@@ -1,11 +1,7 @@
-use Prim.Native.Nat.{◌-◌, ◌≤◌}
 use mathlib.Core.Path.{◌≡◌}
 use lib.Seq.{sets}
 use Rattle.edges.specs.Table.{fourths}
 use Rattle.edges.proofs.numbers.copy_fourths.Given as goal
 
 abbrev pub invariant-loop-k : goal.invariant-loop-k
-invariant-loop-k l = (l.k ≤ l.m) × (l.w ≡ sets l.initial.w l.to (fourths l.at l.initial.w l.k))
-
-abbrev pub decreases-loop-k : goal.decreases-loop-k
-decreases-loop-k l = l.m - l.k
+invariant-loop-k l = l.w ≡ sets l.initial.w l.to (fourths l.at l.initial.w l.k)

@@ -4,9 +4,9 @@ use lib.ListN.{length-set}
 use Rattle.edges.proofs.TwoSlices.{spot-within, met-found, met-added}
 use Rattle.edges.proofs.two_slices.find_or_insert.Goals as goal
 
-pub returns-then-s-ne0 : goal.returns-then-s-ne0
-returns-then-s-ne0 c =
-    met-found _ _ c.requires.held_in_two c.walk-s.ensures c.if-s-ne0.true
+pub returns-in-Some : goal.returns-in-Some
+returns-in-Some c =
+    met-found _ _ c.requires.held_in_two c.walk-s.ensures c.in-Some.is
 
 pub bounds-ends-m-2 : goal.bounds-ends-m-2
 bounds-ends-m-2 c = simp length-set (omega arith)
@@ -22,4 +22,4 @@ bounds-links-position c = simp length-set (omega (arith, spot-within c.walk-s.en
 
 pub returns : goal.returns
 returns c =
-    met-added _ _ c.requires.held_in_two c.walk-s.ensures c.if-s-ne0.false c.requires.sides_in_bounds.0 c.requires.sides_in_bounds.1.0
+    met-added _ _ c.requires.held_in_two c.walk-s.ensures c.in_default.is c.requires.sides_in_bounds.0 c.requires.sides_in_bounds.1.0

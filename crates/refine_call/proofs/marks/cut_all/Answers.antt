@@ -1,27 +1,15 @@
 -- `refine_call::marks::cut_all` meets its contract: after i turns the first i are done; the laws are in proofs/Marking.
-use Prim.Native.Nat.{◌-◌}
 use native.Mathlib.Omega.{arith}
-use mathlib.Core.Path.{◌≡◌}
 use Rattle.refine_call.proofs.Marking.{cuts-none, cuts-again}
 use Rattle.refine_call.proofs.marks.cut_all.Goals as goal
 
 pub loop-i-init : goal.loop-i-init
-loop-i-init c = (omega arith, cuts-none c.requires.held_in_two)
+loop-i-init c = cuts-none c.requires.held_in_two
 
 pub cut_marked-sides-requires : goal.cut_marked-sides-requires
 cut_marked-sides-requires c =
-    let inv = c.loop-i.invariant.1 in
+    let inv = c.loop-i.invariant in
     let room = c.requires.marks_room in record { held_in_two = inv.held; marks_room = (omega (arith, room.corners-in, room.ends-in, room.marks-in, room.few, inv.same_ends, inv.same), omega (arith, inv.few, inv.seldom)) }
 
 pub loop-i-preserved : goal.loop-i-preserved
-loop-i-preserved c =
-    (omega arith, cuts-again (omega arith) c.loop-i.invariant.1 c.cut_marked-sides.ensures)
-
-pub shape_of-ends : goal.shape_of-ends
-shape_of-ends c = c.loop-i.invariant.1.same_ends
-
-pub shape_of-marks : goal.shape_of-marks
-shape_of-marks c = c.loop-i.invariant.1.same
-
-pub returns : goal.returns
-returns c = let e : c.loop-i.i ≡ c.args.count = omega arith in rw e at c.loop-i.invariant.1
+loop-i-preserved c = cuts-again (omega arith) c.loop-i.invariant c.cut_marked-sides.ensures

@@ -1,10 +1,5 @@
-use Prim.Native.Nat.{◌-◌, ◌≤◌}
 use Rattle.refine_call.specs.Marks.{CutsTo}
 use Rattle.refine_call.proofs.marks.cut_all.Given as goal
 
 abbrev pub invariant-loop-i : goal.invariant-loop-i
-invariant-loop-i l =
-    (l.i ≤ l.count) × CutsTo l.points l.buckets l.count l.triangles l.i l.initial.ends l.initial.marks l.ends l.marks l.sides
-
-abbrev pub decreases-loop-i : goal.decreases-loop-i
-decreases-loop-i l = l.count - l.i
+invariant-loop-i l = CutsTo l.points l.buckets l.count l.triangles l.i l.initial.ends l.initial.marks l.ends l.marks l.sides

@@ -1,15 +1,10 @@
 -- `refine_call::marks::cut_marked` meets its contract: a triangle that is not marked stays, the sides of any other are met; the laws are in proofs/Marking.
 use native.Mathlib.Omega.{arith}
-use mathlib.Core.Path.{ap, ◌∙◌}
-use lib.ListN.{length, length-set}
 use Rattle.refine_call.proofs.Marking.{met-below, cut-passed, cut-cut}
 use Rattle.refine_call.proofs.marks.cut_marked.Goals as goal
 
 pub returns-then-marks-at-eq0 : goal.returns-then-marks-at-eq0
 returns-then-marks-at-eq0 c = cut-passed c.requires.held_in_two c.if-marks-at-eq0.true
-
-pub meet_triangle-met-requires : goal.meet_triangle-met-requires
-meet_triangle-met-requires c = record { held_in_two = c.requires.held_in_two; sides_in_bounds = (omega arith, (omega arith, omega arith)) }
 
 pub overflow_add-points : goal.overflow_add-points
 overflow_add-points c =
@@ -50,14 +45,6 @@ overflow_cast-points-3 c =
 pub put_three-requires : goal.put_three-requires
 put_three-requires c =
     omega (arith, c.meet_triangle-met.ensures.outside.same, c.requires.held_in_two.links-in, c.requires.marks_room)
-
-pub shape_of-ends : goal.shape_of-ends
-shape_of-ends c =
-    c.meet_triangle-met.ensures.outside.same_ends
-
-pub shape_of-marks : goal.shape_of-marks
-shape_of-marks c =
-    ap length c.put_three.ensures ∙ simp length-set c.meet_triangle-met.ensures.outside.same
 
 pub returns : goal.returns
 returns c =

@@ -1,10 +1,6 @@
-use Prim.Native.Nat.{◌-◌, ◌≤◌}
 use Rattle.edges.specs.TwoSlices.{sides_at}
 use Rattle.refine_call.specs.Marks.{MarksTo}
 use Rattle.refine_call.proofs.marks.mark_all.Given as goal
 
 abbrev pub invariant-loop-i : goal.invariant-loop-i
-invariant-loop-i l = (l.i ≤ l.count) × MarksTo l.points (sides_at l.ends l.table.sides) l.triangles l.i l.initial.marks l.marks l.pieces
-
-abbrev pub decreases-loop-i : goal.decreases-loop-i
-decreases-loop-i l = l.count - l.i
+invariant-loop-i l = MarksTo l.points (sides_at l.ends l.table.sides) l.triangles l.i l.initial.marks l.marks l.pieces

@@ -1,15 +1,12 @@
--- `refine_call::marks::mark_of` meets its contract: a midpoint is numbered above the points; the laws are those of crate refinement.
-use Rattle.mesh.specs.Mesh.{mid, index_in, key}
-use Rattle.edges.specs.TwoSlices.{sides_at}
-use Rattle.refinement.proofs.Parts.{above-plus, above_zero}
+-- `refine_call::marks::mark_of` meets its contract: a midpoint is numbered above the points.
+use native.Mathlib.Omega.{arith}
+use Rattle.mesh.specs.Mesh.{mid}
 use Rattle.refine_call.proofs.marks.mark_of.Goals as goal
 
-pub returns-then-number-eq0 : goal.returns-then-number-eq0
+pub returns-in-Some : goal.returns-in-Some
 unfolding mid
-returns-then-number-eq0 c =
-    above_zero c.args.points (index_in (key c.args.u c.args.v) (sides_at c.args.ends.now c.args.table.sides)) _ c.find_side-number.ensures.0 c.if-number-eq0.true
+returns-in-Some c = rw (← c.in-Some.ensures.0) (omega arith)
 
-pub returns : goal.returns
+pub returns-in-None : goal.returns-in-None
 unfolding mid
-returns c =
-    above-plus c.args.points (index_in (key c.args.u c.args.v) (sides_at c.args.ends.now c.args.table.sides)) _ c.find_side-number.ensures.0 c.if-number-eq0.false
+returns-in-None c = rw (← c.in-None.ensures.0)

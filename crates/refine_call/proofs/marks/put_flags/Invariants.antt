@@ -1,10 +1,6 @@
-use Prim.Native.Nat.{◌-◌, ◌≤◌}
 use Rattle.refinement.specs.Flag.{flagged_tri}
 use Rattle.refine_call.specs.Marks.{FlagsTo}
 use Rattle.refine_call.proofs.marks.put_flags.Given as goal
 
 abbrev pub invariant-loop-i : goal.invariant-loop-i
-invariant-loop-i l = (l.i ≤ l.count) × FlagsTo (flagged_tri l.threshold l.angles) l.triangles l.i l.initial.marks l.marks l.flagged
-
-abbrev pub decreases-loop-i : goal.decreases-loop-i
-decreases-loop-i l = l.count - l.i
+invariant-loop-i l = FlagsTo (flagged_tri l.threshold l.angles) l.triangles l.i l.initial.marks l.marks l.flagged

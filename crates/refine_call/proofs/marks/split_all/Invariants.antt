@@ -1,9 +1,5 @@
-use Prim.Native.Nat.{◌≤◌}
 use Rattle.refine_call.proofs.Splitting.{SplitFrom}
 use Rattle.refine_call.proofs.marks.split_all.Given as goal
 
 abbrev pub invariant-loop-i : goal.invariant-loop-i
-invariant-loop-i l = (l.i ≤ l.count) × SplitFrom l.initial.marks l.triangles l.count l.i l.marks l.before
-
-abbrev pub decreases-loop-i : goal.decreases-loop-i
-decreases-loop-i l = l.i
+invariant-loop-i l = SplitFrom l.initial.marks l.triangles l.count l.i l.marks l.before

@@ -1,13 +1,8 @@
 -- `refine_call::points::put_points` meets its contract: each return opens the definition and rewrites it by the tests and the calls on its way; the laws are in proofs/Parts.
-use mathlib.Core.Path.{refl, ap, ◌∙◌}
-use lib.ListN.{length}
-use lib.Seq.{length-sets}
+use mathlib.Core.Path.{refl}
 use Rattle.mesh.specs.Points.{more_points}
 use Rattle.refine_call.proofs.Midpoints.{more-done}
 use Rattle.refine_call.proofs.points.put_points.Goals as goal
-
-pub shape_of-out : goal.shape_of-out
-shape_of-out c = ap length c.put_midpoints.ensures ∙ simp length-sets (ap length c.copy.ensures ∙ simp length-sets)
 
 pub returns : goal.returns
 unfolding more_points

@@ -1,10 +1,7 @@
-use Rattle.std.proofs.Common.{◌≡◌, ◌+◌, ◌-◌, ◌≤◌}
+use Rattle.std.proofs.Common.{◌≡◌, ◌+◌}
 use Rattle.replay.specs.Rows.{up_to, corner_at}
 use lib.Seq.{sets}
 use Rattle.replay.proofs.rows.corners.Given as goal
 
 abbrev pub invariant-loop-i : goal.invariant-loop-i
-invariant-loop-i l = (l.i ≤ l.m) × (l.out ≡ sets l.initial.out 0 (up_to (λ j. corner_at l.row (l.k + j)) l.i))
-
-abbrev pub decreases-loop-i : goal.decreases-loop-i
-decreases-loop-i l = l.m - l.i
+invariant-loop-i l = l.out ≡ sets l.initial.out 0 (up_to (λ j. corner_at l.row (l.k + j)) l.i)

@@ -1,9 +1,0 @@
-use Rattle.std.proofs.Common.{◌≡◌, ◌-◌, ◌≤◌, eqb, length, drop}
-use Rattle.replay.specs.Rows.{same_all}
-use Rattle.replay.proofs.rows.same_numbers.Given as goal
-
-abbrev pub invariant-loop-i : goal.invariant-loop-i
-invariant-loop-i l = (l.i ≤ length l.a) × ((length l.a ≡ length l.b) × (same_all eqb l.a l.b ≡ same_all eqb (drop l.i l.a) (drop l.i l.b)))
-
-abbrev pub decreases-loop-i : goal.decreases-loop-i
-decreases-loop-i l = length l.a - l.i
