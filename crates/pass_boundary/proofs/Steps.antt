@@ -1,5 +1,5 @@
 -- The walk over the sides: one value, one side, one triangle more. Assumes nothing.
-use Prim.Native.Nat.{ℕ, suc, ◌+◌, ◌-◌, ◌*◌, ◌≤◌, ◌<◌}
+use Prim.Native.Nat.{ℕ, ◌+◌, ◌*◌, ◌≤◌, ◌<◌}
 use native.Mathlib.Omega.{arith}
 use native.Mathlib.Decide.{ℕ_discrete}
 use native.Mathlib.Numerals.{add-one}
@@ -26,7 +26,7 @@ use Rattle.linear_cells.proofs.Cells.{length-set_c}
 use Rattle.linear_cells.proofs.Changes.{cell_at, cell-else, real-else, region-same}
 use Rattle.mesh.specs.Mesh.{Side, side, key, Tri, tri, index_in, is_none}
 use Rattle.mesh.proofs.Cuts.{key-flip, index-only, index_below}
-use Rattle.edges.specs.Table.{lo_of, hi_of, Held, one_more}
+use Rattle.edges.specs.Table.{lo_of, hi_of, Held}
 use Rattle.edges.specs.Numbering.{tri_from, tris_from}
 use Rattle.edges.specs.Sides.{times, listed}
 use Rattle.edges.proofs.Tree.{length_pairs}
@@ -48,7 +48,7 @@ low-in : (l : Listing) (u : List ℕ) (s : Side) (k : ℕ) → index_in s (table
 low-in l u s k e = omega (arith, index_below s (table_of l u) k e, length_pairs (lo_of l.table l.buckets u) (hi_of l.table l.buckets u) l.sides)
 
 -- the count at a side's number says whether it lies on the boundary
-count-once : (l : Listing) (u : List ℕ) (a b k : ℕ) → Held l.table l.buckets u l.sides → Counts l u → index_in (key a b) (table_of l u) ≡ some k
+pub count-once : (l : Listing) (u : List ℕ) (a b k : ℕ) → Held l.table l.buckets u l.sides → Counts l u → index_in (key a b) (table_of l u) ≡ some k
     → eqb (get_or u (l.counts + k) 0) 1 ≡ once (tris_in l u) (side a b)
 unfolding once
 count-once l u a b k held counts e =
@@ -56,17 +56,6 @@ count-once l u a b k held counts e =
     let here : get_or (table_of l u) k (side 0 0) ≡ key a b =
     index-only (get_or (table_of l u) k (side 0 0)) (key a b) (table_of l u) k (held.numbered k (omega (arith, length_pairs (lo_of l.table l.buckets u) (hi_of l.table l.buckets u) l.sides))) e in
     ap (λ (c : ℕ). eqb c 1) (counts k low ∙ ap (λ (s : Side). times s (listed (tris_in l u))) here)
-
-module _ (l : Listing) (u : List ℕ) (a b : ℕ) {at : ℕ} (held : Held l.table l.buckets u l.sides) (found : In (key a b) (table_of l u)) (at-is : at ≡ one_more (index_in (key a b) (table_of l u))) where
-  pub found_first : 0 < at
-  found_first = let k = number (index_in (key a b) (table_of l u)) found in omega (arith, at-is ∙ ap one_more k.1)
-
-  pub found-once : Counts l u → at ≤ l.sides → eqb (get_or u (l.counts + at - 1) 0) 1 ≡ once (tris_in l u) (side a b)
-  found-once counts few =
-      let k = number (index_in (key a b) (table_of l u)) found in
-      let z : at ≡ suc k.0 = at-is ∙ ap one_more k.1 in
-      let e : l.counts + at - 1 ≡ l.counts + k.0 = omega arith in
-      rw e (count-once l u a b k.0 held counts k.1)
 
 -- ---- a triangle's counts
 

@@ -2,7 +2,7 @@
 -- Point v has the coordinates X v and Y v. The triangles are those given, not those put counter-clockwise. Definitions only.
 use Rattle.std.specs.Prelude.{ℕ, Bool, false, not, cond, ◌&&◌, ◌||◌, List, [], ◌∷◌, ◌++◌, eqb, Float}
 use Rattle.std.specs.Float.Ieee.{lt}
-use Rattle.float.specs.Double.{lit, is_finite, recip_of, ◌⊖◌}
+use Rattle.float.specs.Double.{is_finite, recip_of, ◌⊖◌}
 use Rattle.arctangent.specs.Arc.{atan2_of}
 use Rattle.complex.specs.declared.Complex.{Complex}
 use Rattle.complex.specs.Complex.{czero, cone, cadd, cscale}

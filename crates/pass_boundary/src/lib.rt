@@ -47,8 +47,8 @@ fn is_boundary(u: &[u32], l: Listing, a: u32, b: u32) -> bool
         buckets: l.buckets,
         sides: l.sides,
     };
-    let at = edges::find_side(u, t, a, b);
-    u[l.counts + at - 1] == 1
+    let number = edges::find_side(u, t, a, b).unwrap();
+    u[l.counts + number] == 1
 }
 
 // The fourfold direction of the side from a to b.
@@ -140,10 +140,8 @@ fn mark_all(w: &mut [f64], u: &mut [u32], l: Listing, p: Planes) -> usize
     ensures { Marked l p (walked (tris_in l u.old)) u.old w.old u.new w.new result }
 {
     let mut count = 0;
-    let mut i = 0;
-    while i < l.triangles {
-        count = count + mark_triangle(w, u, l, p, i);
-        i += 1;
+    for i in 0..l.triangles {
+        count += mark_triangle(w, u, l, p, i);
     }
     count
 }

@@ -1,11 +1,9 @@
--- `pass_boundary::is_boundary` meets its contract: a side's count stands at its number; the laws are in proofs/Steps.
-use native.Mathlib.Omega.{arith}
-use Rattle.pass_boundary.proofs.Steps.{found_first, found-once}
+-- `pass_boundary::is_boundary` meets its contract: a side's count stands at its number; the law is in proofs/Steps.
+use mathlib.Core.Path.{sym, ap, ◌∙◌}
+use Rattle.edges.specs.Table.{place}
+use Rattle.pass_boundary.proofs.Steps.{count-once}
 use Rattle.pass_boundary.proofs.is_boundary.Goals as goal
-
-pub overflow_sub-result : goal.overflow_sub-result
-overflow_sub-result c = omega (arith, found_first c.args.l _ _ _ c.requires.held.0 c.requires.held.1.1 c.find_side-at.ensures.0)
 
 pub returns : goal.returns
 returns c =
-    found-once c.args.l _ _ _ c.requires.held.0 c.requires.held.1.1 c.find_side-at.ensures.0 c.requires.held.1.0 c.find_side-at.ensures.1
+    count-once c.args.l c.args.u.now _ _ _ c.requires.held.0 c.requires.held.1.0 (sym c.find_side.ensures.0 ∙ ap place c.unwrap-number.ensures)

@@ -21,8 +21,8 @@ refine_triangles_within-k-requires c = record {
       c.requires.first_stands c.cut_sides-cut.ensures;
 }
 
-pub pass_over-second-requires : goal.pass_over-second-requires
-pass_over-second-requires c = record {
+pub pass_over-requires : goal.pass_over-requires
+pass_over-requires c = record {
   laid_room = laid-room c.args.points.now c.args.triangles.now c.args.sizes.now c.args.guidance.now c.args.o
       c.args.a c.args.work.now c.args.words.now c.requires.ready_for c.requires.first_stands c.cut_sides-cut.ensures
       c.refine_triangles_within-k.ensures c.asked_again.ensures;
@@ -33,7 +33,7 @@ pass_over-second-requires c = record {
 
 pub shape_of-words-in_default : goal.shape_of-words-in_default
 shape_of-words-in_default c =
-    c.pass_over-second.ensures.all_words ∙ long c.args.points.now c.args.triangles.now c.args.sizes.now
+    c.pass_over.ensures.all_words ∙ long c.args.points.now c.args.triangles.now c.args.sizes.now
     c.args.guidance.now c.args.o c.args.a c.args.work.now c.args.words.now c.requires.ready_for
     c.requires.first_stands c.cut_sides-cut.ensures c.refine_triangles_within-k.ensures
 
@@ -42,11 +42,11 @@ returns-in_default c =
     second-refused c.args.points.now c.args.triangles.now c.args.sizes.now c.args.guidance.now
     c.args.o c.args.a c.args.work.now c.args.words.now c.requires.ready_for c.requires.first_stands
     c.cut_sides-cut.ensures c.refine_triangles_within-k.ensures c.if-cut-eq0.false c.without_threshold.ensures
-    c.asked_again.ensures c.pass_over-second.ensures _ c.in_default.is c.refused_in.ensures
+    c.asked_again.ensures c.pass_over.ensures _ c.in_default.is c.refused_in.ensures
 
 pub returns : goal.returns
 returns c =
     second-twice c.args.points.now c.args.triangles.now c.args.sizes.now c.args.guidance.now c.args.o
     c.args.a c.args.work.now c.args.words.now c.requires.ready_for c.requires.first_stands c.cut_sides-cut.ensures
     c.refine_triangles_within-k.ensures c.if-cut-eq0.false c.without_threshold.ensures c.asked_again.ensures
-    c.pass_over-second.ensures c.in-Done.is
+    c.pass_over.ensures c.in-Done.is
