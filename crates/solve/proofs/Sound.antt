@@ -1,44 +1,41 @@
 -- The floor of a call that passed rows 1 to 18 is sound, and so are the floor, the options and the guidance of its second pass. Assumes nothing.
-use Prim.Native.Nat.{ℕ, zero, suc, ◌+◌, ◌-◌, ◌*◌, ◌/◌, ◌≤◌, ◌<◌}
+use Prim.Native.Nat.{ℕ, ◌+◌, ◌-◌, ◌*◌, ◌/◌, ◌<◌}
 use native.Mathlib.Omega.{arith}
-use native.Mathlib.Decide.{ℕ_discrete}
-use mathlib.Core.Path.{◌≡◌, refl, sym, ap, ap₂, ◌∙◌, subst}
-use mathlib.Core.Logic.{◌≢◌, ◌⊎◌, inl, inr}
-use mathlib.Core.Bool.{Bool, true, false, not, cond, ◌&&◌, ◌||◌}
+use mathlib.Core.Path.{◌≡◌, refl, sym, ap, ◌∙◌, subst}
+use mathlib.Core.Logic.{◌⊎◌, inl, inr}
+use mathlib.Core.Bool.{Bool, true, false, not, cond, ◌&&◌}
 use mathlib.Core.List.{List, [], ◌∷◌, ◌++◌, map}
 use mathlib.Core.Option.{Option, none, some}
-use borrow.Author.Tests.{ltb-true, ltb-false, le-ltb, eqb-true, eqb-false, eq-eqb, not-false, not-true}
+use borrow.Author.Tests.{ltb-true, ltb-false, le-ltb, eqb-false, eq-eqb, not-false}
 use lib.Dec.{T, eqb, ltb}
 use lib.ListN.{length, get_or, length-append, get_or-append}
 use lib.Seq.{get_or_at, get_or-append-add}
 use lib.Ieee.{Float, nan, inf, fin, binary64, lt, le, of_bits, fits}
 use lib.Ieee.Fits.{mul-fits}
-use lib.Ieee.Bits.{is_true}
 use Rattle.std.specs.Prelude.{Ok}
-use Rattle.float.specs.Double.{lit, is_finite, not_positive, ◌⊕◌, ◌⊗◌}
+use Rattle.float.specs.Double.{lit, is_finite, not_positive}
 use Rattle.float.proofs.Above.{positive-passes}
 use Rattle.complex.specs.Complex.{cadd}
 use Rattle.complex.specs.Angle.{IsCross, cross_angle}
 use Rattle.complex.specs.Guidance.{fourfold, norm_of, SMALLEST-NORM, mean_or, mid_angle}
 use Rattle.complex.proofs.Range.{cross-angle-range}
 use Rattle.linear_cells.proofs.Loops.{length-tab, get_or-tab}
-use Rattle.mesh.specs.Mesh.{Tri, tri, Side, side, key, index_in, mid, split, pieces, refined, refine, lies, All, Good}
+use Rattle.mesh.specs.Mesh.{Tri, tri, Side, side, index_in, mid, split, pieces, refined, refine, lies, All, Good}
 use Rattle.mesh.specs.Claim.{InRange, LowerFirst, TwoEnds}
 use Rattle.mesh.specs.Area.{halfway}
 use Rattle.mesh.specs.Points.{x_of, y_of, size_of}
 use Rattle.mesh.proofs.Cuts.{key-rising}
-use Rattle.floor.specs.Floor.{Floor, point_count, triangle_count, value_at, triangle_at}
+use Rattle.floor.specs.Floor.{point_count, triangle_count, value_at, triangle_at}
 use Rattle.floor.specs.Checks.{lowest, bad_point, bad_size, not_finite_or_below_zero}
 use Rattle.floor.proofs.Lowest.{lowest-before, lowest-clear}
 use Rattle.floor.proofs.Rows.{or-none}
-use Rattle.refinement.specs.Flag.{flagged_tri}
 use Rattle.refinement.specs.Floor.{tris_of, refinement_of}
 use Rattle.refinement.specs.Claim.{Refinement}
 use Rattle.refinement.proofs.Claim.{refinement}
 use Rattle.refinement.proofs.Triangles.{tris-length}
 use Rattle.refinement.specs.Guidance.{mid_angle_on, mid_angles, more_angles}
 use Rattle.pass_options.specs.Table.{no_row, first_of}
-use Rattle.pass_options.specs.Options.{Guidance, unguided, guided, angles_of, bad_weight, not_finite_at, option_rows, guidance_rows}
+use Rattle.pass_options.specs.Options.{Guidance, unguided, guided, not_finite_at, option_rows, guidance_rows}
 use Rattle.pass_options.specs.Pass.{field}
 use Rattle.pass_setup.specs.Rows.{SoundFloor, AcceptedFloor}
 use Rattle.edges.proofs.Split.{length-map}
@@ -49,7 +46,6 @@ use Rattle.pass.specs.Pass.{pass_of}
 use Rattle.pass.proofs.Facts.{pass-facts, was-set-up}
 use Rattle.calls.specs.Checks.{Call, Lent, lengths_of, points_in, triangles_in, table, Ready}
 use Rattle.calls.specs.Solve.{first_floor, first_pass, refined_by, second_floor, without_threshold, extended, refines}
-use Rattle.calls.specs.Claim.{Listed}
 use Rattle.calls.specs.Refusals.{Passes}
 use Rattle.mesh.proofs.Good.{both-good}
 use Rattle.calls.proofs.Lists.{counted-found}

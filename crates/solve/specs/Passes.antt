@@ -20,7 +20,6 @@ use Rattle.calls.specs.Checks.{Call, Lent, call_of, points_in, triangles_in, is_
 use Rattle.refusals.specs.declared.Refusal.{Refusal}
 use Rattle.calls.specs.declared.Counts.{Counts}
 use Rattle.calls.specs.Solve.{first_pass, second_pass, refined_by, refines, in_pass}
-use Rattle.refusals.specs.Refusal.{Verdict}
 
 -- ---- the parameters of `solve`
 

@@ -1,4 +1,6 @@
 -- `solve::passes` meets its contract: the laws of proofs/Made, of what its calls ensure.
+use borrow.Author.Rules.{rules}
+use Rattle.solve.proofs.Errors.{mapped-ok, mapped-err}
 use Rattle.solve.proofs.Made.{first-room, first_below, passes-refused, passes-once, second-asked, passes-twice}
 use Rattle.solve.proofs.passes.Goals as goal
 
@@ -11,25 +13,26 @@ first_pass-requires c = record {
       c.args.work.now c.args.words.now c.requires;
 }
 
-pub returns-in_default : goal.returns-in_default
-returns-in_default c =
+pub returns-in_err-map_err : goal.returns-in_err-map_err
+returns-in_err-map_err c =
+    let m = mapped-err _ _ _ _ c.map_err.ensures.cases c.in_err-map_err.was in
     passes-refused c.args.points.now c.args.triangles.now c.args.sizes.now c.args.guidance.now
     c.args.o c.args.a c.args.work.now c.args.words.now c.requires c.first_pass.ensures _
-    c.in_default.is c.refused_in.ensures
+    m.was (search (rules, m.made))
 
 pub second_pass-requires : goal.second_pass-requires
 second_pass-requires c = let all = second-asked c.args.points.now c.args.triangles.now c.args.sizes.now c.args.guidance.now c.args.o
     c.args.a c.args.work.now c.args.words.now c.requires c.first_pass.ensures c.if-o.true
-    c.in-Done.is in record { ready_for = all.0; first_stands = all.1 }
+    (mapped-ok _ _ _ c.map_err.ensures.cases c.in_ok-map_err.was) in record { ready_for = all.0; first_stands = all.1 }
 
 pub returns-then-o : goal.returns-then-o
 returns-then-o c =
     passes-twice c.args.points.now c.args.triangles.now c.args.sizes.now c.args.guidance.now c.args.o
     c.args.a c.args.work.now c.args.words.now c.requires c.first_pass.ensures c.if-o.true
-    c.in-Done.is c.second_pass.ensures
+    (mapped-ok _ _ _ c.map_err.ensures.cases c.in_ok-map_err.was) c.second_pass.ensures
 
 pub returns : goal.returns
 returns c =
     passes-once c.args.points.now c.args.triangles.now c.args.sizes.now c.args.guidance.now c.args.o
     c.args.a c.args.work.now c.args.words.now c.requires c.first_pass.ensures c.if-o.false
-    c.in-Done.is
+    (mapped-ok _ _ _ c.map_err.ensures.cases c.in_ok-map_err.was)
