@@ -6,9 +6,10 @@ ghost use Rattle.calls.specs.Solve.{solve_of, number_of};
 ghost use Rattle.solve.specs.Passes.{call_for, lent};
 ghost use Rattle.godf.specs.Solve.{boundary_of, options_of, asked_of, report_of, SolveTold, most_of, fine_count, work_reals, work_words, AnswerTold};
 
-use calls::Outcome;
+use calls::Counts;
 use pass::Asked;
 use pass_options::{BoundaryMode, Options};
+use refusals::Refusal;
 
 // Boundary modes: GODF_BOUNDARY_NONE, _TANGENT and _WEAK in godf.h.
 const NONE: f64 = 0.0;
@@ -60,15 +61,15 @@ fn asked_of(guided: u32, weight: f64, iterations: usize) -> Asked
 }
 
 // Fills the report and returns the refusal number, or 0.
-fn tell_outcome(outcome: Outcome, report: &mut [u64; 7]) -> u64
+fn tell_outcome(outcome: Result<Counts, Refusal>, report: &mut [u64; 7]) -> u64
     ensures { (result ≡ number_of outcome) × (report.new ≡ report_of outcome) }
 {
     match outcome {
-        Outcome::Solved(c) => {
+        Ok(c) => {
             *report = [0, 0, 0, 0, 0, c.flagged as u64, c.cut as u64];
             0
         }
-        Outcome::Refused(x) => {
+        Err(x) => {
             *report = [x.number, x.place, x.other, x.pass, x.reason, 0, 0];
             x.number
         }

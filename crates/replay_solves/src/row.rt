@@ -7,7 +7,7 @@ ghost use Rattle.replay_solves.specs.Row.{quarter_at, count_at, given_doubles, h
 ghost use Rattle.replay_solves.specs.Solve.{boundary_in, options_in, asked_in, same_refusal, same_outcome, same_angles, wiped_in, same_work};
 ghost use Rattle.replay_solves.specs.Solve.{solved_on, Lends, solve_on, solve_row};
 
-use calls::Outcome;
+use calls::Counts;
 use pass::Asked;
 use pass_options::{BoundaryMode, Options};
 use replay::rows;
@@ -100,11 +100,11 @@ fn same_refusal(row: &[u8], r: refusals::Refusal) -> bool
     r.other == quarter(row, 12, 1)
 }
 
-fn same_outcome(row: &[u8], o: Outcome) -> bool
+fn same_outcome(row: &[u8], o: Result<Counts, Refusal>) -> bool
     ensures { result ≡ same_outcome row.now o }
 {
     match o {
-        Outcome::Solved(c) => {
+        Ok(c) => {
             if quarter(row, 11, 0) != 0 {
                 return false;
             }
@@ -113,7 +113,7 @@ fn same_outcome(row: &[u8], o: Outcome) -> bool
             }
             c.cut as u64 == quarter(row, 12, 3)
         }
-        Outcome::Refused(r) => same_refusal(row, r),
+        Err(r) => same_refusal(row, r),
     }
 }
 
@@ -188,7 +188,7 @@ fn call(
     fine: &mut [f64],
     work: &mut [f64],
     numbers: &mut [u32],
-) -> Outcome
+) -> Result<Counts, Refusal>
     ensures { Lends row.now (solved_on row.now points.now tris.now sizes.now angles.now
         (lent coarse.old fine.old work.old numbers.old))
         (lent coarse.old fine.old work.old numbers.old)

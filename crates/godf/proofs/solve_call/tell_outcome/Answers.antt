@@ -2,8 +2,8 @@
 use mathlib.Core.Path.{refl}
 use Rattle.godf.proofs.solve_call.tell_outcome.Goals as goal
 
-pub returns-in-Solved : goal.returns-in-Solved
-returns-in-Solved c = simp c.in-Solved.is (refl, refl)
+pub returns-in-Ok : goal.returns-in-Ok
+returns-in-Ok c = simp c.in-Ok.is (refl, refl)
 
-pub returns-in-Refused : goal.returns-in-Refused
-returns-in-Refused c = simp c.in-Refused.is (refl, refl)
+pub returns-in-Err : goal.returns-in-Err
+returns-in-Err c = simp c.in-Err.is (refl, refl)
