@@ -20,11 +20,8 @@ fn mean_or(low: f64, sum: Complex) -> f64
     ensures { result ≡ mean_or low sum }
 {
     let size = norm(sum);
-    if float::is_finite(size) {
-        if size > 1e-12 {
-            return crate::cross_angle(sum);
-        }
-        return low;
+    if float::is_finite(size) && size > 1e-12 {
+        return crate::cross_angle(sum);
     }
     low
 }

@@ -14,7 +14,7 @@ pub const FIELD_SYMMETRY: f64 = 4.0;
 // The size of the largest angle that is taken.
 pub const LARGEST_ANGLE: f64 = 131072.0;
 
-#[derive(Clone, Copy)]
+#[derive(Clone, Copy, PartialEq)]
 pub struct Complex {
     pub re: f64,
     pub im: f64,
@@ -91,11 +91,7 @@ impl Complex {
     pub fn is_zero(self) -> bool
         ensures { result ≡ is_zero self }
     {
-        let zero = Self::ZERO;
-        if self.re == zero.re {
-            return self.im == zero.im;
-        }
-        false
+        self == Self::ZERO
     }
 
     // The angle in [-PI, PI] of the number seen from zero.
@@ -112,11 +108,8 @@ pub fn cross_angle(value: Complex) -> f64
     ensures range { IsCross result }
 {
     let angle = float::rem_euclid(value.argument() / FIELD_SYMMETRY, float::FRAC_PI_2);
-    if 0.0 <= angle {
-        if angle < float::FRAC_PI_2 {
-            return angle;
-        }
-        return 0.0;
+    if 0.0 <= angle && angle < float::FRAC_PI_2 {
+        return angle;
     }
     0.0
 }

@@ -28,6 +28,7 @@ pub struct Closed {
 }
 
 // What the integrals take of ω alone, made once for the three sides of a triangle.
+// Kept: an enum of its own, since neither is an error and neither is missing.
 #[derive(Clone, Copy)]
 pub enum Factors {
     Series(Series),

@@ -1,5 +1,4 @@
--- Where neither the accurate integrals nor the holomorphic correction are asked for, a triangle's terms are the flat ones, whatever its holonomy. Assumes
--- nothing.
+-- Where neither the accurate integrals nor the holomorphic correction are asked for, a triangle's terms are the flat ones, whatever its holonomy. Assumes nothing.
 use mathlib.Core.Path.{◌≡◌, refl}
 use mathlib.Core.Bool.{true, false}
 use lib.Ieee.{Float}

