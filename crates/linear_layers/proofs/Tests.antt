@@ -2,7 +2,7 @@
 use mathlib.Core.Path.{◌≡◌, refl, sym, ap, ◌∙◌}
 use mathlib.Core.Bool.{Bool, true, false, ◌&&◌}
 use mathlib.Core.List.{List}
-use Prim.Native.Nat.{ℕ, ◌+◌, ◌*◌, ◌/◌, ◌^◌, ◌≤◌, ◌<◌}
+use Prim.Native.Nat.{ℕ, ◌+◌, ◌*◌, ◌^◌, ◌≤◌, ◌<◌}
 use native.Mathlib.Omega.{arith}
 use borrow.Author.Tests.{ltb-true, lt-ltb, le-ltb, le-leb, lt-leb}
 use lib.Dec.{ltb, leb}
@@ -27,12 +27,11 @@ use Rattle.linear_cells.proofs.Loops.{apart, length-tab, get_or-tab}
 use Rattle.linear_hermitian.specs.declared.Hermitian.{Hermitian}
 use Rattle.linear_hermitian.specs.Work.{matrix, Graph, ApplyRoom}
 use Rattle.linear_conjugate_gradient.specs.declared.Vectors.{Vectors}
-use Rattle.linear_conjugate_gradient.specs.declared.Answer.{Answer}
-use Rattle.linear_conjugate_gradient.specs.declared.Normalized.{Normalized}
+use Rattle.std.specs.Prelude.{Option, Some, None, Result}
+use Rattle.std.specs.Option.{is_some}
+use Rattle.linear_conjugate_gradient.specs.declared.Reason.{Reason}
 use Rattle.linear_conjugate_gradient.specs.Solve.{solved}
 use Rattle.linear_conjugate_gradient.specs.Work.{read, lay, SolverRoom, Engine, Solved, InMass}
-use Rattle.linear_layers.specs.declared.Checked.{Checked}
-use Rattle.linear_layers.specs.declared.Checked.TheVariants as checked
 use Rattle.linear_layers.specs.Checked.{good, roomy, matrix_for, vectors_for, packing_for, source_for, ends_for, numbers_for, entries_for, outcome, Runs, tested}
 use Rattle.linear_layers.specs.Checked.{solved_work, solved_numbers, solved_answer, SolveChecked, SolveTold, normal_work, normal_answer, NormalChecked}
 
@@ -86,9 +85,6 @@ module _ (n : ℕ) (from to : List ℕ) where
 
 tab-get_or : (l : List ℕ) {n : ℕ} → length l ≡ n → tab (λ j. get_or l j 0) n ≡ l
 tab-get_or l {n} e = ext_get_or 0 _ l (length-tab _ n ∙ sym e) (λ i h. get_or-tab _ n i 0 (omega (arith, length-tab (λ j. get_or l j 0) n)))
-
-pub list_done : (w : List ℕ) (at : ℕ) (l : List ℕ) {w₁ : List ℕ} → w₁ ≡ put w at (tab (λ j. get_or l j 0) (length l)) → w₁ ≡ put w at l
-list_done w at l e = e ∙ ap (put w at) (tab-get_or l refl)
 
 -- ---- the numbers of the packed copy
 
@@ -276,7 +272,7 @@ module _ (w : List Float) (n : ℕ) (from to u : List ℕ) (tolerance : Float) (
       pub gradient-needs : SolverRoom (length w₁) (matrix_for n m) (vectors_for n m) × (Graph (matrix_for n m) from to × Engine w₁ (matrix_for n m) (vectors_for n m) from to u₃ (packing_for n m))
       gradient-needs = (rw all-length (room n from to (length w) ok), (edges-graph, engine))
 
-      pub runs-made : {w₂ : List Float} {a : Answer} → Solved w₁ w₂ n (vectors_for n m) (solved (matrix w₁ (matrix_for n m) from to) tolerance most (read w₁ n (vectors_for n m))) a
+      pub runs-made : {w₂ : List Float} {a : Result ℕ Reason} → Solved w₁ w₂ n (vectors_for n m) (solved (matrix w₁ (matrix_for n m) from to) tolerance most (read w₁ n (vectors_for n m))) a
           → Runs w w₂ n from to u u₃ tolerance most a
       unfolding outcome
       runs-made {w₂} {a} z =
@@ -292,7 +288,7 @@ module _ (w : List Float) (n : ℕ) (from to u : List ℕ) (tolerance : Float) (
       pub run-gradient : SolverRoom (length w₁) h l × (Graph h from to × Engine w₁ h l from to u₃ t)
       run-gradient = rw (eh, el, et) (gradient-needs entries-made)
 
-      pub run-made : {w₂ : List Float} {a : Answer} → Solved w₁ w₂ h.size l (solved (matrix w₁ h from to) tolerance most (read w₁ h.size l)) a → Runs w w₂ n from to u u₃ tolerance most a
+      pub run-made : {w₂ : List Float} {a : Result ℕ Reason} → Solved w₁ w₂ h.size l (solved (matrix w₁ h from to) tolerance most (read w₁ h.size l)) a → Runs w w₂ n from to u u₃ tolerance most a
       unfolding matrix_for
       run-made z = runs-made entries-made (rw (eh, el) at z)
 
@@ -303,7 +299,7 @@ module _ (w : List Float) (n : ℕ) (from to u : List ℕ) (tolerance : Float) (
   unfolding tested
   not_good t = rw (sym e ∙ t) refl
 
-  pub solve-refused : b ≡ false → SolveChecked w w n from to u u tolerance most checked.Refused
+  pub solve-refused : b ≡ false → SolveChecked w w n from to u u tolerance most None
   unfolding solved_work solved_numbers solved_answer
   solve-refused t = record { work = rw (not_good t); numbers = rw (not_good t); result = rw (not_good t) }
 
@@ -316,46 +312,38 @@ module _ (w : List Float) (n : ℕ) (from to u : List ℕ) (tolerance : Float) (
     unfolding tested
     all_tested q = rw (sym e ∙ t, sym f ∙ q) refl
 
-    pub solve-roomless : d ≡ false → SolveChecked w w n from to u u tolerance most checked.Refused
+    pub solve-roomless : d ≡ false → SolveChecked w w n from to u u tolerance most None
     unfolding solved_work solved_numbers solved_answer
     solve-roomless q = record { work = rw (not-roomy q); numbers = rw (not-roomy q); result = rw (not-roomy q) }
 
     pub run-needs : d ≡ true → (good (length w) n from to ≡ true) × (roomy (length u) n (length from) ≡ true)
     run-needs q = (sym e ∙ t, sym f ∙ q)
 
-    module _ (q : d ≡ true) {w₁ : List Float} {u₁ : List ℕ} {a : Answer} (z : Runs w w₁ n from to u u₁ tolerance most a) where
-      pub solve-solved : SolveChecked w w₁ n from to u u₁ tolerance most (checked.Solved a)
+    module _ (q : d ≡ true) {w₁ : List Float} {u₁ : List ℕ} {a : Result ℕ Reason} (z : Runs w w₁ n from to u u₁ tolerance most a) where
+      pub solve-solved : SolveChecked w w₁ n from to u u₁ tolerance most (Some a)
       unfolding solved_work solved_numbers solved_answer
-      solve-solved = record { work = rw (all_tested q) z.work; numbers = rw (all_tested q) z.numbers; result = rw (all_tested q) (ap checked.Solved z.result) }
+      solve-solved = record { work = rw (all_tested q) z.work; numbers = rw (all_tested q) z.numbers; result = rw (all_tested q) (ap Some z.result) }
 
 -- the tests are passed just where there is a solution
-module _ (w : List Float) (n : ℕ) (from to u : List ℕ) (tolerance : Float) (most : ℕ) {w₁ : List Float} {u₁ : List ℕ} {r : Checked} (z : SolveChecked w w₁ n from to u u₁ tolerance most r) where
-  pub told-solved : {a : Answer} → r ≡ checked.Solved a → SolveTold w w₁ n from to u u₁ tolerance most true
+module _ (w : List Float) (n : ℕ) (from to u : List ℕ) (tolerance : Float) (most : ℕ) {w₁ : List Float} {u₁ : List ℕ} {r : Option (Result ℕ Reason)} (z : SolveChecked w w₁ n from to u u₁ tolerance most r) where
+  pub told : SolveTold w w₁ n from to u u₁ tolerance most (is_some r)
   unfolding solved_answer
-  told-solved e = record { work = z.work; numbers = z.numbers; result = passed (tested (length w) n from to (length u)) z.result }
+  told = record { work = z.work; numbers = z.numbers; result = passed (tested (length w) n from to (length u)) z.result }
     where
-      passed : (b : Bool) → r ≡ solved_answer b w n from to tolerance most → true ≡ b
-      passed true f = refl
-      passed false f = let y : ◌≡◌ {A = ℕ} 0 1 = cc in absurd (omega arith)
-
-  pub told-else : ((a : Answer) → r ≡ checked.Solved a → ⊥) → SolveTold w w₁ n from to u u₁ tolerance most false
-  unfolding solved_answer
-  told-else other = record { work = z.work; numbers = z.numbers; result = failed (tested (length w) n from to (length u)) z.result }
-    where
-      failed : (b : Bool) → r ≡ solved_answer b w n from to tolerance most → false ≡ b
-      failed true f = absurd (other _ f)
-      failed false f = refl
+      passed : (b : Bool) → r ≡ solved_answer b w n from to tolerance most → is_some r ≡ b
+      passed true f = rw f
+      passed false f = rw f
 
 module _ (w : List Float) (n : ℕ) (from to : List ℕ) (tolerance : Float) (most : ℕ) {b : Bool} (e : b ≡ good (length w) n from to) where
-  pub normalize-refused : b ≡ false → NormalChecked w w n from to checked.Refused
+  pub normalize-refused : b ≡ false → NormalChecked w w n from to None
   unfolding normal_work normal_answer
   normalize-refused t = record { work = rw (sym e ∙ t); result = rw (sym e ∙ t) }
 
-  pub normalize-normal : b ≡ true → {h : Hermitian} {l : Vectors} {w₁ : List Float} {a : Normalized} → h ≡ matrix_for n (length from) → l ≡ vectors_for n (length from)
+  pub normalize-normal : b ≡ true → {h : Hermitian} {l : Vectors} {w₁ : List Float} {a : Result (Unit {0}) Reason} → h ≡ matrix_for n (length from) → l ≡ vectors_for n (length from)
       → InMass w w₁ l.x l.direction h.size (matrix w h from to) a
-      → NormalChecked w w₁ n from to (checked.Normal a)
+      → NormalChecked w w₁ n from to (Some a)
   unfolding normal_work normal_answer matrix_for
-  normalize-normal t eh el s = record { work = rw (sym e ∙ t) (s.work ∙ rw (eh, el)); result = rw (sym e ∙ t) (ap checked.Normal (s.result ∙ rw (eh, el))) }
+  normalize-normal t eh el s = record { work = rw (sym e ∙ t) (s.work ∙ rw (eh, el)); result = rw (sym e ∙ t) (ap Some (s.result ∙ rw (eh, el))) }
 
 -- what the callees require, from the test's answer
 module _ (len n : ℕ) (from to : List ℕ) {b : Bool} (e : b ≡ good len n from to) (t : b ≡ true) where

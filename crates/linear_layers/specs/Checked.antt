@@ -1,5 +1,5 @@
 -- What the layers answer where every test that they leave to their callers is made first.
-use Rattle.std.specs.Prelude.{◌≡◌, Bool, true, false, ◌&&◌, List, ℕ, ◌+◌, ◌*◌, ◌/◌, ◌^◌, ltb, leb, length, Float}
+use Rattle.std.specs.Prelude.{◌≡◌, Bool, true, false, ◌&&◌, List, ℕ, ◌+◌, ◌*◌, ◌^◌, ltb, leb, length, Option, Some, None, Result, Float}
 use Rattle.linear_cells.specs.Region.{put}
 use Rattle.linear_cells.specs.Cell.{region_c, put_c}
 use Rattle.linear_hermitian.specs.declared.Hermitian.{Hermitian}
@@ -11,12 +11,10 @@ use Rattle.linear_packing.specs.declared.Source.{Source}
 use Rattle.linear_packing.specs.Slots.{entries_of}
 use Rattle.linear_packing.specs.Pack.{packed_in}
 use Rattle.linear_conjugate_gradient.specs.declared.Vectors.{Vectors}
-use Rattle.linear_conjugate_gradient.specs.declared.Answer.{Answer}
+use Rattle.linear_conjugate_gradient.specs.declared.Reason.{Reason}
 use Rattle.linear_conjugate_gradient.specs.Method.{mass_squared}
 use Rattle.linear_conjugate_gradient.specs.Solve.{Outcome, solved, normalized_answer, normalized_vector}
 use Rattle.linear_conjugate_gradient.specs.Work.{read, lay}
-use Rattle.linear_layers.specs.declared.Checked.{Checked}
-use Rattle.linear_layers.specs.declared.Checked.TheVariants.{Refused, Solved, Normal}
 
 -- the work slice has room for n rows, and every edge has two different ends among them (`is_good`)
 unfoldable pub good : ℕ → ℕ → List ℕ → List ℕ → Bool
@@ -62,7 +60,7 @@ outcome w n from to tolerance most =
     solved (matrix w (matrix_for n (length from)) from to) tolerance most (read w n (vectors_for n (length from)))
 
 -- a solve, where all tests are passed (`run`)
-pub record Runs (w w' : List Float) (n : ℕ) (from to u u' : List ℕ) (tolerance : Float) (most : ℕ) (r : Answer) : Type 0 where
+pub record Runs (w w' : List Float) (n : ℕ) (from to u u' : List ℕ) (tolerance : Float) (most : ℕ) (r : Result ℕ Reason) : Type 0 where
   pub work : w' ≡ lay (entries_for w n from to) n (vectors_for n (length from)) (outcome w n from to tolerance most).state
   pub numbers : u' ≡ numbers_for u n from to
   pub result : r ≡ (outcome w n from to tolerance most).answer
@@ -79,12 +77,12 @@ unfoldable pub solved_numbers : Bool → List ℕ → ℕ → List ℕ → List 
 solved_numbers true u n from to = numbers_for u n from to
 solved_numbers false u n from to = u
 
-unfoldable pub solved_answer : Bool → List Float → ℕ → List ℕ → List ℕ → Float → ℕ → Checked
-solved_answer true w n from to tolerance most = Solved (outcome w n from to tolerance most).answer
-solved_answer false w n from to tolerance most = Refused
+unfoldable pub solved_answer : Bool → List Float → ℕ → List ℕ → List ℕ → Float → ℕ → Option (Result ℕ Reason)
+solved_answer true w n from to tolerance most = Some (outcome w n from to tolerance most).answer
+solved_answer false w n from to tolerance most = None
 
 -- what `solve` leaves and returns
-pub record SolveChecked (w w' : List Float) (n : ℕ) (from to u u' : List ℕ) (tolerance : Float) (most : ℕ) (r : Checked) : Type 0 where
+pub record SolveChecked (w w' : List Float) (n : ℕ) (from to u u' : List ℕ) (tolerance : Float) (most : ℕ) (r : Option (Result ℕ Reason)) : Type 0 where
   pub work : w' ≡ solved_work (tested (length w) n from to (length u)) w n from to tolerance most
   pub numbers : u' ≡ solved_numbers (tested (length w) n from to (length u)) u n from to
   pub result : r ≡ solved_answer (tested (length w) n from to (length u)) w n from to tolerance most
@@ -103,10 +101,10 @@ normal_work true w n from to =
     put_c (put_c w l.direction (applied m (region_c w l.x n))) l.x (normalized_vector (mass_squared m (region_c w l.x n)) (region_c w l.x n))
 normal_work false w n from to = w
 
-unfoldable pub normal_answer : Bool → List Float → ℕ → List ℕ → List ℕ → Checked
-normal_answer true w n from to = Normal (normalized_answer (mass_squared (matrix w (matrix_for n (length from)) from to) (region_c w (vectors_for n (length from)).x n)))
-normal_answer false w n from to = Refused
+unfoldable pub normal_answer : Bool → List Float → ℕ → List ℕ → List ℕ → Option (Result (Unit {0}) Reason)
+normal_answer true w n from to = Some (normalized_answer (mass_squared (matrix w (matrix_for n (length from)) from to) (region_c w (vectors_for n (length from)).x n)))
+normal_answer false w n from to = None
 
-pub record NormalChecked (w w' : List Float) (n : ℕ) (from to : List ℕ) (r : Checked) : Type 0 where
+pub record NormalChecked (w w' : List Float) (n : ℕ) (from to : List ℕ) (r : Option (Result (Unit {0}) Reason)) : Type 0 where
   pub work : w' ≡ normal_work (good (length w) n from to) w n from to
   pub result : r ≡ normal_answer (good (length w) n from to) w n from to

@@ -8,19 +8,9 @@ ghost use Rattle.linear_hermitian.specs.Work.{Graph};
 ghost use Rattle.linear_layers.specs.Checked.{good, roomy, matrix_for, vectors_for, packing_for, source_for, numbers_for};
 ghost use Rattle.linear_layers.specs.Checked.{Runs, SolveChecked, SolveTold, NormalChecked};
 
-use linear_conjugate_gradient::{
-    Answer, Normalized, Vectors, conjugate_gradient, normalize_in_mass,
-};
+use linear_conjugate_gradient::{Reason, Vectors, conjugate_gradient, normalize_in_mass};
 use linear_hermitian::Hermitian;
 use linear_packing::{Packing, Source};
-
-#[derive(Clone, Copy)]
-pub enum Checked {
-    // The slices have not the form that is asked for, and nothing was written.
-    Refused,
-    Solved(Answer),
-    Normal(Normalized),
-}
 
 fn is_good(work: &[f64], n: usize, from: &[u32], to: &[u32]) -> bool
     ensures { result ≡ good (length work.now) n from.now to.now }
@@ -110,9 +100,7 @@ fn put_ends(ends: &[u32], numbers: &mut [u32], at: usize)
     requires { at + length ends.now ≤ length numbers.old }
     ensures { numbers.new ≡ put numbers.old at ends.now }
 {
-    for i in 0..ends.len() {
-        numbers[at + i] = ends[i];
-    }
+    numbers[at..at + ends.len()].copy_from_slice(ends);
 }
 
 // What depends on the edges alone of the packed copy.
@@ -137,7 +125,7 @@ fn run(
     numbers: &mut [u32],
     tolerance: f64,
     most: usize,
-) -> Answer
+) -> Result<usize, Reason>
     requires to_value { good (length work.old) n from.now to.now ≡ true }
     requires from_value { roomy (length numbers.old) n (length from.now) ≡ true }
     ensures { Runs work.old work.new n from.now to.now numbers.old numbers.new tolerance most result }
@@ -153,6 +141,7 @@ fn run(
 
 // The slice holds the diagonal, the entries off it, room for those of the packed copy, the iterate's region, the right-hand side, and room for three vectors.
 // `numbers` is scratch for the packed copy: one number for each row and one more, six for each edge, and one for each two rows.
+// None where the slices have not this form: nothing is written then.
 pub fn solve(
     work: &mut [f64],
     n: usize,
@@ -161,16 +150,16 @@ pub fn solve(
     numbers: &mut [u32],
     tolerance: f64,
     most: usize,
-) -> Checked
+) -> Option<Result<usize, Reason>>
     ensures { SolveChecked work.old work.new n from.now to.now numbers.old numbers.new tolerance most result }
 {
     if !is_good(work, n, from, to) {
-        return Checked::Refused;
+        return None;
     }
     if !has_room(numbers, n, from.len()) {
-        return Checked::Refused;
+        return None;
     }
-    Checked::Solved(run(work, n, from, to, numbers, tolerance, most))
+    Some(run(work, n, from, to, numbers, tolerance, most))
 }
 
 // The same for C and Rust: whether the slices have the form that is asked for.
@@ -186,20 +175,17 @@ pub extern "C" fn layers_conjugate_gradient(
 ) -> bool
     ensures { SolveTold work.old work.new n from.now to.now numbers.old numbers.new tolerance most result }
 {
-    match solve(work, n, from, to, numbers, tolerance, most) {
-        Checked::Solved(_) => true,
-        _ => false,
-    }
+    solve(work, n, from, to, numbers, tolerance, most).is_some()
 }
 
 // The same slice; the vector is the iterate's.
-pub fn normalize(work: &mut [f64], n: usize, from: &[u32], to: &[u32]) -> Checked
+pub fn normalize(work: &mut [f64], n: usize, from: &[u32], to: &[u32]) -> Option<Result<(), Reason>>
     ensures { NormalChecked work.old work.new n from.now to.now result }
 {
     if !is_good(work, n, from, to) {
-        return Checked::Refused;
+        return None;
     }
     let h = matrix_for(n, from.len());
     let l = vectors_for(n, from.len());
-    Checked::Normal(normalize_in_mass(work, l.x, l.direction, h, from, to))
+    Some(normalize_in_mass(work, l.x, l.direction, h, from, to))
 }

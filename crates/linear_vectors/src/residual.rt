@@ -167,10 +167,7 @@ fn lagged(
     ensures { lag work.new result ≡ iter (lag_step r q inverse n alpha) count (lag work.old no_sums) }
 {
     let end = 2 * count;
-    let mut s = Sums {
-        square: 0.0,
-        next: 0.0,
-    };
+    let mut s = no_sums();
     let mut i = 0;
     while i < end {
         s = lag_at(work, r, q, inverse, n, alpha, i, s);

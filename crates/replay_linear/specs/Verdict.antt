@@ -1,13 +1,7 @@
 -- The reason of document 01 that an answer has, and the iterations or the place, as they are recorded. Definitions only.
-use Rattle.std.specs.Prelude.{ℕ, ◌/◌, ◌%◌, ◌^◌, Bool, cond}
+use Rattle.std.specs.Prelude.{ℕ, ◌/◌, ◌%◌, ◌^◌, Bool, cond, Option, Some, None, Result, Ok, Err}
 use Rattle.linear_conjugate_gradient.specs.declared.Reason.{Reason}
 use Rattle.linear_conjugate_gradient.specs.declared.Reason.TheVariants.{RightHandNorm, Diagonal, FirstResidual, Denominator, LostDefiniteness, CountSpent, MassOfIterate}
-use Rattle.linear_conjugate_gradient.specs.declared.Answer.{Answer}
-use Rattle.linear_conjugate_gradient.specs.declared.Answer.TheVariants as answer
-use Rattle.linear_conjugate_gradient.specs.declared.Normalized.{Normalized}
-use Rattle.linear_conjugate_gradient.specs.declared.Normalized.TheVariants as normalized
-use Rattle.linear_layers.specs.declared.Checked.{Checked}
-use Rattle.linear_layers.specs.declared.Checked.TheVariants.{Refused, Solved, Normal}
 use Rattle.replay_linear.specs.declared.Verdict.{Verdict}
 
 abbrev pub told_as : ℕ → ℕ → Verdict
@@ -22,18 +16,11 @@ of_reason LostDefiniteness = told_as 7 0
 of_reason CountSpent = told_as 8 0
 of_reason MassOfIterate = told_as 9 0
 
-abbrev pub of_answer : Answer → Verdict
-of_answer (answer.Iterate count) = told_as 0 count
-of_answer (answer.GaveUp r) = of_reason r
-
-abbrev pub of_normalized : Normalized → Verdict
-of_normalized normalized.Done = told_as 0 0
-of_normalized (normalized.GaveUp r) = of_reason r
-
-abbrev pub of_checked : Checked → Verdict
-of_checked Refused = told_as 255 0
-of_checked (Solved a) = of_answer a
-of_checked (Normal a) = of_normalized a
+-- an answer of linear_layers, where normalize_in_mass has no count: None where it refused the slices
+abbrev pub of_checked : Option (Result ℕ Reason) → Verdict
+of_checked None = told_as 255 0
+of_checked (Some (Ok count)) = told_as 0 count
+of_checked (Some (Err r)) = of_reason r
 
 -- one end of an edge: the upper or the lower half of its word
 abbrev pub end_in : ℕ → Bool → ℕ

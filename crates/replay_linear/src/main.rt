@@ -4,10 +4,9 @@
 #![tactic(auto)]
 
 ghost use Rattle.std.specs.Prelude.{◌≡◌, ◌+◌, ◌<◌, ◌≤◌, IfOk, length};
-ghost use Rattle.replay_linear.specs.Verdict.{told_as, of_reason, of_answer, of_normalized, of_checked, end_in};
+ghost use Rattle.replay_linear.specs.Verdict.{told_as, of_reason, of_checked, end_in};
 
-use linear_conjugate_gradient::{Answer, Normalized, Reason};
-use linear_layers::Checked;
+use linear_conjugate_gradient::Reason;
 use replay::rows;
 use replay::rows::Reading;
 use std::io;
@@ -44,31 +43,14 @@ fn told_reason(r: Reason) -> Verdict
     }
 }
 
-fn told_answer(a: Answer) -> Verdict
-    ensures { result ≡ of_answer a }
-{
-    match a {
-        Answer::Iterate(count) => told(0, count as u64),
-        Answer::GaveUp(r) => told_reason(r),
-    }
-}
-
-fn told_normalized(a: Normalized) -> Verdict
-    ensures { result ≡ of_normalized a }
-{
-    match a {
-        Normalized::Done => told(0, 0),
-        Normalized::GaveUp(r) => told_reason(r),
-    }
-}
-
-fn told_checked(c: Checked) -> Verdict
+// An answer of linear_layers: None where it refused the slices.
+fn told_checked(c: Option<Result<usize, Reason>>) -> Verdict
     ensures { result ≡ of_checked c }
 {
     match c {
-        Checked::Refused => told(255, 0),
-        Checked::Solved(a) => told_answer(a),
-        Checked::Normal(a) => told_normalized(a),
+        None => told(255, 0),
+        Some(Ok(count)) => told(0, count as u64),
+        Some(Err(r)) => told_reason(r),
     }
 }
 
@@ -134,7 +116,7 @@ fn load_all(work: &mut [f64], row: &[u8], n: usize, m: usize, base: usize)
     load(work, base + n, row, 160, n);
 }
 
-fn judged(work: &[f64], row: &[u8], n: usize, x: usize, c: Checked) -> bool
+fn judged(work: &[f64], row: &[u8], n: usize, x: usize, c: Option<Result<usize, Reason>>) -> bool
     requires { (length work.now ≡ 400) × ((n ≤ 16) × (x ≤ 256)) }
 {
     let t = told_checked(c);
@@ -153,15 +135,22 @@ fn judged(work: &[f64], row: &[u8], n: usize, x: usize, c: Checked) -> bool
     false
 }
 
-// The first m ends go down.
-fn normalize(work: &mut [f64], n: usize, from: &[u32], to: &[u32], m: usize) -> Checked {
+// The first m ends go down. No iterations are counted.
+fn normalize(
+    work: &mut [f64],
+    n: usize,
+    from: &[u32],
+    to: &[u32],
+    m: usize,
+) -> Option<Result<usize, Reason>> {
     if from.len() < m {
-        return Checked::Refused;
+        return None;
     }
     if to.len() < m {
-        return Checked::Refused;
+        return None;
     }
-    linear_layers::normalize(work, n, &from[..m], &to[..m])
+    let answer = linear_layers::normalize(work, n, &from[..m], &to[..m])?;
+    Some(answer.map(|_| 0))
 }
 
 fn solve(
@@ -173,12 +162,12 @@ fn solve(
     m: usize,
     tolerance: f64,
     most: usize,
-) -> Checked {
+) -> Option<Result<usize, Reason>> {
     if from.len() < m {
-        return Checked::Refused;
+        return None;
     }
     if to.len() < m {
-        return Checked::Refused;
+        return None;
     }
     linear_layers::solve(work, n, &from[..m], &to[..m], numbers, tolerance, most)
 }

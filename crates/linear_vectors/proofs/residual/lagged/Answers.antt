@@ -8,7 +8,7 @@ use Rattle.linear_vectors.proofs.residual.lagged.Goals as goal
 -- an even number of places is added up
 
 pub loop-i-init : goal.loop-i-init
-loop-i-init c = (omega arith, omega arith, omega arith, omega arith, lag-none _ _ _ _ _ _)
+loop-i-init c = (omega arith, omega arith, omega arith, omega arith, rw c.no_sums-s.ensures (lag-none _ _ _ _ _ _))
 
 pub lag_at-s-requires : goal.lag_at-s-requires
 lag_at-s-requires c = omega arith
