@@ -1,20 +1,18 @@
 -- What C is told of a refinement: a row's number or 0, and four numbers. Definitions only.
-use Rattle.std.specs.Prelude.{ℕ, List, [], ◌∷◌, ◌≡◌, length, Float}
-use Rattle.refine_call.specs.declared.Answer.{Answer}
-use Rattle.refine_call.specs.declared.Answer.TheVariants.{Refinement, Refusal}
+use Rattle.std.specs.Prelude.{ℕ, List, [], ◌∷◌, ◌≡◌, length, Float, Ok, Err}
 use Rattle.std.proofs.lemmas.List.Edits.{sets}
 use Rattle.refinement.specs.Floor.{refinement_of, tris_of}
-use Rattle.refine_call.specs.Call.{check_call, answer_of, CalledOn}
+use Rattle.refine_call.specs.Call.{Answer, check_call, answer_of, CalledOn}
 
 -- 0 where the floor is refined, or the row of document 01's table
 abbrev pub code_of : Answer → ℕ
-code_of (Refinement c) = 0
-code_of (Refusal k i) = k
+code_of (Ok c) = 0
+code_of (Err x) = x.number
 
 -- the counts of points, triangles, flagged triangles and cut sides; or the place of a refusal, and three zeros
 abbrev pub numbers_of : Answer → List ℕ
-numbers_of (Refinement c) = c.points ∷ c.triangles ∷ c.flagged ∷ c.cut ∷ []
-numbers_of (Refusal k i) = i ∷ 0 ∷ 0 ∷ 0 ∷ []
+numbers_of (Ok c) = c.points ∷ c.triangles ∷ c.flagged ∷ c.cut ∷ []
+numbers_of (Err x) = x.place ∷ 0 ∷ 0 ∷ 0 ∷ []
 
 -- what the refinement call answers: its points, triangles, sizes, angles and threshold, and the four result slices
 abbrev pub answer_to : List Float → List ℕ → List Float → List Float → Float → List Float → List Float → List ℕ → List ℕ → Answer

@@ -3,6 +3,9 @@ ghost use Rattle.std.specs.Prelude.{◌≡◌, [], ◌∷◌, set};
 ghost use Rattle.std.proofs.lemmas.List.Edits.{sets};
 ghost use Rattle.godf.specs.Report.{code_of, numbers_of, ToldOn};
 
+use refine_call::Counts;
+use refusals::Refusal;
+
 // Sets report[i] to x if the slice is long enough.
 fn put(report: &mut [u64], i: usize, x: u64)
     ensures { report.new ≡ set report.old i x }
@@ -12,6 +15,7 @@ fn put(report: &mut [u64], i: usize, x: u64)
     }
 }
 
+// Kept: four calls are as plain as a loop over an array of four.
 fn put_four(report: &mut [u64], a: u64, b: u64, c: u64, d: u64)
     ensures { report.new ≡ sets report.old 0 (a ∷ b ∷ c ∷ d ∷ []) }
 {
@@ -22,11 +26,11 @@ fn put_four(report: &mut [u64], a: u64, b: u64, c: u64, d: u64)
 }
 
 // Returns the refusal number, or 0, and writes at most report.len() of the four numbers of the report.
-fn tell(answer: refine_call::Answer, report: &mut [u64]) -> u64
+fn tell(answer: Result<Counts, Refusal>, report: &mut [u64]) -> u64
     ensures { (result ≡ code_of answer) × (report.new ≡ sets report.old 0 (numbers_of answer)) }
 {
     match answer {
-        refine_call::Answer::Refinement(c) => {
+        Ok(c) => {
             put_four(
                 report,
                 c.points as u64,
@@ -36,9 +40,9 @@ fn tell(answer: refine_call::Answer, report: &mut [u64]) -> u64
             );
             0
         }
-        refine_call::Answer::Refusal { number, place } => {
-            put_four(report, place, 0, 0, 0);
-            number
+        Err(x) => {
+            put_four(report, x.place, 0, 0, 0);
+            x.number
         }
     }
 }

@@ -7,8 +7,7 @@ use mathlib.Core.List.{List, ◌++◌}
 use lib.ListN.{length, take, drop}
 use lib.Ieee.{Float}
 use Rattle.refinement.specs.Floor.{Refined}
-use Rattle.refine_call.specs.declared.Answer.{Answer}
-use Rattle.refine_call.specs.Call.{Called, CalledOn}
+use Rattle.refine_call.specs.Call.{Answer, Called, CalledOn}
 use Rattle.replay.specs.Words.{word_at}
 use Rattle.replay.specs.Rows.{double_at, at_most, marks, word_marks, front}
 use Rattle.replay.proofs.Fill.{put-back}

@@ -1,11 +1,9 @@
 -- Rows that hold a call of refinement: counts, threshold, lengths of the result slices, the answer's counts, then what is given and the refined floor, each at
 -- its own place. data/README.md has the words. Definitions only.
-use Rattle.std.specs.Prelude.{ℕ, ◌*◌, ◌≡◌, Bool, false, cond, List, ◌++◌, eqb, length, drop, Float}
+use Rattle.std.specs.Prelude.{ℕ, ◌*◌, ◌≡◌, Bool, false, cond, List, ◌++◌, eqb, length, drop, Float, Ok, Err}
 use Rattle.refinement.specs.Floor.{Refined, refinement_of, tris_of, corners_of, ends_of, over}
 use Rattle.refine_call.specs.declared.Counts.{Counts}
-use Rattle.refine_call.specs.declared.Answer.{Answer}
-use Rattle.refine_call.specs.declared.Answer.TheVariants.{Refinement, Refusal}
-use Rattle.refine_call.specs.Call.{check_call, answer_of, left}
+use Rattle.refine_call.specs.Call.{Answer, check_call, answer_of, left}
 use Rattle.replay.specs.Words.{word_at}
 use Rattle.replay.specs.Rows.{double_at, doubles_at, corners_at, at_most, marks, word_marks, front, same_as, same_all}
 use Rattle.refusals.specs.Refusal.{Verdict}
@@ -17,8 +15,8 @@ same_counts row n = cond (eqb n.points (word_at row 11)) (cond (eqb n.triangles 
 
 -- 0 and the counts, or the row of document 01's table and the place
 abbrev pub same_answer : List ℕ → Answer → Bool
-same_answer row (Refinement n) = cond (eqb (word_at row 9) 0) (same_counts row n) false
-same_answer row (Refusal number place) = cond (eqb (word_at row 9) number) (eqb place (word_at row 10)) false
+same_answer row (Ok n) = cond (eqb (word_at row 9) 0) (same_counts row n) false
+same_answer row (Err x) = cond (eqb (word_at row 9) x.number) (eqb x.place (word_at row 10)) false
 
 -- points, sizes, corners and ends of cut sides
 abbrev pub same_four : List Float → List Float → List ℕ → List ℕ → List Float → List Float → List ℕ → List ℕ → Bool

@@ -4,7 +4,8 @@ ghost use Rattle.std.specs.Prelude.{◌≡◌};
 ghost use Rattle.replay.specs.Rows.{front};
 ghost use Rattle.replay_refinements.specs.Floors.{same_counts, same_answer, same_four, same_floor, Lends, found_for, made_for, refinement_on, refinement_row};
 
-use refine_call::{Answer, Counts};
+use refine_call::Counts;
+use refusals::Refusal;
 use replay::rows::{corners, count, double, doubles, same_doubles, same_numbers};
 
 // What the result slices hold before the call.
@@ -15,38 +16,20 @@ const MARK_U32: u32 = 0xdead_beef;
 fn same_counts(row: &[u8], counts: Counts) -> bool
     ensures { result ≡ same_counts row.now counts }
 {
-    if counts.points as u64 != replay::word(row, 11) {
-        return false;
-    }
-    if counts.triangles as u64 != replay::word(row, 12) {
-        return false;
-    }
-    if counts.flagged as u64 != replay::word(row, 13) {
-        return false;
-    }
-    counts.cut as u64 == replay::word(row, 14)
+    counts.points as u64 == replay::word(row, 11)
+        && counts.triangles as u64 == replay::word(row, 12)
+        && counts.flagged as u64 == replay::word(row, 13)
+        && counts.cut as u64 == replay::word(row, 14)
 }
 
 // Whether the answer is the one recorded: 0 and the counts, or the row of document 01's table and the place.
-fn same_answer(row: &[u8], answer: Answer) -> bool
+fn same_answer(row: &[u8], answer: Result<Counts, Refusal>) -> bool
     ensures { result ≡ same_answer row.now answer }
 {
     let told = replay::word(row, 9);
     match answer {
-        Answer::Refinement(counts) => {
-            if told == 0 {
-                same_counts(row, counts)
-            } else {
-                false
-            }
-        }
-        Answer::Refusal { number, place } => {
-            if told == number {
-                place == replay::word(row, 10)
-            } else {
-                false
-            }
-        }
+        Ok(counts) => told == 0 && same_counts(row, counts),
+        Err(x) => told == x.number && x.place == replay::word(row, 10),
     }
 }
 
@@ -64,16 +47,10 @@ fn same_four(
     ensures { result ≡ same_four op.now os.now ot.now oe.now
         points.now sizes.now triangles.now ends.now }
 {
-    if !same_doubles(op, points) {
-        return false;
-    }
-    if !same_doubles(os, sizes) {
-        return false;
-    }
-    if !same_numbers(ot, triangles) {
-        return false;
-    }
-    same_numbers(oe, ends)
+    same_doubles(op, points)
+        && same_doubles(os, sizes)
+        && same_numbers(ot, triangles)
+        && same_numbers(oe, ends)
 }
 
 // Whether the result slices hold what is recorded, and the mark behind it; the counts of a refused call are recorded as 0.
@@ -105,7 +82,7 @@ fn call(
     os: &mut [f64],
     ot: &mut [u32],
     oe: &mut [u32],
-) -> Answer
+) -> Result<Counts, Refusal>
     ensures { Lends row.now (found_for row.now points.now tris.now sizes.now angles.now
         op.old os.old ot.old oe.old)
         (made_for row.now points.now tris.now sizes.now angles.now)

@@ -15,13 +15,20 @@ use std::io;
 use std::io::Read;
 use std::rt::Files;
 
+// The lists.
+#[derive(Clone, Copy)]
+enum List {
+    Refinements,
+    Guidance,
+}
+
 // The words of a row of each list.
-fn width(list: u64) -> usize
+fn width(list: List) -> usize
     ensures { result ≤ 256 }
 {
     match list {
-        0 => 256,
-        _ => 3,
+        List::Refinements => 256,
+        List::Guidance => 3,
     }
 }
 
@@ -38,15 +45,15 @@ fn guidance_row(row: &[u8]) -> bool
 }
 
 // Whether a row holds for the program too.
-fn holds(row: &[u8], list: u64) -> bool {
+fn holds(row: &[u8], list: List) -> bool {
     match list {
-        0 => floors::refinement(row),
-        _ => guidance_row(row),
+        List::Refinements => floors::refinement(row),
+        List::Guidance => guidance_row(row),
     }
 }
 
 // The next row of a list.
-fn some<F: Read>(file: &mut F, at: Reading, list: u64) -> io::Result<Reading>
+fn some<F: Read>(file: &mut F, at: Reading, list: List) -> io::Result<Reading>
     requires { 0 < at.left }
     ensures { IfOk result (λ next. next.left < at.left) }
 {
@@ -59,9 +66,10 @@ fn some<F: Read>(file: &mut F, at: Reading, list: u64) -> io::Result<Reading>
 }
 
 // The whole list.
-fn all_of<R: Files + Print + Eprint>(rt: &R, name: &str, list: u64) -> io::Result<()> {
+fn all_of<R: Files + Print + Eprint>(rt: &R, name: &str, list: List) -> io::Result<()> {
     let mut file = replay::open(rt, name)?;
     let mut at = rows::begin();
+    // Kept: the end comes from the file, so this counts no index.
     while at.left > 0 {
         at = some(&mut file, at, list)?;
     }
@@ -69,6 +77,6 @@ fn all_of<R: Files + Print + Eprint>(rt: &R, name: &str, list: u64) -> io::Resul
 }
 
 fn main(rt: HostRuntime) -> io::Result<()> {
-    all_of(&rt, "refinements", 0)?;
-    all_of(&rt, "guidance", 1)
+    all_of(&rt, "refinements", List::Refinements)?;
+    all_of(&rt, "guidance", List::Guidance)
 }

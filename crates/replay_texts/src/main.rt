@@ -19,32 +19,19 @@ fn length_in(column: &[u8], most: usize) -> usize
     ensures { result ≤ most }
 {
     let n = text_columns::size(text_columns::scan_column(column)) as usize;
-    if n < most {
-        return n;
-    }
-    most
+    n.min(most)
 }
 
 // Whether a slice holds the mark from n on.
 fn marked(out: &[u8], n: usize) -> bool {
-    let mut i = n;
-    while i < out.len() {
-        if out[i] != MARK {
-            return false;
-        }
-        i += 1;
-    }
-    true
+    out.iter().skip(n).all(|&b| b == MARK)
 }
 
 // Whether the text prints what it must, and nothing behind it.
 fn prints(text: &[u8], must: &[u8]) -> bool {
     let mut out = [MARK; 29500];
     let n = text_answer::answer(text, &mut out);
-    if &out[..n] == must {
-        return marked(&out, n);
-    }
-    false
+    &out[..n] == must && marked(&out, n)
 }
 
 // An entry of so many bytes each, over slices for the text and what it must print.
@@ -59,10 +46,7 @@ fn entry_over<F: Read>(
 {
     let n = replay::read_full(file, &mut a[0..text])?;
     let m = replay::read_full(file, &mut b[0..must])?;
-    if n != text {
-        return Ok(false);
-    }
-    if m != must {
+    if n != text || m != must {
         return Ok(false);
     }
     let given: &[u8] = a;
@@ -100,6 +84,7 @@ fn some<F: Read>(file: &mut F, at: Reading) -> io::Result<Reading>
 fn all_of<R: Files + Print + Eprint>(rt: &R, name: &str) -> io::Result<()> {
     let mut file = replay::open(rt, name)?;
     let mut at = rows::begin();
+    // Kept: the end comes from the file, so this counts no index.
     while at.left > 0 {
         at = some(&mut file, at)?;
     }

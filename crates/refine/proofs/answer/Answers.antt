@@ -32,6 +32,6 @@ told (Some xs) (Some ys) old new buf n size s h p e w =
 pub returns : goal.returns
 returns g c =
     on_ok_weaker _
-    (told _ _ _ _ c.read_full.new.buf c.in_ok-n.n 9748 (omega (arith, length-replicate {A = ℕ} 9748 0)) c.in_ok-n.ensures.count c.in_ok-n.ensures.bytes
+    (told _ _ _ _ c.read_full.new.buf c.in_ok-n.n 9748 (omega (arith, length-replicate {A = ℕ} 9748 0)) c.in_ok-n.ensures.count.0 c.in_ok-n.ensures.bytes
     (λ k. c.in_ok-n.ensures.ended (omega (arith, length-replicate {A = ℕ} 9748 0))))
     c.print.ensures

@@ -6,10 +6,10 @@ use lib.Seq.{sets}
 use Rattle.godf.specs.Report.{code_of, numbers_of}
 use Rattle.godf.proofs.refine.tell.Goals as goal
 
-pub returns-in-Refinement : goal.returns-in-Refinement
-returns-in-Refinement c =
-    (sym (ap code_of c.in-Refinement.is), c.put_four.ensures ∙ ap (λ (l : List ℕ). sets c.args.report.now 0 l) (sym (ap numbers_of c.in-Refinement.is)))
+pub returns-in-Ok : goal.returns-in-Ok
+returns-in-Ok c =
+    (sym (ap code_of c.in-Ok.is), c.put_four.ensures ∙ ap (λ (l : List ℕ). sets c.args.report.now 0 l) (sym (ap numbers_of c.in-Ok.is)))
 
-pub returns-in-Refusal : goal.returns-in-Refusal
-returns-in-Refusal c =
-    (sym (ap code_of c.in-Refusal.is), c.put_four-in-Refusal.ensures ∙ ap (λ (l : List ℕ). sets c.args.report.now 0 l) (sym (ap numbers_of c.in-Refusal.is)))
+pub returns-in-Err : goal.returns-in-Err
+returns-in-Err c =
+    (sym (ap code_of c.in-Err.is), c.put_four-in-Err.ensures ∙ ap (λ (l : List ℕ). sets c.args.report.now 0 l) (sym (ap numbers_of c.in-Err.is)))
