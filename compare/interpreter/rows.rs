@@ -3,7 +3,7 @@
 use crate::{
     program::{Native, Program},
     run::{bits, list, Machine, Primitive, Value},
-    text::{stop, Entity, Stop, Texts},
+    text::{stop, Entity, Stop, Texts, ERR, OK},
 };
 use std::{
     collections::BTreeMap,
@@ -79,7 +79,6 @@ pub struct Solver {
     guided: u32,
     unguided: u32,
     boundary: [u32; 3],
-    solved: u32,
     leaves: BTreeMap<&'static str, usize>,
 }
 
@@ -218,7 +217,6 @@ impl Solver {
         );
         let [guided, unguided] = ["guided", "unguided"].map(|name| texts.constructor(calls, name));
         let boundary = ["None", "Tangent", "Weak"].map(|v| texts.variant("pass_options", "BoundaryMode", v));
-        let solved = texts.variant("calls", "Outcome", "Solved");
         let mut roots = vec![solve, pass];
         let mut named = BTreeMap::new();
         if leaves {
@@ -239,7 +237,6 @@ impl Solver {
             guided,
             unguided,
             boundary,
-            solved,
             leaves: named,
         };
         solver.natives_hold();
@@ -344,7 +341,7 @@ impl Solver {
             stop("an outcome with no part".to_string())
         };
         let part = |name: u32| machine.field(&parts[0], name).nat() as usize;
-        let told = if *tag == self.solved {
+        let told = if *tag == OK {
             [0, 0, 0, 0, 0, part(flagged_of), part(cut_of)]
         } else {
             [
@@ -441,15 +438,14 @@ impl Solver {
     }
 
     fn geometry(&mut self, r: &[u64]) -> bool {
-        let degenerate = self.program.texts.variant("geometry", "Geometry", "Degenerate");
         let corners = [0, 2, 4].map(|k| self.pair(&r[k..k + 2]));
         let numbers = [0, 1, 2].map(Value::Nat);
         let arguments = [numbers.to_vec(), corners.to_vec(), vec![Value::Nat(7)]].concat();
         let Value::Data(tag, parts) = self.machine.run(self.leaves["geometry"], arguments) else {
             return false;
         };
-        if tag == degenerate {
-            return r[9] == 19 && parts[0].nat() == 7;
+        if tag == ERR {
+            return r[9] == 19 && self.part(&parts[0], "triangle").nat() == 7;
         }
         let [p, q, third, area, second] = ["p", "q", "r", "area", "j"].map(|name| {
             let name = self.program.field(name);
@@ -463,7 +459,6 @@ impl Solver {
     }
 
     fn transport(&mut self, r: &[u64]) -> bool {
-        let mean = self.program.texts.variant("geometry", "Transport", "MeanSize");
         let ends = [(3, 0, 4, 6), (5, 2, 5, 8)].map(|(vertex, at, size, gradient)| {
             let (position, gradient) = (self.pair(&r[at..at + 2]), self.pair(&r[gradient..gradient + 2]));
             let fields = [
@@ -478,7 +473,7 @@ impl Solver {
         let Value::Data(tag, parts) = self.machine.run(self.leaves["transport"], ends.to_vec()) else {
             return false;
         };
-        if tag == mean {
+        if tag == ERR {
             return r[10] == 22;
         }
         r[10] == 0 && self.plain(&parts[0], &["re", "im"]) == r[11..13]
@@ -548,13 +543,13 @@ impl Solver {
         let answer = self
             .machine
             .run(self.leaves["answer"], vec![check.clone(), refined.clone()]);
-        let accepted = self.program.texts.variant("refine_call", "Answer", "Refinement");
         let Value::Data(tag, parts) = answer else { return false };
-        let told: Vec<u128> = if tag == accepted {
+        let told: Vec<u128> = if tag == OK {
             let counts = ["points", "triangles", "flagged", "cut"].map(|name| self.part(&parts[0], name).nat());
             [vec![0, 0], counts.to_vec()].concat()
         } else {
-            [vec![parts[0].nat(), parts[1].nat()], vec![0; 4]].concat()
+            let told = ["number", "place"].map(|name| self.part(&parts[0], name).nat());
+            [told.to_vec(), vec![0; 4]].concat()
         };
         if told != r[9..15].iter().map(|w| u128::from(*w)).collect::<Vec<_>>() {
             return false;
@@ -563,7 +558,7 @@ impl Solver {
             ["points", "sizes", "triangles", "cut"].map(|name| self.part(&refined, name));
         let corners = self.machine.run(self.leaves["corners"], vec![triangles]);
         let ends = self.machine.run(self.leaves["ends"], vec![cut]);
-        let made = if tag == accepted {
+        let made = if tag == OK {
             [3 * r[11], r[11], 3 * r[12], 2 * r[14]]
         } else {
             [0; 4]

@@ -1,6 +1,6 @@
 //! Values, and the machine that evaluates.
 
-use crate::text::{stop, NEGSUC, POS};
+use crate::text::{stop, NEGSUC, NONE, POS, SOME};
 use std::{
     cell::{Cell, RefCell},
     collections::HashMap,
@@ -114,6 +114,8 @@ pub enum Primitive {
     Leb,
     Not,
     Cond,
+    Position,
+    MapOr,
     And,
     Or,
     Cons,
@@ -156,7 +158,7 @@ use Primitive as P;
 pub const OTHER_TYPE: &str = "type: ";
 
 /// The library's functions.
-pub const LIBRARY: [(&str, Primitive, usize); 51] = [
+pub const LIBRARY: [(&str, Primitive, usize); 53] = [
     ("Rattle.std.specs.Prelude.suc", P::Suc, 1),
     ("Rattle.std.specs.Prelude.◌+◌", P::Plus, 2),
     ("Rattle.std.specs.Prelude.◌-◌", P::Minus, 2),
@@ -179,6 +181,8 @@ pub const LIBRARY: [(&str, Primitive, usize); 51] = [
     ("Rattle.std.specs.Prelude.◌∷◌", P::Cons, 2),
     ("Rattle.std.specs.Prelude.◌++◌", P::Append, 2),
     ("Rattle.std.specs.Prelude.map", P::Map, 2),
+    ("Rattle.std.specs.Prelude.position", P::Position, 2),
+    ("Rattle.std.specs.Option.option_map_or", P::MapOr, 3),
     ("Rattle.std.specs.Prelude.reverse", P::Reverse, 1),
     ("Rattle.std.specs.Prelude.length", P::Length, 1),
     ("Rattle.std.specs.Prelude.get_or", P::GetD, 3),
@@ -1085,6 +1089,15 @@ impl Machine {
                     .collect();
                 list(items)
             }
+            P::Position => {
+                let found = b
+                    .items()
+                    .iter()
+                    .position(|item| self.apply(a.clone(), vec![item.clone()]).bool());
+                found.map_or(Value::Tag(NONE), |i| {
+                    Value::Data(SOME, Rc::new([Value::Nat(i as u64)]))
+                })
+            }
             P::Replicate => list(vec![b; a.short() as usize]),
             P::Take => list(b.items()[..a.index().min(b.items().len())].to_vec()),
             P::Drop => list(b.items()[a.index().min(b.items().len())..].to_vec()),
@@ -1131,6 +1144,11 @@ impl Machine {
                     c
                 }
             }
+            P::MapOr => match b {
+                Value::Data(SOME, parts) => self.apply(a, vec![parts[0].clone()]),
+                Value::Tag(NONE) => c,
+                _ => stop(OTHER_TYPE.to_string() + "an option is expected"),
+            },
             P::GetD => a.items().get(b.index()).cloned().unwrap_or(c),
             P::Set => {
                 if b.index() >= a.items().len() {

@@ -214,14 +214,24 @@ const LIBRARY_FIXITIES: [(&str, usize, Side); 14] = [
     ("◌^◌", 75, Side::Right),
 ];
 
-/// The library's constructors that are ordinary data here: `none` and `some`, then these.
+/// The library's constructors that are ordinary data here: `none` and `some`, then these, and `tt`, which no `use` brings in.
 pub const POS: u32 = 2;
 pub const NEGSUC: u32 = 3;
-const LIBRARY_CONSTRUCTORS: [(&str, &str, usize); 4] = [
+pub const NONE: u32 = 4;
+pub const SOME: u32 = 5;
+pub const OK: u32 = 6;
+pub const ERR: u32 = 7;
+const UNIT: u32 = 8;
+const LIBRARY_CONSTRUCTORS: [(&str, &str, usize); 9] = [
     ("Rattle.std.proofs.Math.Option.none", "none", 0),
     ("Rattle.std.proofs.Math.Option.some", "some", 1),
     ("Rattle.std.specs.Prelude.pos", "pos", 1),
     ("Rattle.std.specs.Prelude.negsuc", "negsuc", 1),
+    ("Rattle.std.specs.Prelude.None", "None", 0),
+    ("Rattle.std.specs.Prelude.Some", "Some", 1),
+    ("Rattle.std.specs.Prelude.Ok", "Ok", 1),
+    ("Rattle.std.specs.Prelude.Err", "Err", 1),
+    ("tt", "tt", 0),
 ];
 
 /// All definitions.
@@ -659,8 +669,10 @@ impl Texts {
         if let Some(entity) = known.names.get(name) {
             return Some(entity.clone());
         }
-        let (module, original) = known.uses.get(name)?;
-        self.within(module, original)
+        match known.uses.get(name) {
+            Some((module, original)) => self.within(module, original),
+            None => (name == "tt").then_some(Entity::Constructor(UNIT)),
+        }
     }
 
     pub fn alias(&self, file: usize, name: &str) -> Option<&Module> {
