@@ -154,6 +154,7 @@ fn lag_at(
 
 // Pairs 1 to `count`, with the sums one pair behind: so that the chain of additions waits for no store. The loop counts by the place, which the
 // compiler then keeps in one register as the index of all that is loaded and stored.
+// Kept: a `while`, as in linear_pairs::pair_terms, where a range by twos takes more instructions.
 fn lagged(
     work: &mut [f64],
     r: usize,

@@ -1,7 +1,6 @@
 -- `linear_packing::follows` meets its contract: the loop keeps what `Inv-loop` says, and what is left to do falls at each iteration; the laws are in proofs/Making.
-use Prim.Native.Nat.{◌*◌, ◌+◌, ◌-◌}
+use Prim.Native.Nat.{◌*◌, ◌+◌}
 use native.Mathlib.Omega.{arith}
-use mathlib.Core.Bool.{true}
 use Rattle.linear_packing.proofs.Making.{follow-none, follow-again, follow-stops, follow-done}
 use Rattle.linear_packing.proofs.follows.Goals as goal
 

@@ -1,6 +1,5 @@
 -- `linear_packing::interleave` meets its contract: the loop keeps what `Inv-loop` says, and what is left to do falls at each iteration; the laws are in proofs/Interleaving.
 use mathlib.Core.Path.{◌∙◌, ap}
-use Prim.Native.Nat.{◌-◌}
 use native.Mathlib.Omega.{arith}
 use lib.ListN.{length}
 use Rattle.linear_packing.proofs.Interleaving.{interleave-none, length-interleaved_to, interleave-still, interleave-again, interleave-done}

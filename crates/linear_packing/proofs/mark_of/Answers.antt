@@ -59,9 +59,9 @@ overflow_sub-e-2 c =
 pub overflow_add-result : goal.overflow_add-result
 overflow_add-result c =
     let order = starts-in-order _ _ _ _ c.start_of-k.ensures c.start_of-l.ensures c.start_of-e.ensures c.requires.0.started c.requires.1 in
-    omega (arith, order.0, order.1, order.2, c.least-m.ensures, c.requires.0.started.room.narrow, kind-few _ _ _ c.kind_of.ensures)
+    omega (arith, order.0, order.1, order.2, c.least-m.ensures, c.requires.0.started.room.narrow, kind-few _ _ _ c.kind_of.ensures, c.number.ensures)
 
 pub returns : goal.returns
 returns c =
     mark-told c.args.u.now c.args.copy c.args.source c.args.g c.start_of-k.ensures c.start_of-l.ensures c.start_of-e.ensures
-    c.requires.0 c.least-m.ensures c.follows-adjacent.ensures c.kind_of.ensures
+    c.requires.0 c.least-m.ensures c.follows-adjacent.ensures c.kind_of.ensures c.number.ensures

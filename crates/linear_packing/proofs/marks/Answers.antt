@@ -1,6 +1,5 @@
 -- `linear_packing::marks` meets its contract: the loop keeps what `Inv-loop` says, and what is left to do falls at each iteration; the laws are in proofs/Making.
 use mathlib.Core.Path.{◌∙◌, ap}
-use Prim.Native.Nat.{◌-◌}
 use native.Mathlib.Omega.{arith}
 use lib.ListN.{length}
 use Rattle.linear_packing.proofs.Making.{marks-none, length-marks_to, marks-copied, marks-again, marks-done}

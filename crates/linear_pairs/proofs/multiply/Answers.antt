@@ -1,5 +1,4 @@
 -- `linear_pairs::multiply` meets its contract: the loop keeps what `Inv-loop` says, and what is left to do falls at each iteration; the laws are in proofs/Product.
-use Prim.Native.Nat.{◌-◌}
 use native.Mathlib.Omega.{arith}
 use Rattle.linear_pairs.proofs.Product.{product-none, dot-none, slot-none, stream-in, rows_in, rows-again, single-in, product-odd, product-even}
 use Rattle.linear_pairs.proofs.multiply.Goals as goal

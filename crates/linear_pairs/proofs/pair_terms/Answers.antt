@@ -1,5 +1,5 @@
 -- `linear_pairs::pair_terms` meets its contract: the loop keeps what `Inv-loop` says, and what is left to do falls at each iteration; the laws are in proofs/Sums.
-use Prim.Native.Nat.{◌+◌, ◌-◌}
+use Prim.Native.Nat.{◌+◌}
 use native.Mathlib.Omega.{arith}
 use Rattle.linear_pairs.proofs.Sums.{term_in, pair-terms-none, pair-terms-again, pair-terms-done}
 use Rattle.linear_pairs.proofs.pair_terms.Goals as goal

@@ -1,6 +1,5 @@
 -- `linear_vectors::advance` meets its contract: the loop keeps what `Inv-loop` says, and what is left to do falls at each iteration; the laws are in proofs/Directions.
 use Rattle.linear_vectors.proofs.Directions.{advance-none, advance-again, advance-done}
-use Prim.Native.Nat.{◌-◌}
 use borrow.Author.Rules.{rules}
 use Rattle.linear_vectors.proofs.advance.Goals as goal
 

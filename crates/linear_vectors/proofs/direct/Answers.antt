@@ -1,6 +1,5 @@
 -- `linear_vectors::direct` meets its contract: the loop keeps what `Inv-loop` says, and what is left to do falls at each iteration; the laws are in proofs/Directions.
 use Rattle.linear_vectors.proofs.Directions.{direct-none, direct-again, direct-done}
-use Prim.Native.Nat.{◌-◌}
 use borrow.Author.Rules.{rules}
 use Rattle.linear_vectors.proofs.direct.Goals as goal
 

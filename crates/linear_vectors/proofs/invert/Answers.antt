@@ -1,6 +1,5 @@
 -- `linear_vectors::invert` meets its contract: the loop keeps what `Inv-loop` says, and what is left to do falls at each iteration; the laws are in proofs/Inverses.
 use Rattle.linear_vectors.proofs.Inverses.{invert-none, invert-again, invert-done}
-use Prim.Native.Nat.{◌-◌}
 use borrow.Author.Rules.{rules}
 use Rattle.linear_vectors.proofs.invert.Goals as goal
 

@@ -1,6 +1,5 @@
 -- `linear_vectors::scale_by` meets its contract: the loop keeps what `Inv-loop` says, and what is left to do falls at each iteration; the laws are in proofs/Scale.
 use Rattle.linear_vectors.proofs.Scale.{scale-none, scale-again, scale-done}
-use Prim.Native.Nat.{◌-◌}
 use borrow.Author.Rules.{rules}
 use Rattle.linear_vectors.proofs.scale_by.Goals as goal
 

@@ -1,6 +1,5 @@
 -- `linear_vectors::residual::add_cells` meets its contract: the loop keeps what `Inv-loop` says, and what is left to do falls at each iteration; the laws are in proofs/Sweeps.
 use Rattle.linear_vectors.proofs.Sweeps.{add_none, add-again, add_done}
-use Prim.Native.Nat.{◌-◌}
 use borrow.Author.Rules.{rules}
 use Rattle.linear_vectors.proofs.residual.add_cells.Goals as goal
 

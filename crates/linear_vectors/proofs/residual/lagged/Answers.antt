@@ -1,6 +1,5 @@
 -- `linear_vectors::residual::lagged` meets its contract: the loop keeps what `Inv-loop` says, and what is left to do falls at each iteration; the laws are in proofs/Sweeps.
 use Rattle.linear_vectors.proofs.Sweeps.{lag-none, lag-again, lag-done}
-use Prim.Native.Nat.{◌-◌}
 use native.Mathlib.Omega.{arith}
 use borrow.Author.Rules.{rules}
 use Rattle.linear_vectors.proofs.residual.lagged.Goals as goal

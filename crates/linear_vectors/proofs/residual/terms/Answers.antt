@@ -1,6 +1,5 @@
 -- `linear_vectors::residual::terms` meets its contract: the loop keeps what `Inv-loop` says, and what is left to do falls at each iteration; the laws are in proofs/Sweeps.
 use Rattle.linear_vectors.proofs.Sweeps.{terms-none, terms-again, terms-done}
-use Prim.Native.Nat.{◌-◌}
 use native.Mathlib.Omega.{arith}
 use borrow.Author.Rules.{rules}
 use Rattle.linear_vectors.proofs.residual.terms.Goals as goal
