@@ -37,6 +37,7 @@ pub struct Meetings {
 }
 
 // The bucket of a side, of n.
+#[tactic(auto, unfolding(crate::specs::Table::slot_of))]
 fn slot(n: usize, a: u32, b: u32) -> usize
     requires { 0 < n }
     ensures { (result ≡ slot_of n a b) × (result < n) }
@@ -52,6 +53,7 @@ fn slot(n: usize, a: u32, b: u32) -> usize
 const PATH_BASE: usize = 0x2_0000;
 
 // The path of a side.
+#[tactic(auto, unfolding(crate::specs::Table::path_of))]
 fn path(a: u32, b: u32) -> usize
     ensures { result ≡ path_of a b }
 {

@@ -1,5 +1,6 @@
 // A table of sides in two slices: `ends` has the lower and the upper end of each side and nothing else, `links` the buckets, from the table's base on, and two
 // links of each side. So the ends can stand where a caller wants them (specs/TwoSlices.antt).
+// Kept: one generic over where the rows stand would need a trait of four reads and a write, with laws, and views of each table for & and &mut: more than the copies.
 ghost use Rattle.std.specs.Prelude.{◌≡◌, ◌+◌, ◌*◌, ◌<◌, ◌≤◌, ◌^◌, length, IfSome};
 ghost use Rattle.mesh.specs.Mesh.{side, key, tri, index_in};
 ghost use Rattle.edges.specs.Table.{place};

@@ -36,6 +36,7 @@ struct ResultLengths {
     ends: usize,
 }
 
+#[tactic(auto, unfolding(crate::specs::Call::short))]
 fn is_short(n: usize, t: usize, l: ResultLengths) -> bool
     requires { (n ≤ MOST-POINTS) × (t ≤ MOST-TRIANGLES) }
     ensures { result ≡ short n t l.points l.sizes l.triangles l.ends }
@@ -50,6 +51,7 @@ fn is_short(n: usize, t: usize, l: ResultLengths) -> bool
 }
 
 // Rows 5, by the count of angles, 12 and 18.
+#[tactic(auto, unfolding(crate::specs::Call::check_rest))]
 fn check_rest(
     n: usize,
     t: usize,

@@ -15,6 +15,7 @@ ghost use Rattle.refinement.specs.Stored.{Stored};
 use edges::Table;
 
 // How far the field turns along a side, from the angles at its ends.
+#[tactic(auto, unfolding(crate::specs::Flag::turn_along))]
 pub fn turn_along(a: f64, b: f64) -> f64
     ensures { result ≡ turn_along a b }
 {
@@ -23,6 +24,7 @@ pub fn turn_along(a: f64, b: f64) -> f64
 }
 
 // The largest turn over the sides of a triangle whose corners have these angles.
+#[tactic(auto, unfolding(crate::specs::Flag::variation))]
 pub fn largest_turn(a: f64, b: f64, c: f64) -> f64
     ensures { result ≡ variation a b c }
 {
@@ -41,6 +43,7 @@ pub fn triangle_field_variation(alpha: &[f64], a: u32, b: u32, c: u32) -> f64
     largest_turn(x, y, z)
 }
 
+#[tactic(auto, unfolding(crate::specs::Flag::flagged_tri, crate::specs::Flag::flagged))]
 pub fn is_flagged(alpha: &[f64], threshold: f64, a: u32, b: u32, c: u32) -> bool
     ensures { result ≡ flagged_tri threshold alpha.now (tri a b c) }
 {

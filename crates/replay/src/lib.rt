@@ -23,6 +23,7 @@ use std::rt::Files;
 // b'a' less the 10 that it stands for.
 const HEX_A: u8 = 87;
 
+#[tactic(auto, unfolding(crate::specs::Words::digit_of))]
 fn digit(b: u8) -> u64
     ensures { (result ≡ digit_of b) × (result < 16) }
 {
@@ -41,6 +42,7 @@ fn digit(b: u8) -> u64
     0
 }
 
+#[tactic(auto, unfolding(crate::specs::Words::digit_of))]
 fn digit_at(text: &[u8], j: usize) -> u64
     ensures { (result ≡ digit_of (slice_index text.now j)) × (result < 16) }
 {
@@ -72,6 +74,7 @@ fn is_nan_pattern(b: u64) -> bool
 }
 
 // Whether two patterns stand for the same double. All NaNs count as equal.
+#[tactic(auto, unfolding(crate::specs::Words::same_double))]
 pub fn same_double(a: u64, b: u64) -> bool
     ensures { result ≡ same_double a b }
 {

@@ -62,6 +62,7 @@ fn corner(row: &[u8], k: usize) -> u32
 }
 
 // The corners of a row.
+// Kept: it differs from `doubles` in how a word is read; a generic one would take that as a closure with clauses.
 pub fn corners(row: &[u8], k: usize, n: usize, out: &mut [u32])
     requires { k + length out.old ≤ 0x1000_0000 }
     ensures { out.new ≡ sets out.old 0 (up_to (λ i. corner_at row.now (k + i)) (at_most (length out.old) n)) }

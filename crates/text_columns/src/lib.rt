@@ -8,6 +8,7 @@ ghost use Rattle.std.proofs.lemmas.List.Edits.{sets};
 ghost use Rattle.text_columns.specs.Columns.{is_lead, is_digit, after_blank, after_minus, step, scan, is_number, is_whole, size_of, double_of, blank_or_digit, column_of, columns_of, line_of};
 
 // What the bytes of a column have shown so far.
+// Kept: six states of a reader, of which three are numbers; no Option says them.
 #[derive(Clone, Copy)]
 pub enum Scan {
     // Blanks, or nothing yet.
@@ -30,18 +31,21 @@ pub enum Scan {
 const DIGIT_0: u64 = 48;
 
 // A digit that a number above 9 may start with.
+#[tactic(auto, unfolding(crate::specs::Columns::is_lead))]
 fn is_lead(b: u8) -> bool
     ensures { result ≡ is_lead b }
 {
     b'0' < b && b < b':'
 }
 
+#[tactic(auto, unfolding(crate::specs::Columns::is_digit))]
 fn is_digit(b: u8) -> bool
     ensures { result ≡ is_digit b }
 {
     b'/' < b && b < b':'
 }
 
+#[tactic(auto, unfolding(crate::specs::Columns::after_blank, crate::specs::Columns::is_lead))]
 fn after_blank(b: u8) -> Scan
     ensures { result ≡ after_blank b }
 {
@@ -60,6 +64,7 @@ fn after_blank(b: u8) -> Scan
     Scan::Bad
 }
 
+#[tactic(auto, unfolding(crate::specs::Columns::after_minus, crate::specs::Columns::is_lead))]
 fn after_minus(b: u8) -> Scan
     ensures { result ≡ after_minus b }
 {
@@ -70,6 +75,7 @@ fn after_minus(b: u8) -> Scan
 }
 
 // n with the digit b behind it; none if b is no digit.
+#[tactic(auto, unfolding(crate::specs::Columns::is_digit))]
 fn with_digit(n: u64, b: u8) -> Option<u64>
     requires { n < 1000000 }
     ensures { result ≡ cond (is_digit b) (Some (10 * n + (b - 48))) None }
@@ -80,6 +86,7 @@ fn with_digit(n: u64, b: u8) -> Option<u64>
     None
 }
 
+#[tactic(auto, unfolding(crate::specs::Columns::step))]
 fn step_on(s: Scan, b: u8) -> Scan
     requires { size_of s < 1000000 }
     ensures { result ≡ step s b }
@@ -142,6 +149,7 @@ pub fn double(s: Scan) -> f64
 // ---- writing
 
 // The last digit of n, or a blank where no digit is left.
+#[tactic(auto, unfolding(crate::specs::Columns::blank_or_digit))]
 fn blank_or_digit(n: u64) -> u8
     ensures { result ≡ blank_or_digit n }
 {

@@ -2,7 +2,6 @@
 use Prim.Native.Nat.{ℕ}
 use mathlib.Core.Path.{◌≡◌, subst}
 use mathlib.Core.Bool.{Bool, true, false, cond}
-use Rattle.std.proofs.Common.{rules}
 use Rattle.std.specs.Prelude.{Option, MatchOption}
 use Rattle.std.specs.declared.option.Option.TheVariants.{None, Some}
 use Rattle.text_columns.specs.Columns.{step}
@@ -15,14 +14,6 @@ more : (t : Bool) (m : ℕ) (o : Option ℕ) (make : ℕ → Scan) (r : Scan) �
 more true m o make r e h = subst (λ p. MatchOption p (r ≡ Bad) (λ x. r ≡ make x)) e h
 more false m o make r e h = subst (λ p. MatchOption p (r ≡ Bad) (λ x. r ≡ make x)) e h
 
-pub returns-in-Blank : goal.returns-in-Blank
-unfolding step
-returns-in-Blank c = search rules
-
-pub returns-in-Minus : goal.returns-in-Minus
-unfolding step
-returns-in-Minus c = search rules
-
 pub returns-in-Whole : goal.returns-in-Whole
 unfolding step
 returns-in-Whole c = rw c.in-Whole.is (more _ _ _ _ _ c.with_digit.ensures c.map_or.ensures)
@@ -30,7 +21,3 @@ returns-in-Whole c = rw c.in-Whole.is (more _ _ _ _ _ c.with_digit.ensures c.map
 pub returns-in-Negative : goal.returns-in-Negative
 unfolding step
 returns-in-Negative c = rw c.in-Negative.is (more _ _ _ _ _ c.with_digit-in-Negative.ensures c.map_or-in-Negative.ensures)
-
-pub returns-in-Zero : goal.returns-in-Zero
-unfolding step
-returns-in-Zero c = search rules
