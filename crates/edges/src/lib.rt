@@ -82,6 +82,7 @@ pub fn clear(w: &mut [u32], base: usize, n: usize)
     slices::fill(w, base, n, 0);
 }
 
+// Kept: a position is an index into one slice of numbers, in fixed memory.
 // Where the walk to a side ends: at the side, by its number, or at an empty position.
 #[derive(Clone, Copy)]
 struct Spot {

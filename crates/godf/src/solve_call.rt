@@ -11,6 +11,7 @@ use pass::Asked;
 use pass_options::{BoundaryMode, Options};
 use refusals::Refusal;
 
+// Kept: modes are numbers, as C has them.
 // Boundary modes: GODF_BOUNDARY_NONE, _TANGENT and _WEAK in godf.h.
 const NONE: f64 = 0.0;
 

@@ -10,6 +10,7 @@ use linear_cells::wide;
 // With this many edges their two ends each cannot be counted by a u32.
 const TOO_MANY_EDGES: usize = 0x8000_0000;
 
+// Kept: tests one by one, here and in has_room, as in linear_rows::lent::is_inside.
 // Whether an edge's ends a and b differ and are below n.
 fn is_edge(n: usize, a: usize, b: usize) -> bool
     ensures { result ≡ is_edge n a b }

@@ -9,6 +9,7 @@ ghost use Rattle.pass_floor.specs.Planes.{cut_at, mean_of, mean_on, value_plane,
 
 use edges::Table;
 
+// Kept: k is no kind, but where a coordinate stands in a point's three numbers.
 // x of point v as given where k is 0, and y where it is 1.
 fn given(points: &[f64], k: usize, v: u32) -> f64
     requires { k < 2 }
@@ -75,6 +76,7 @@ pub fn put_plane(
     }
 }
 
+// Kept: which mean a plane takes is an enum, by which the definition `value_plane` says it; as a closure it would be a law in three contracts.
 // What a midpoint gets from the values at the ends of its side: half their sum, as its size, or the angle between them, as its guidance.
 #[derive(Clone, Copy)]
 pub enum Mean {

@@ -11,6 +11,7 @@ fn x_of(points: &[f64], v: u32) -> f64
     floor::read(points, 3 * mesh::index(v))
 }
 
+// Kept: x and y are functions of their own, since the definitions that they equal are.
 fn y_of(points: &[f64], v: u32) -> f64
     ensures { result ≡ y_of points.now v }
 {
@@ -29,6 +30,7 @@ fn put_midpoint(points: &[f64], ends: &[u32], k: usize, out: &mut [f64], at: usi
     slices::copy(&[x, y, 0.0], out, at);
 }
 
+// Kept: points and sizes, here and below, differ in how many numbers a side stores; one function would take the store as a closure with clauses.
 // The midpoints of the first `count` sides, from `at` on.
 fn put_midpoints(points: &[f64], ends: &[u32], count: usize, out: &mut [f64], at: usize)
     requires { (2 * count ≤ length ends.now) × (at + 3 * count ≤ length out.old) }

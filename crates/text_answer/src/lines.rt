@@ -38,6 +38,7 @@ fn put_side(ends: &[u32], i: usize, out: &mut [u8], at: usize)
     text_columns::put_line(out, at, &row);
 }
 
+// Kept: it differs from put_triangles in the step that it calls, as in text_floor::put_points.
 // The lines of m sides.
 fn put_sides(ends: &[u32], m: usize, out: &mut [u8], at: usize)
     requires { (2 * m ≤ length ends.now) × (at + 13 * m ≤ length out.old) }

@@ -150,6 +150,7 @@ fn put_point(text: &[u8], i: usize, out: &mut [f64])
     slices::copy(&[x, y, 0.0], out, 3 * i);
 }
 
+// Kept: put_points, put_angles and put_triangles differ in the step that they call; one loop would take it as a closure with clauses.
 fn put_points(text: &[u8], n: usize, out: &mut [f64])
     requires { (19 * (1 + n) ≤ length text.now) × (3 * n ≤ length out.old) }
     ensures { out.new ≡ sets out.old 0 (points_up_to text.now n) }
