@@ -10,6 +10,7 @@ ghost use Rattle.replay_solves.specs.Solve.{solved_on, Lends, solve_on, solve_ro
 use calls::Counts;
 use pass::Asked;
 use pass_options::{BoundaryMode, Options};
+use refusals::Refusal;
 use replay::rows;
 
 // Where the parts that are as long as counted begin.
@@ -82,7 +83,7 @@ fn asked_of(row: &[u8]) -> Asked
 }
 
 // Number, reason and pass of a refusal, and its places; or four zeros, a zero and the counts.
-fn same_refusal(row: &[u8], r: refusals::Refusal) -> bool
+fn same_refusal(row: &[u8], r: Refusal) -> bool
     ensures { result ≡ same_refusal row.now r }
 {
     if r.number != quarter(row, 11, 0) {

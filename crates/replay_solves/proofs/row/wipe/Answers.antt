@@ -5,4 +5,4 @@ use Rattle.replay_solves.proofs.row.wipe.Goals as goal
 
 pub returns : goal.returns
 returns c =
-    wiped-front (lit 0) c.args.out.now c.args.n c.requires c.zero.ensures
+    wiped-front (lit 0) c.args.out.now c.args.n c.requires (c.fill.ensures.after (λ y e. e))

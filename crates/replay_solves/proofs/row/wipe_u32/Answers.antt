@@ -4,4 +4,4 @@ use Rattle.replay_solves.proofs.row.wipe_u32.Goals as goal
 
 pub returns : goal.returns
 returns c =
-    wiped-front 0 c.args.out.now c.args.n c.requires c.zero_u32.ensures
+    wiped-front 0 c.args.out.now c.args.n c.requires (c.fill.ensures.after (λ y e. e))
