@@ -22,7 +22,7 @@ set_up_from_gradients-requires c =
 
 pub returns : goal.returns
 returns c =
-    let k = c.in_ok-geometries.ensures.kept in
-    set-up-then (none c.args.l c.args.work.now c.args.words.now c.requires.ordered c.requires.below k (omega arith))
-    (stays c.args.l c.args.work.now c.args.words.now c.requires.ordered c.requires.below k)
-    (λ h. unjoined c.args.l c.args.work.now c.args.words.now c.requires.ordered c.requires.below k) c.set_up_from_gradients.ensures
+    let kept = c.in_ok-geometries.ensures.kept in
+    set-up-then (none c.args.l c.args.work.now c.args.words.now c.requires.ordered c.requires.below kept (omega arith))
+    (stays c.args.l c.args.work.now c.args.words.now c.requires.ordered c.requires.below kept)
+    (λ h. unjoined c.args.l c.args.work.now c.args.words.now c.requires.ordered c.requires.below kept) c.set_up_from_gradients.ensures
